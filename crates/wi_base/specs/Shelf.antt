@@ -1,0 +1,23 @@
+-- What a call on a shelf notes, and when a file is too long.
+use Rattle.std.specs.Prelude.{ℕ, ◌<◌, List, [], ◌∷◌, ◌++◌, length, Option, Some, None, Result, Err}
+use Rattle.wi_base.specs.declared.shelf.CallKind.{CallKind}
+use Rattle.wi_base.specs.declared.shelf.CallKind.TheVariants.{Fetch, Store}
+use Rattle.wi_base.specs.declared.shelf.FetchRefused.{FetchRefused}
+use Rattle.wi_base.specs.declared.shelf.FetchRefused.TheVariants as fetch_refused
+use Rattle.wi_base.specs.declared.shelf.StoreRefused.{StoreRefused}
+use Rattle.wi_base.specs.declared.shelf.StoreRefused.TheVariants as store_refused
+
+-- the failed calls after a fetch: this one too, if it failed
+abbrev pub after_fetch : {A : Type 0} → Result A FetchRefused → List ℕ → List (CallKind × List ℕ) → List (CallKind × List ℕ)
+after_fetch (Err fetch_refused.Failed) name calls = calls ++ (Fetch, name) ∷ []
+after_fetch _ name calls = calls
+
+-- the failed calls after a store
+abbrev pub after_store : {A : Type 0} → Result A StoreRefused → List ℕ → List (CallKind × List ℕ) → List (CallKind × List ℕ)
+after_store (Err store_refused.Failed) name calls = calls ++ (Store, name) ∷ []
+after_store _ name calls = calls
+
+-- there is a file, of more bytes than the limit
+abbrev pub IsLonger : Option (List ℕ) → ℕ → Type 0
+IsLonger None limit = ⊥
+IsLonger (Some bytes) limit = limit < length bytes

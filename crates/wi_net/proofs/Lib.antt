@@ -1,0 +1,16 @@
+pub mod SetLemmas
+pub mod CountLemmas
+pub mod RisingLemmas
+pub mod GroupLemmas
+pub mod WidenLemmas
+pub mod FindingLemmas
+pub mod IndexLemmas
+pub mod TableLemmas
+pub mod MemberLemmas
+pub mod KeptLists
+pub mod KeptNames
+pub mod KeptLinks
+pub mod KeptRows
+pub mod KeptLemmas
+pub mod DraftLemmas
+pub mod EndLemmas

@@ -1,0 +1,9 @@
+pub mod Names
+pub mod Ends
+pub mod LinkSet
+pub mod RiskGroups
+pub mod Tables
+pub mod Net
+pub mod Finding
+pub mod Network
+pub mod Builder

@@ -1,0 +1,97 @@
+-- What each network keeps.
+use Rattle.std.specs.Prelude.{◌≡◌, ℕ, ◌+◌, ◌*◌, ◌≤◌, ◌<◌, ◌^◌, ◌&&◌, ◌==◌, Bool, true, false, nat_lt, nat_le, List, [], ◌∷◌, length, map, slice_get}
+use Rattle.std.specs.List.{list_all}
+use Rattle.std.specs.Option.{option_map_or}
+use Rattle.wi_labels.specs.declared.label.Class.{Class}
+use Rattle.wi_labels.specs.declared.label.Class.TheVariants.{Mpls, Smpls, Ip}
+use Rattle.wi_labels.specs.declared.ops.Op.{Op}
+use Rattle.wi_labels.specs.declared.ops.Op.TheVariants.{Swap, Push, Pop}
+use Rattle.wi_net.specs.declared.parts.RouterId.{RouterId}
+use Rattle.wi_net.specs.declared.parts.LinkId.{LinkId}
+use Rattle.wi_net.specs.declared.parts.Link.{Link}
+use Rattle.wi_net.specs.declared.parts.Member.{Member}
+use Rattle.wi_net.specs.declared.parts.Row.{Row}
+use Rattle.wi_net.specs.LinkSet.{links_from, sharing}
+use Rattle.wi_net.specs.Names.{are_names}
+use Rattle.wi_net.specs.Ends.{are_ends_apart}
+use Rattle.wi_net.specs.Tables.{are_rows_apart, row_members}
+use Rattle.wi_net.specs.Net.{Net, is_link, all_links, risk_of, label_known}
+
+-- a class isn't after another in the order mpls, smpls, ip
+abbrev pub is_no_later : Class → Class → Bool
+is_no_later Mpls d = true
+is_no_later Smpls Mpls = false
+is_no_later Smpls d = true
+is_no_later Ip Ip = true
+is_no_later Ip d = false
+
+-- labels are listed class by class
+abbrev pub are_in_order : List Class → Bool
+are_in_order [] = true
+are_in_order (c ∷ classes) = list_all (λ d. is_no_later c d) classes && are_in_order classes
+
+-- the operation's label, if it has one, is the network's, with its class
+abbrev pub op_known : Net → Op → Bool
+op_known net (Swap l c) = label_known net.classes (l, c)
+op_known net (Push l c) = label_known net.classes (l, c)
+op_known net Pop = true
+
+-- a link leaves a router
+abbrev pub leaves : Net → RouterId → LinkId → Bool
+leaves net router e = option_map_or (λ l. l.from.0 == router.0) (slice_get net.links e.0) false
+
+-- a member that a table of a router may have
+abbrev pub is_member_at : Net → RouterId → Member → Bool
+is_member_at net router m = leaves net router m.link && (nat_le (length m.ops) 8 && list_all (op_known net) m.ops)
+
+-- such members, and at least one
+abbrev pub is_group_at : Net → RouterId → List Member → Bool
+is_group_at net router g = nat_lt 0 (length g) && list_all (is_member_at net router) g
+
+-- a row that a network may have: its groups are of the router that its link reaches
+abbrev pub is_row_of : Net → Row → Bool
+is_row_of net row = nat_lt row.label.0 (length net.labels) && option_map_or (λ l. list_all (is_group_at net l.to) row.groups) (slice_get net.links row.link.0) false
+
+-- a link between routers of the network, by interfaces that have names
+abbrev pub is_link_of : Net → Link → Bool
+is_link_of net l =
+    (nat_lt l.from.0 (length net.routers) && nat_lt l.to.0 (length net.routers))
+    && (nat_lt l.out_if.0 (length net.interfaces) && nat_lt l.in_if.0 (length net.interfaces))
+
+-- the same, number by number
+pub record HasEnds (net : Net) (l : Link) : Type 0 where
+  pub from : l.from.0 < length net.routers
+  pub to : l.to.0 < length net.routers
+  pub out_if : l.out_if.0 < length net.interfaces
+  pub in_if : l.in_if.0 < length net.interfaces
+
+-- a link's risk group is named by the least of its links
+abbrev pub is_risk_named : Net → LinkId → Bool
+is_risk_named net e = nat_le (risk_of net e).0 e.0 && ((risk_of net (risk_of net e)).0 == (risk_of net e).0)
+
+pub record IsNetwork (net : Net) : Type 0 where
+  pub routers : are_names net.routers ≡ true
+  pub labels : are_names net.labels ≡ true
+  pub classes : length net.classes ≡ length net.labels
+  pub in_order : are_in_order net.classes ≡ true
+  pub interfaces : are_names net.interfaces ≡ true
+  pub links : list_all (is_link_of net) net.links ≡ true
+  pub ends : are_ends_apart net.links ≡ true
+  pub risks : list_all (is_risk_named net) (all_links net) ≡ true
+  pub rows : list_all (is_row_of net) net.rows ≡ true
+  pub rows_apart : are_rows_apart net.rows ≡ true
+  pub few_routers : length net.routers ≤ 10000
+  pub few_labels : length net.labels ≤ 20000
+  pub few_links : length net.links ≤ 20000
+  pub few_interfaces : length net.interfaces ≤ 2 * length net.links
+  pub few_rows : length net.rows ≤ 200000
+  pub few_members : row_members net.rows ≤ 400000
+
+-- for each link the links of the risk group that it names
+abbrev pub groups_of : List Link → List (List LinkId)
+groups_of links = map (λ r. sharing links r) (links_from 0 (length links))
+
+-- a network with the index from a risk group to its links
+pub record IsIndexed (net : Net) (index : List (List LinkId)) : Type 0 where
+  pub network : IsNetwork net
+  pub groups : index ≡ groups_of net.links

@@ -1,0 +1,424 @@
+//! Building a network.
+ghost use Rattle.std.specs.Prelude.{◌≡◌, ◌+◌, ◌<◌, ◌≤◌, true, None, Ok, length, slice_get, position, is_some, option_map, string_bytes, vec_len, vec_capacity, IfOk, IfSome, OnOk, OnErr};
+ghost use Rattle.std.specs.List.{list_all};
+ghost use Rattle.wi_net.specs.Names.{is_name, is_name_byte};
+ghost use Rattle.wi_net.specs.Tables.{is_row, row_members, group_members};
+ghost use Rattle.wi_net.specs.Finding.{find_router, find_label, out_place, in_place, find_out, find_in};
+ghost use Rattle.wi_net.specs.Network.{IsNetwork, is_no_later};
+ghost use Rattle.wi_net.specs.Builder.{empty, add_router, add_label, link_ends, add_link, add_table, first_in, named_with, firsts_with, with_row, is_group_name, IsDraft, Answers};
+
+use crate::links::Links;
+use crate::names::Names;
+use crate::network::Network;
+use crate::parts::{Link, LinkId, NameId, RouterId, Row};
+use crate::refused::{BuildRefused, Limited, Part};
+use crate::risk_groups::RiskGroups;
+use crate::tables::Tables;
+use std::alloc::Global;
+use std::marker::Model;
+use wi_base::NoMemory;
+use wi_labels::{Class, Label};
+
+/// A network that is being built, part by part. A call that is refused changes nothing.
+#[derive(Drop)]
+pub struct NetworkBuilder {
+    routers: Names,
+    labels: Names,
+    classes: Vec<Class>,
+    interfaces: Names,
+    links: Links,
+    tables: Tables,
+    named: Names,
+    firsts: Vec<LinkId>,
+}
+
+impl Model for NetworkBuilder {
+    ghost use Rattle.wi_net.specs.Builder.{Draft, IsDraft};
+
+    ghost Value = { Draft };
+
+    ghost view = { λ b. record { net = record { routers = b.routers.0; labels = b.labels.0; classes = b.classes.items; interfaces = b.interfaces.0; links = b.links.0; rows = b.tables }; named = b.named.0; firsts = b.firsts.items } };
+
+    ghost invariant = { λ b. IsDraft (record { net = record { routers = b.routers.0; labels = b.labels.0; classes = b.classes.items; interfaces = b.interfaces.0; links = b.links.0; rows = b.tables }; named = b.named.0; firsts = b.firsts.items }) };
+}
+
+impl NetworkBuilder {
+    /// The network with nothing in it.
+    pub fn new(alloc: Global) -> NetworkBuilder
+        ensures { result ≡ empty }
+    {
+        NetworkBuilder {
+            routers: Names::new(alloc),
+            labels: Names::new(alloc),
+            classes: Vec::new(alloc),
+            interfaces: Names::new(alloc),
+            links: Links::new(alloc),
+            tables: Tables::new(alloc),
+            named: Names::new(alloc),
+            firsts: Vec::new(alloc),
+        }
+    }
+
+    /// The network.
+    pub fn finish(self) -> Result<Network, NoMemory>
+        ensures { IfOk result (λ network. network ≡ self.net) }
+    {
+        let alloc = *self.firsts.allocator();
+        let risk_groups = RiskGroups::of(alloc, self.links.as_slice())?;
+        let NetworkBuilder {
+            routers,
+            labels,
+            classes,
+            interfaces,
+            links,
+            tables,
+            named: _,
+            firsts: _,
+        } = self;
+        Ok(Network {
+            routers,
+            labels,
+            classes,
+            interfaces,
+            links,
+            tables,
+            risk_groups,
+        })
+    }
+
+    /// Adds a router. It may be refused by `Limit`, `BadName`, `Repeated`: the first of them in this order.
+    #[tactic(auto, unfolding(crate::specs::Builder::add_router))]
+    pub fn router(&mut self, name: &str) -> Result<RouterId, BuildRefused>
+        ensures answer { Answers (λ _. self.new) result (add_router self.old name.now) }
+        ensures number { IfOk result (λ r. r.0 ≡ length self.old.net.routers) }
+        ensures err { OnErr result (self.new ≡ self.old) }
+    {
+        let number = self.routers.len();
+        if number >= 10000 {
+            return Err(BuildRefused::Limit(Limited::Routers, 10000));
+        }
+        if !is_name(name) {
+            return Err(BuildRefused::BadName(Part::Name));
+        }
+        if self.routers.find(name).is_some() {
+            return Err(BuildRefused::Repeated);
+        }
+        self.routers.add(name)?;
+        Ok(RouterId(number as u32))
+    }
+
+    /// Adds a label: those of class `mpls` first, then `smpls`, then `ip`. It may be refused by `Limit`, `BadName`,
+    /// `Repeated`: the first of them in this order. A name is unique over all classes.
+    #[tactic(auto, unfolding(crate::specs::Builder::add_label))]
+    pub fn label(&mut self, class: Class, name: &str) -> Result<Label, BuildRefused>
+        requires { list_all (λ c. is_no_later c class) self.old.net.classes ≡ true }
+        ensures answer { Answers (λ _. self.new) result (add_label self.old class name.now) }
+        ensures number { IfOk result (λ l. l.0 ≡ length self.old.net.labels) }
+        ensures err { OnErr result (self.new ≡ self.old) }
+    {
+        let number = self.labels.len();
+        if number >= 20000 {
+            return Err(BuildRefused::Limit(Limited::Labels, 20000));
+        }
+        if !is_name(name) {
+            return Err(BuildRefused::BadName(Part::Name));
+        }
+        if self.labels.find(name).is_some() {
+            return Err(BuildRefused::Repeated);
+        }
+        self.classes.reserve(1)?;
+        self.labels.add(name)?;
+        self.classes.push_reserved(class);
+        Ok(Label(number as u32))
+    }
+
+    // The routers of a new link.
+    #[tactic(auto, unfolding(crate::specs::Builder::link_ends))]
+    fn link_ends(
+        &self,
+        from: &str,
+        out_if: &str,
+        to: &str,
+        in_if: &str,
+        group: Option<&str>,
+    ) -> Result<(RouterId, RouterId), BuildRefused>
+        ensures answer { Answers (λ ends. ends) result (link_ends self.now from.now out_if.now to.now in_if.now (option_map (λ s. s.now) group.entry)) }
+        ensures free_out { IfOk result (λ ends. out_place self.now.net ends.0 out_if.now ≡ None) }
+        ensures free_in { IfOk result (λ ends. in_place self.now.net ends.1 in_if.now ≡ None) }
+        ensures room { OnOk result (length self.now.net.links < 20000) }
+    {
+        if self.links.len() >= 20000 {
+            return Err(BuildRefused::Limit(Limited::Links, 20000));
+        }
+        if !is_group_name(group) {
+            return Err(BuildRefused::BadName(Part::Group));
+        }
+        if !is_name(out_if) {
+            return Err(BuildRefused::BadName(Part::Out));
+        }
+        if !is_name(in_if) {
+            return Err(BuildRefused::BadName(Part::In));
+        }
+        let Some(from) = self.find_router(from) else {
+            return Err(BuildRefused::Unknown(Part::From));
+        };
+        let Some(to) = self.find_router(to) else {
+            return Err(BuildRefused::Unknown(Part::To));
+        };
+        if self.out_place(from, out_if).is_some() {
+            return Err(BuildRefused::Taken(Part::Out));
+        }
+        if self.in_place(to, in_if).is_some() {
+            return Err(BuildRefused::Taken(Part::In));
+        }
+        Ok((from, to))
+    }
+
+    /// Adds a link from an out interface of a router to an in interface of one. Links that name one `group` fail together;
+    /// a link that names none is alone in its risk group. It may be refused by `Limit`, by `BadName` of the group, the out
+    /// or the in interface, by `Unknown` of `from` or `to`, by `Taken` of the out or the in interface: the first in this
+    /// order.
+    #[tactic(auto, unfolding(crate::specs::Builder::add_link))]
+    pub fn link(
+        &mut self,
+        from: &str,
+        out_if: &str,
+        to: &str,
+        in_if: &str,
+        distance: u32,
+        group: Option<&str>,
+    ) -> Result<LinkId, BuildRefused>
+        ensures answer { Answers (λ _. self.new) result (add_link self.old from.now out_if.now to.now in_if.now distance (option_map (λ s. s.now) group.entry)) }
+        ensures number { IfOk result (λ e. e.0 ≡ length self.old.net.links) }
+        ensures err { OnErr result (self.new ≡ self.old) }
+    {
+        let (from, to) = self.link_ends(from, out_if, to, in_if, group)?;
+        let alloc = *self.firsts.allocator();
+        let out_text = text_of(alloc, out_if)?;
+        let in_text = text_of(alloc, in_if)?;
+        let group_text = group_text_of(alloc, group)?;
+        self.interfaces.reserve(2)?;
+        self.links.reserve()?;
+        self.named.reserve(1)?;
+        self.firsts.reserve(1)?;
+        let number = LinkId(self.links.len() as u32);
+        let out_if = NameId(self.interfaces.put(out_text) as u32);
+        let in_if = NameId(self.interfaces.put(in_text) as u32);
+        let risk = put_group(&mut self.named, &mut self.firsts, group_text, number);
+        self.links.put(Link {
+            from,
+            out_if,
+            to,
+            in_if,
+            distance,
+            risk,
+        });
+        Ok(number)
+    }
+
+    /// Adds a row whose rules the caller has checked, as `table` does; there are then so many members.
+    pub fn row(&mut self, row: Row, members: usize) -> Result<(), NoMemory>
+        requires rules { add_table self.old row.link row.label row.groups ≡ Ok (with_row self.old row) }
+        requires counted { members ≡ row_members self.old.net.rows + group_members row.groups }
+        ensures ok { OnOk result (self.new ≡ with_row self.old row) }
+        ensures err { OnErr result (self.new ≡ self.old) }
+    {
+        self.tables.add(row, members)?;
+        Ok(())
+    }
+
+    /// The router of a name.
+    pub fn find_router(&self, name: &str) -> Option<RouterId>
+        ensures { result ≡ find_router self.now.net name.now }
+    {
+        match self.routers.find(name) {
+            Some(number) => Some(RouterId(number as u32)),
+            None => None,
+        }
+    }
+
+    /// The label of a name.
+    pub fn find_label(&self, name: &str) -> Option<Label>
+        ensures { result ≡ find_label self.now.net name.now }
+    {
+        match self.labels.find(name) {
+            Some(number) => Some(Label(number as u32)),
+            None => None,
+        }
+    }
+
+    /// The class of a label, if it is there.
+    pub fn class(&self, label: Label) -> Option<Class>
+        ensures { result ≡ slice_get self.now.net.classes label.0 }
+    {
+        self.classes.get(label.0 as usize).copied()
+    }
+
+    /// The link of a number, if it is there.
+    pub fn link_at(&self, link: LinkId) -> Option<Link>
+        ensures { result ≡ slice_get self.now.net.links link.0 }
+    {
+        self.links.at(link.0 as usize)
+    }
+
+    // The number of the link that leaves a router by an interface.
+    fn out_place(&self, router: RouterId, interface: &str) -> Option<usize>
+        ensures value { result ≡ out_place self.now.net router interface.now }
+        ensures few { IfSome result (λ n. n < 20000) }
+    {
+        match self.interfaces.find(interface) {
+            Some(number) => self.links.find_out(router, NameId(number as u32)),
+            None => None,
+        }
+    }
+
+    // The number of the link that reaches a router by an interface.
+    fn in_place(&self, router: RouterId, interface: &str) -> Option<usize>
+        ensures value { result ≡ in_place self.now.net router interface.now }
+        ensures few { IfSome result (λ n. n < 20000) }
+    {
+        match self.interfaces.find(interface) {
+            Some(number) => self.links.find_in(router, NameId(number as u32)),
+            None => None,
+        }
+    }
+
+    /// The link that leaves a router by an interface.
+    pub fn find_out(&self, router: RouterId, interface: &str) -> Option<LinkId>
+        ensures { result ≡ find_out self.now.net router interface.now }
+    {
+        match self.out_place(router, interface) {
+            Some(number) => Some(LinkId(number as u32)),
+            None => None,
+        }
+    }
+
+    /// The link that reaches a router by an interface.
+    pub fn find_in(&self, router: RouterId, interface: &str) -> Option<LinkId>
+        ensures { result ≡ find_in self.now.net router interface.now }
+    {
+        match self.in_place(router, interface) {
+            Some(number) => Some(LinkId(number as u32)),
+            None => None,
+        }
+    }
+
+    /// Whether a link and a label have a row.
+    pub fn has_row(&self, link: LinkId, label: Label) -> bool
+        ensures { result ≡ is_some (position (is_row link label) self.now.net.rows) }
+    {
+        self.tables.find(link, label).is_some()
+    }
+
+    /// How many routers there are.
+    pub fn router_count(&self) -> usize
+        ensures count { result ≡ length self.now.net.routers }
+        ensures few { result ≤ 10000 }
+    {
+        self.routers.len()
+    }
+
+    /// How many labels there are.
+    pub fn label_count(&self) -> usize
+        ensures count { result ≡ length self.now.net.labels }
+        ensures few { result ≤ 20000 }
+    {
+        self.labels.len()
+    }
+
+    /// How many links there are.
+    pub fn link_count(&self) -> usize
+        ensures count { result ≡ length self.now.net.links }
+        ensures few { result ≤ 20000 }
+    {
+        self.links.len()
+    }
+
+    /// How many rows there are.
+    pub fn row_count(&self) -> usize
+        ensures count { result ≡ length self.now.net.rows }
+        ensures few { result ≤ 200000 }
+    {
+        self.tables.len()
+    }
+
+    /// How many members all rows have.
+    pub fn member_count(&self) -> usize
+        ensures count { result ≡ row_members self.now.net.rows }
+        ensures few { result ≤ 400000 }
+    {
+        self.tables.member_count()
+    }
+}
+
+fn text_of(alloc: Global, text: &str) -> Result<String, NoMemory>
+    ensures { IfOk result (λ s. string_bytes s ≡ text.now) }
+{
+    Ok(String::from_str(alloc, text)?)
+}
+
+fn group_text_of(alloc: Global, group: Option<&str>) -> Result<Option<String>, NoMemory>
+    ensures { IfOk result (λ o. option_map string_bytes o ≡ option_map (λ s. s.now) group.entry) }
+{
+    match group {
+        Some(group) => Ok(Some(text_of(alloc, group)?)),
+        None => Ok(None),
+    }
+}
+
+// Puts the name of a risk group, unless it is there, and gives the group's first link.
+fn put_group(
+    named: &mut Names,
+    firsts: &mut Vec<LinkId>,
+    group: Option<String>,
+    link: LinkId,
+) -> LinkId
+    requires room { 0 < named.old.1 }
+    requires capacity { vec_len firsts.old < vec_capacity firsts.old }
+    ensures first { result ≡ first_in named.old.0 firsts.old.items link (option_map string_bytes group) }
+    ensures named { named.new.0 ≡ named_with named.old.0 (option_map string_bytes group) }
+    ensures firsts { firsts.new.items ≡ firsts_with named.old.0 firsts.old.items link (option_map string_bytes group) }
+{
+    match group {
+        None => link,
+        Some(text) => match named.find(text.as_str()) {
+            Some(i) => match firsts.get(i) {
+                Some(first) => *first,
+                None => link,
+            },
+            None => {
+                let _number = named.put(text);
+                firsts.push_reserved(link);
+                link
+            }
+        },
+    }
+}
+
+fn is_group_name(group: Option<&str>) -> bool
+    ensures { result ≡ is_group_name (option_map (λ s. s.now) group.entry) }
+{
+    match group {
+        Some(group) => is_name(group),
+        None => true,
+    }
+}
+
+/// Whether a text is a name: 1 to 32 bytes, and neither a control character nor a quotation mark.
+pub fn is_name(name: &str) -> bool
+    ensures { result ≡ is_name name.now }
+{
+    1 <= name.len() && (name.len() <= 32 && are_name_bytes(name.as_bytes()))
+}
+
+fn are_name_bytes(bytes: &[u8]) -> bool
+    ensures { result ≡ list_all is_name_byte bytes.now }
+{
+    bytes.iter().all(|b| is_name_byte(*b))
+}
+
+fn is_name_byte(byte: u8) -> bool
+    ensures { result ≡ is_name_byte byte }
+{
+    32 <= byte && (byte != 127 && byte != 34)
+}

@@ -1,0 +1,27 @@
+//! Networks: routers, links in risk groups, labels and tables; sets of failed links; and a builder that takes a network
+//! part by part.
+#![tactic(auto)]
+
+mod bounds;
+mod builder;
+mod fails;
+mod groups;
+mod links;
+mod names;
+mod network;
+mod parts;
+mod refused;
+mod risk_groups;
+mod table;
+mod tables;
+
+pub use bounds::Bounds;
+pub use builder::{NetworkBuilder, is_name};
+pub use fails::FailSet;
+pub use groups::first_active;
+pub use network::{Counts, Network};
+pub use parts::{Group, Link, LinkId, Member, NameId, RouterId, Row};
+pub use refused::{BuildRefused, Limited, Part};
+
+#[cfg(test)]
+mod tests;

@@ -1,0 +1,168 @@
+//! Tables of a network that is being built.
+ghost use Rattle.std.specs.Prelude.{◌≡◌, ◌+◌, ◌≤◌, length, IfOk, OnErr};
+ghost use Rattle.std.specs.List.{list_all};
+ghost use Rattle.wi_labels.specs.Header.{same_class};
+ghost use Rattle.wi_net.specs.Tables.{row_members, group_members};
+ghost use Rattle.wi_net.specs.Net.{label_known};
+ghost use Rattle.wi_net.specs.Network.{op_known, leaves};
+ghost use Rattle.wi_net.specs.Builder.{add_table, member_rules, members_rules, group_rules, groups_rules, Answers};
+
+use crate::builder::NetworkBuilder;
+use crate::parts::{Group, LinkId, Member, RouterId, Row};
+use crate::refused::{BuildRefused, Limited, Part};
+use wi_base::Listed;
+use wi_labels::{Class, Label, Op};
+
+impl NetworkBuilder {
+    /// Adds what the tables say of an arrival link and a top label. It may be refused by `Limit` of rows, by `Unknown` of the
+    /// link (`In`) or the label (`Name`), by `Repeated`; then group by group by `EmptyGroup`, and member by member by `Limit`
+    /// of members, by `Unknown` of its link (`Out`), by `Limit` of operations, by `Unknown` of a label or its class (`Name`):
+    /// the first in this order.
+    #[tactic(auto, unfolding(crate::specs::Builder::add_table))]
+    pub fn table(
+        &mut self,
+        link: LinkId,
+        label: Label,
+        groups: Vec<Group>,
+    ) -> Result<(), BuildRefused>
+        ensures answer { Answers (λ _. self.new) result (add_table self.old link label groups.items) }
+        ensures err { OnErr result (self.new ≡ self.old) }
+    {
+        if self.row_count() >= 200000 {
+            return Err(BuildRefused::Limit(Limited::Rows, 200000));
+        }
+        let Some(found) = self.link_at(link) else {
+            return Err(BuildRefused::Unknown(Part::In));
+        };
+        if label.0 as usize >= self.label_count() {
+            return Err(BuildRefused::Unknown(Part::Name));
+        }
+        if self.has_row(link, label) {
+            return Err(BuildRefused::Repeated);
+        }
+        let members = groups_total(self, found.to, self.member_count(), groups.as_slice())?;
+        let row = Row {
+            link,
+            label,
+            groups: Listed::of(groups),
+        };
+        self.row(row, members)?;
+        Ok(())
+    }
+}
+
+// How many members there are with those of groups, or the first rule that they break.
+fn groups_total(
+    builder: &NetworkBuilder,
+    router: RouterId,
+    so_far: usize,
+    groups: &[Group],
+) -> Result<usize, BuildRefused>
+    requires { so_far ≤ 400000 }
+    ensures answer { Answers (λ n. n) result (groups_rules builder.now.net router so_far groups.now) }
+    ensures total { IfOk result (λ n. n ≡ so_far + group_members groups.now) }
+    ensures few { IfOk result (λ n. n ≤ 400000) }
+{
+    let mut members = so_far;
+    for group in groups {
+        members = group_total(builder, router, members, group.as_slice())?;
+    }
+    Ok(members)
+}
+
+#[tactic(auto, unfolding(crate::specs::Builder::group_rules))]
+fn group_total(
+    builder: &NetworkBuilder,
+    router: RouterId,
+    so_far: usize,
+    group: &[Member],
+) -> Result<usize, BuildRefused>
+    requires { so_far ≤ 400000 }
+    ensures answer { Answers (λ n. n) result (group_rules builder.now.net router so_far group.now) }
+    ensures total { IfOk result (λ n. n ≡ so_far + length group.now) }
+    ensures few { IfOk result (λ n. n ≤ 400000) }
+{
+    if group.is_empty() {
+        return Err(BuildRefused::EmptyGroup);
+    }
+    members_total(builder, router, so_far, group)
+}
+
+fn members_total(
+    builder: &NetworkBuilder,
+    router: RouterId,
+    so_far: usize,
+    group: &[Member],
+) -> Result<usize, BuildRefused>
+    requires { so_far ≤ 400000 }
+    ensures answer { Answers (λ n. n) result (members_rules builder.now.net router so_far group.now) }
+    ensures total { IfOk result (λ n. n ≡ so_far + length group.now) }
+    ensures few { IfOk result (λ n. n ≤ 400000) }
+{
+    let mut members = so_far;
+    for member in group {
+        members = member_total(builder, router, members, member)?;
+    }
+    Ok(members)
+}
+
+#[tactic(auto, unfolding(crate::specs::Builder::member_rules))]
+fn member_total(
+    builder: &NetworkBuilder,
+    router: RouterId,
+    so_far: usize,
+    member: &Member,
+) -> Result<usize, BuildRefused>
+    requires { so_far ≤ 400000 }
+    ensures answer { Answers (λ n. n) result (member_rules builder.now.net router so_far member.now) }
+    ensures total { IfOk result (λ n. n ≡ so_far + 1) }
+    ensures few { IfOk result (λ n. n ≤ 400000) }
+{
+    if so_far >= 400000 {
+        return Err(BuildRefused::Limit(Limited::Members, 400000));
+    }
+    if !leaves(builder, router, member.link) {
+        return Err(BuildRefused::Unknown(Part::Out));
+    }
+    if member.ops.as_slice().len() > 8 {
+        return Err(BuildRefused::Limit(Limited::Operations, 8));
+    }
+    if !are_known(builder, member.ops.as_slice()) {
+        return Err(BuildRefused::Unknown(Part::Name));
+    }
+    Ok(so_far + 1)
+}
+
+fn leaves(builder: &NetworkBuilder, router: RouterId, link: LinkId) -> bool
+    ensures { result ≡ leaves builder.now.net router link }
+{
+    match builder.link_at(link) {
+        Some(found) => found.from.0 == router.0,
+        None => false,
+    }
+}
+
+fn are_known(builder: &NetworkBuilder, ops: &[Op]) -> bool
+    ensures { result ≡ list_all (op_known builder.now.net) ops.now }
+{
+    ops.iter().all(|op| is_known(builder, *op))
+}
+
+fn is_known(builder: &NetworkBuilder, op: Op) -> bool
+    ensures { result ≡ op_known builder.now.net op }
+{
+    match op {
+        Op::Swap(label, class) => is_label_known(builder, label, class),
+        Op::Push(label, class) => is_label_known(builder, label, class),
+        Op::Pop => true,
+    }
+}
+
+fn is_label_known(builder: &NetworkBuilder, label: Label, class: Class) -> bool
+    ensures { result ≡ label_known builder.now.net.classes (label, class) }
+{
+    match builder.class(label) {
+        Some(found) => found == class,
+        None => false,
+    }
+}

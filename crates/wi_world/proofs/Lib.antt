@@ -1,0 +1,6 @@
+pub mod Allowed
+pub mod MovingLaws
+pub mod RunLaws
+pub mod HoldsLaws
+pub mod Samples
+mod Rows

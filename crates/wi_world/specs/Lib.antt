@@ -1,0 +1,4 @@
+pub mod Moves
+pub mod Moving
+pub mod Runs
+pub mod Holds

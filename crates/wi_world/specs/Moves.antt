@@ -1,0 +1,84 @@
+-- Where a packet goes: hops and traces under a set of failed links (AalWiNes, CoNEXT 2020), and hops that are possible
+-- while links fail and are repaired.
+use Rattle.std.specs.Prelude.{◌≡◌, Bool, true, false, not, ◌&&◌, ◌==◌, nat_le, List, [], ◌∷◌, slice_get, Option}
+use Rattle.std.specs.Option.{option_map, option_map_or, option_and_then}
+use Rattle.wi_labels.specs.Header.{Entry, after_ops, is_valid_header}
+use Rattle.wi_net.specs.declared.parts.LinkId.{LinkId}
+use Rattle.wi_net.specs.declared.parts.Member.{Member}
+use Rattle.wi_net.specs.declared.bounds.Bounds.{Bounds}
+use Rattle.wi_net.specs.LinkSet.{has, is_within, is_apart, outside}
+use Rattle.wi_net.specs.Net.{Net, is_link, labels_known, widened, risk_count, entry, first_active, before}
+use Rattle.wi_world.specs.declared.run.Step.{Step}
+use Rattle.wi_world.specs.declared.run.Run.{Run}
+
+-- the link that the packet is on, and its header
+abbrev pub Place : Type 0
+Place = LinkId × List Entry
+
+-- the groups that the tables have for a link and a header
+abbrev pub groups_at : Net → LinkId → List Entry → List (List Member)
+groups_at net e [] = []
+groups_at net e (top ∷ below) = entry net e top.0
+
+-- the member that a step names
+abbrev pub member_at : Net → Place → Step → Option Member
+member_at net at step = option_and_then (λ group. slice_get group step.member) (slice_get (groups_at net at.0 at.1) step.group)
+
+-- where a member leads: nowhere, where one of its operations isn't defined
+abbrev pub through : List Entry → Member → Option Place
+through header member = option_map (λ next. (member.link, next)) (after_ops member.ops header)
+
+-- where a step leads, whatever is failed
+abbrev pub moved : Net → Place → Step → Option Place
+moved net at step = option_and_then (λ member. through at.1 member) (member_at net at step)
+
+-- what must have failed for the step's group to be used: the risk groups of the links of the groups before it
+abbrev pub needed : Net → Place → Step → List LinkId
+needed net at step = before net (groups_at net at.0 at.1) step.group
+
+-- the step names a member, whose link passes a test
+abbrev pub by_link : Net → Place → Step → (LinkId → Bool) → Bool
+by_link net at step p = option_map_or (λ member. p member.link) (member_at net at step) false
+
+-- the hop of one moment: the step's group is the first active one, and its member's link isn't failed
+abbrev pub is_usable : Net → List LinkId → Place → Step → Bool
+is_usable net fails at step =
+    option_map_or (λ j. j == step.group) (first_active fails (groups_at net at.0 at.1)) false
+    && by_link net at step (λ e. not (has fails e))
+
+-- the hop can happen at some moment: all that it needs may be down then, with its own link up
+abbrev pub is_possible : Net → Bounds → Place → Step → Bool
+is_possible net bounds at step =
+    nat_le (risk_count net (outside (needed net at step) bounds.down)) bounds.k
+    && is_apart (needed net at step) bounds.up
+    && by_link net at step (λ e. not (has (needed net at step) e) && not (has bounds.down e))
+
+-- each step passes a test where the packet is, and leads on
+abbrev pub follows : Net → (Place → Step → Bool) → Place → List Step → Bool
+follows net test at [] = true
+follows net test at (step ∷ steps) = test at step && option_map_or (λ next. follows net test next steps) (moved net at step) false
+
+-- a packet may set out: on a link that isn't failed, with a valid header of labels of the network
+abbrev pub is_start : Net → List LinkId → LinkId → List Entry → Bool
+is_start net fails e header = is_link net e && not (has fails e) && is_valid_header header && labels_known net header
+
+-- a trace under a set of failed links: a start, and then usable hops
+abbrev pub is_trace : Net → List LinkId → Run → Bool
+is_trace net fails run = is_start net fails run.first run.header && follows net (is_usable net fails) (run.first, run.header) run.steps
+
+-- a start, and then possible hops
+abbrev pub is_possible_run : Net → Bounds → Run → Bool
+is_possible_run net bounds run = is_start net bounds.down run.first run.header && follows net (is_possible net bounds) (run.first, run.header) run.steps
+
+-- failed links that the bounds allow: a union of risk groups, all of down, none of up, and at most k groups besides down
+pub record IsAllowed (net : Net) (bounds : Bounds) (fails : List LinkId) : Type 0 where
+  pub union : widened net fails ≡ fails
+  pub down : is_within bounds.down fails ≡ true
+  pub up : is_apart fails bounds.up ≡ true
+  pub few : nat_le (risk_count net (outside fails bounds.down)) bounds.k ≡ true
+
+-- bounds whose two lists are unions of risk groups with no link in common
+pub record AreBounds (net : Net) (bounds : Bounds) : Type 0 where
+  pub down : widened net bounds.down ≡ bounds.down
+  pub up : widened net bounds.up ≡ bounds.up
+  pub apart : is_apart bounds.down bounds.up ≡ true

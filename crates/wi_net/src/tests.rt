@@ -25,6 +25,32 @@ const PUSH_30: Op = Op::Push(Label(0), Class::Mpls);
 
 const PUSH_S10: Op = Op::Push(Label(1), Class::Smpls);
 
+// From a router by an interface to a router by one.
+type Ends<'a> = (&'a str, &'a str, &'a str, &'a str);
+
+fn add_router(builder: &mut NetworkBuilder, name: &str) -> Result<RouterId, BuildRefused> {
+    builder.router(name)
+}
+
+fn add_link(
+    builder: &mut NetworkBuilder,
+    ends: Ends,
+    distance: u32,
+    group: Option<&str>,
+) -> Result<LinkId, BuildRefused> {
+    let (from, out, to, into) = ends;
+    builder.link(from, out, to, into, distance, group)
+}
+
+fn add_row(
+    builder: &mut NetworkBuilder,
+    link: u32,
+    top: Label,
+    groups: Vec<Group>,
+) -> Result<(), BuildRefused> {
+    builder.table(LinkId(link), top, groups)
+}
+
 // A group of one member.
 fn one(alloc: Global, link: u32, ops: &[Op]) -> Result<Group, Fail> {
     let member = Member {
@@ -61,17 +87,30 @@ fn labelled(alloc: Global) -> Result<NetworkBuilder, BuildRefused> {
 // one risk group.
 fn add_links(builder: &mut NetworkBuilder, group: Option<&str>) -> Result<(), BuildRefused> {
     for name in ["x", "a", "b", "c", "y"] {
-        builder.router(name)?;
+        add_router(builder, name)?;
     }
-    for (from, out, to, into, distance, group) in [
-        ("x", "o", "a", "x", 1, None),
-        ("a", "b", "b", "a", 1, group),
-        ("a", "c", "c", "a", 2, None),
-        ("c", "b", "b", "c", 2, None),
-        ("b", "y", "y", "b", 1, group),
+    for (ends, distance, group) in [
+        (("x", "o", "a", "x"), 1, None),
+        (("a", "b", "b", "a"), 1, group),
+        (("a", "c", "c", "a"), 2, None),
+        (("c", "b", "b", "c"), 2, None),
+        (("b", "y", "y", "b"), 1, group),
     ] {
-        builder.link(from, out, to, into, distance, group)?;
+        add_link(builder, ends, distance, group)?;
     }
+    Ok(())
+}
+
+// A row of one group of one member, which pops.
+fn add_pop(
+    alloc: Global,
+    builder: &mut NetworkBuilder,
+    link: u32,
+    top: Label,
+    out: u32,
+) -> Result<(), Fail> {
+    let groups = vec![in alloc; one(alloc, out, &[Op::Pop])?]?;
+    add_row(builder, link, top, groups)?;
     Ok(())
 }
 
@@ -79,10 +118,9 @@ fn add_links(builder: &mut NetworkBuilder, group: Option<&str>) -> Result<(), Bu
 fn add_rows(alloc: Global, builder: &mut NetworkBuilder) -> Result<(), Fail> {
     let way = one(alloc, 1, &[PUSH_S10])?;
     let detour = one(alloc, 2, &[PUSH_S10, PUSH_30])?;
-    builder.table(LinkId(0), IP1, vec![in alloc; way, detour]?)?;
-    builder.table(LinkId(1), S10, vec![in alloc; one(alloc, 4, &[Op::Pop])?]?)?;
-    builder.table(LinkId(2), L30, vec![in alloc; one(alloc, 3, &[Op::Pop])?]?)?;
-    Ok(())
+    add_row(builder, 0, IP1, vec![in alloc; way, detour]?)?;
+    add_pop(alloc, builder, 1, S10, 4)?;
+    add_pop(alloc, builder, 2, L30, 3)
 }
 
 fn protected(alloc: Global, group: Option<&str>) -> Result<NetworkBuilder, Fail> {
@@ -95,17 +133,17 @@ fn protected(alloc: Global, group: Option<&str>) -> Result<NetworkBuilder, Fail>
 // That network with its last row.
 fn small(alloc: Global, group: Option<&str>) -> Result<Network, Fail> {
     let mut builder = protected(alloc, group)?;
-    builder.table(LinkId(3), S10, vec![in alloc; one(alloc, 4, &[Op::Pop])?]?)?;
+    add_pop(alloc, &mut builder, 3, S10, 4)?;
     Ok(builder.finish()?)
 }
 
 // A router z, to which b turns where the link to y has failed.
 fn add_exit(alloc: Global, builder: &mut NetworkBuilder) -> Result<(), Fail> {
-    builder.router("z")?;
-    builder.link("b", "z", "z", "b", 1, None)?;
+    add_router(builder, "z")?;
+    add_link(builder, ("b", "z", "z", "b"), 1, None)?;
     let out = one(alloc, 4, &[Op::Pop])?;
     let other = one(alloc, 5, &[Op::Pop])?;
-    builder.table(LinkId(3), S10, vec![in alloc; out, other]?)?;
+    add_row(builder, 3, S10, vec![in alloc; out, other]?)?;
     Ok(())
 }
 
@@ -132,10 +170,7 @@ fn set_is(rt: &impl Abort, set: &FailSet, links: &[u32]) {
     assert_eq!(rt; set.at(links.len()), None);
 }
 
-#[test]
-fn sets_are_listed_in_rising_order(rt: HostRuntime) -> Result<(), Fail> {
-    let mut fails = FailSet::new(rt.alloc());
-    set_is(&rt, &fails, &[]);
+fn inserted(rt: &impl Abort, set: &mut FailSet) -> Result<(), Fail> {
     for (link, added) in [
         (5, true),
         (1, true),
@@ -144,32 +179,44 @@ fn sets_are_listed_in_rising_order(rt: HostRuntime) -> Result<(), Fail> {
         (3, true),
         (1, false),
     ] {
-        assert_eq!(rt; fails.insert(LinkId(link))?, added, "link {link}");
+        assert_eq!(rt; set.insert(LinkId(link))?, added);
     }
-    set_is(&rt, &fails, &[1, 3, 5, 9]);
-    let twin = fails.twin()?;
+    Ok(())
+}
+
+fn removed(rt: &impl Abort, set: &mut FailSet) {
     for (link, there) in [(5, true), (5, false), (0, false), (9, true)] {
-        assert_eq!(rt; fails.contains(LinkId(link)), there, "link {link}");
-        assert_eq!(rt; fails.remove(LinkId(link)), there, "link {link}");
-        assert!(rt; !fails.contains(LinkId(link)), "link {link}");
+        assert_eq!(rt; set.contains(LinkId(link)), there);
+        assert_eq!(rt; set.remove(LinkId(link)), there);
     }
+}
+
+#[test]
+fn sets_are_listed_in_rising_order(rt: HostRuntime) -> Result<(), Fail> {
+    let mut fails = FailSet::new(rt.alloc());
+    set_is(&rt, &fails, &[]);
+    inserted(&rt, &mut fails)?;
+    let twin = fails.twin()?;
+    removed(&rt, &mut fails);
     set_is(&rt, &fails, &[1, 3]);
     set_is(&rt, &twin, &[1, 3, 5, 9]);
     Ok(())
 }
 
+fn bounds_are(rt: &impl Abort, bounds: &Bounds, k: u32, down: &[u32], up: &[u32]) {
+    assert_eq!(rt; bounds.k, k);
+    set_is(rt, &bounds.down, down);
+    set_is(rt, &bounds.up, up);
+}
+
 #[test]
 fn twins_of_bounds_are_equal(rt: HostRuntime) -> Result<(), Fail> {
-    let alloc = rt.alloc();
     let bounds = Bounds {
         k: 2,
-        down: set(alloc, &[1, 4])?,
-        up: set(alloc, &[0])?,
+        down: set(rt.alloc(), &[1, 4])?,
+        up: set(rt.alloc(), &[0])?,
     };
-    let twin = bounds.twin()?;
-    assert_eq!(rt; twin.k, 2);
-    set_is(&rt, &twin.down, &[1, 4]);
-    set_is(&rt, &twin.up, &[0]);
+    bounds_are(&rt, &bounds.twin()?, 2, &[1, 4], &[0]);
     Ok(())
 }
 
@@ -202,9 +249,7 @@ fn label_is(rt: &impl Abort, network: &Network, label: Label, class: Class, name
     assert_eq!(rt; network.class(label), class);
 }
 
-#[test]
-fn routers_and_labels_are_found_by_name(rt: HostRuntime) -> Result<(), Fail> {
-    let network = small(rt.alloc(), None)?;
+fn counted(rt: &impl Abort, network: &Network) {
     let counts = Counts {
         routers: 5,
         links: 5,
@@ -213,15 +258,25 @@ fn routers_and_labels_are_found_by_name(rt: HostRuntime) -> Result<(), Fail> {
         members: 5,
     };
     assert_eq!(rt; network.counts(), counts);
+    network.keeps();
+}
+
+fn named(rt: &impl Abort, network: &Network) {
     for (number, name) in [(0, "x"), (1, "a"), (2, "b"), (3, "c"), (4, "y")] {
-        router_is(&rt, &network, number, name);
+        router_is(rt, network, number, name);
     }
-    label_is(&rt, &network, L30, Class::Mpls, "30");
-    label_is(&rt, &network, S10, Class::Smpls, "s10");
-    label_is(&rt, &network, IP1, Class::Ip, "ip1");
+    label_is(rt, network, L30, Class::Mpls, "30");
+    label_is(rt, network, S10, Class::Smpls, "s10");
+    label_is(rt, network, IP1, Class::Ip, "ip1");
     assert_eq!(rt; network.find_router("s10"), None);
     assert_eq!(rt; network.find_label("x"), None);
-    network.keeps();
+}
+
+#[test]
+fn routers_and_labels_are_found_by_name(rt: HostRuntime) -> Result<(), Fail> {
+    let network = small(rt.alloc(), None)?;
+    counted(&rt, &network);
+    named(&rt, &network);
     Ok(())
 }
 
@@ -239,93 +294,121 @@ fn interfaces(network: &Network, link: LinkId) -> Option<(&str, &str)> {
     ))
 }
 
-// A link's ends and its distance. It is alone in its risk group.
-#[tactic(auto, using(crate::proofs::KeptLists::all_get))]
+// What a network has of a link that is alone in its risk group.
 fn link_is(
     rt: &impl Abort,
     network: &Network,
     number: u32,
-    ends: (u32, &str, u32, &str),
+    routers: (u32, u32),
+    names: (&str, &str),
     distance: u32,
 ) {
-    let (from, out, to, into) = ends;
-    assert_eq!(rt; network.find_out(RouterId(from), out), Some(LinkId(number)));
-    assert_eq!(rt; network.find_in(RouterId(to), into), Some(LinkId(number)));
+    let ends = (RouterId(routers.0), RouterId(routers.1));
+    let link = LinkId(number);
+    assert_eq!(rt; network.find_out(ends.0, names.0), Some(link));
+    assert_eq!(rt; network.find_in(ends.1, names.1), Some(link));
+    assert_eq!(rt; interfaces(network, link), Some(names));
     assert!(rt; number < network.counts().links);
-    let link = network.link(LinkId(number));
-    assert_eq!(rt; (link.from, link.to), (RouterId(from), RouterId(to)));
-    assert_eq!(rt; (link.distance, link.risk), (distance, LinkId(number)));
-    assert_eq!(rt; interfaces(network, LinkId(number)), Some((out, into)));
+    let found = network.link(link);
+    assert_eq!(rt; (found.from, found.to), ends);
+    assert_eq!(rt; (found.distance, found.risk), (distance, link));
+}
+
+fn linked(rt: &impl Abort, network: &Network) {
+    for (number, routers, names, distance) in [
+        (0, (0, 1), ("o", "x"), 1),
+        (1, (1, 2), ("b", "a"), 1),
+        (2, (1, 3), ("c", "a"), 2),
+        (3, (3, 2), ("b", "c"), 2),
+        (4, (2, 4), ("y", "b"), 1),
+    ] {
+        link_is(rt, network, number, routers, names, distance);
+    }
+}
+
+// Ends that no link has, though a link has them the other way round, or another router has the interface.
+fn not_linked(rt: &impl Abort, network: &Network) {
+    for (router, interface) in [(1, "x"), (0, "b"), (1, "none"), (9, "b")] {
+        assert_eq!(rt; network.find_out(RouterId(router), interface), None);
+    }
+    for (router, interface) in [(0, "o"), (1, "b"), (2, "none"), (9, "a")] {
+        assert_eq!(rt; network.find_in(RouterId(router), interface), None);
+    }
 }
 
 #[test]
 fn links_are_found_by_their_ends(rt: HostRuntime) -> Result<(), Fail> {
     let network = small(rt.alloc(), None)?;
-    for (number, ends, distance) in [
-        (0, (0, "o", 1, "x"), 1),
-        (1, (1, "b", 2, "a"), 1),
-        (2, (1, "c", 3, "a"), 2),
-        (3, (3, "b", 2, "c"), 2),
-        (4, (2, "y", 4, "b"), 1),
-    ] {
-        link_is(&rt, &network, number, ends, distance);
-    }
-    for (router, interface) in [(1, "x"), (0, "b"), (1, "none"), (9, "b")] {
-        assert_eq!(rt;
-            network.find_out(RouterId(router), interface),
-            None,
-            "{interface}"
-        );
-    }
-    for (router, interface) in [(0, "o"), (1, "b"), (2, "none"), (9, "a")] {
-        assert_eq!(rt;
-            network.find_in(RouterId(router), interface),
-            None,
-            "{interface}"
-        );
-    }
+    linked(&rt, &network);
+    not_linked(&rt, &network);
     Ok(())
 }
 
-// A row and its place.
-fn row_is(rt: &impl Abort, network: &Network, number: u32, link: u32, top: Label) {
+// A row, the number of its first member, and how many groups it has.
+fn row_is(
+    rt: &impl Abort,
+    network: &Network,
+    number: u32,
+    row: (LinkId, Label),
+    first: u32,
+    groups: usize,
+) {
     assert!(rt; number < network.counts().rows);
-    assert_eq!(rt; network.row(number), (LinkId(link), top));
+    assert_eq!(rt; network.row(number), row);
+    assert_eq!(rt; network.first_member(row.0, row.1), first);
+    assert_eq!(rt; network.entry(row.0, row.1).len(), groups);
+}
+
+fn member_is(rt: &impl Abort, member: &Member, link: u32, ops: &[Op]) {
+    assert_eq!(rt; member.link, LinkId(link));
+    assert_eq!(rt; member.ops.as_slice(), ops);
 }
 
 // A group of one member, and the number of the member.
 fn group_is(rt: &impl Abort, network: &Network, group: &Group, number: u32, link: u32, ops: &[Op]) {
     let members = group.as_slice();
     assert_eq!(rt; members.len(), 1);
-    assert_eq!(rt; members[0].link, LinkId(link));
-    assert_eq!(rt; members[0].ops.as_slice(), ops);
+    member_is(rt, &members[0], link, ops);
     assert!(rt; number < network.counts().members);
-    assert_eq!(rt; network.member(number).link, LinkId(link));
-    assert_eq!(rt; network.member(number).ops.as_slice(), ops);
+    member_is(rt, network.member(number), link, ops);
+}
+
+fn tabled(rt: &impl Abort, network: &Network) {
+    row_is(rt, network, 0, (LinkId(0), IP1), 0, 2);
+    row_is(rt, network, 1, (LinkId(1), S10), 2, 1);
+    row_is(rt, network, 2, (LinkId(2), L30), 3, 1);
+    row_is(rt, network, 3, (LinkId(3), S10), 4, 1);
+    assert_eq!(rt; network.entry(LinkId(0), S10).len(), 0);
+    assert_eq!(rt; network.entry(LinkId(9), IP1).len(), 0);
+}
+
+fn grouped(rt: &impl Abort, network: &Network) {
+    let groups = network.entry(LinkId(0), IP1);
+    assert_eq!(rt; groups.len(), 2);
+    group_is(rt, network, &groups[0], 0, 1, &[PUSH_S10]);
+    group_is(rt, network, &groups[1], 1, 2, &[PUSH_S10, PUSH_30]);
+    let groups = network.entry(LinkId(3), S10);
+    assert_eq!(rt; groups.len(), 1);
+    group_is(rt, network, &groups[0], 4, 4, &[Op::Pop]);
 }
 
 #[test]
 fn tables_are_as_they_were_added(rt: HostRuntime) -> Result<(), Fail> {
     let network = small(rt.alloc(), None)?;
-    for (number, link, top, first, groups) in [
-        (0, 0, IP1, 0, 2),
-        (1, 1, S10, 2, 1),
-        (2, 2, L30, 3, 1),
-        (3, 3, S10, 4, 1),
-    ] {
-        row_is(&rt, &network, number, link, top);
-        assert_eq!(rt; network.first_member(LinkId(link), top), first);
-        assert_eq!(rt; network.entry(LinkId(link), top).len(), groups);
-    }
-    let groups = network.entry(LinkId(0), IP1);
-    assert_eq!(rt; groups.len(), 2);
-    group_is(&rt, &network, &groups[0], 0, 1, &[PUSH_S10]);
-    group_is(&rt, &network, &groups[1], 1, 2, &[PUSH_S10, PUSH_30]);
-    let groups = network.entry(LinkId(3), S10);
-    assert_eq!(rt; groups.len(), 1);
-    group_is(&rt, &network, &groups[0], 4, 4, &[Op::Pop]);
-    assert_eq!(rt; network.entry(LinkId(0), S10).len(), 0);
-    assert_eq!(rt; network.entry(LinkId(9), IP1).len(), 0);
+    tabled(&rt, &network);
+    grouped(&rt, &network);
+    Ok(())
+}
+
+fn active_is(
+    rt: &impl Abort,
+    alloc: Global,
+    groups: &[Group],
+    fails: &[u32],
+    active: Option<usize>,
+) -> Result<(), Fail> {
+    let fails = set(alloc, fails)?;
+    assert_eq!(rt; first_active(groups, &fails), active);
     Ok(())
 }
 
@@ -334,46 +417,33 @@ fn the_first_group_with_a_link_left_is_active(rt: HostRuntime) -> Result<(), Fai
     let alloc = rt.alloc();
     let network = small(alloc, None)?;
     let groups = network.entry(LinkId(0), IP1);
-    for (fails, active) in [
-        (&[] as &[u32], Some(0)),
-        (&[0, 2, 4], Some(0)),
-        (&[1], Some(1)),
-        (&[1, 2], None),
-    ] {
-        let fails = set(alloc, fails)?;
-        assert_eq!(rt; first_active(groups, &fails), active);
-    }
-    assert_eq!(rt; first_active(&[], &FailSet::new(alloc)), None);
-    Ok(())
+    active_is(&rt, alloc, groups, &[], Some(0))?;
+    active_is(&rt, alloc, groups, &[0, 2, 4], Some(0))?;
+    active_is(&rt, alloc, groups, &[1], Some(1))?;
+    active_is(&rt, alloc, groups, &[1, 2], None)?;
+    active_is(&rt, alloc, &[], &[], None)
 }
 
 #[test]
 fn a_group_is_active_while_one_of_its_links_is_left(rt: HostRuntime) -> Result<(), Fail> {
     let alloc = rt.alloc();
-    let groups = [of_links(alloc, &[1, 2])?];
-    for (fails, active) in [
-        (&[1u32] as &[u32], Some(0)),
-        (&[2], Some(0)),
-        (&[1, 2], None),
-    ] {
-        assert_eq!(rt; first_active(&groups, &set(alloc, fails)?), active);
-    }
-    Ok(())
+    let groups = vec![in alloc; of_links(alloc, &[1, 2])?]?;
+    active_is(&rt, alloc, groups.as_slice(), &[1], Some(0))?;
+    active_is(&rt, alloc, groups.as_slice(), &[2], Some(0))?;
+    active_is(&rt, alloc, groups.as_slice(), &[1, 2], None)
 }
 
-// The links that have to fail before a group of an entry is used.
+// The links that have to fail before a group is used.
 fn before_is(
     rt: &impl Abort,
     alloc: Global,
     network: &Network,
-    entry: (u32, Label),
-    wanted: &[(usize, &[u32])],
+    entry: (LinkId, Label),
+    j: usize,
+    links: &[u32],
 ) -> Result<(), Fail> {
-    let (link, top) = entry;
-    let groups = network.entry(LinkId(link), top);
-    for (j, links) in wanted {
-        set_is(rt, &network.links_before(alloc, groups, *j)?, links);
-    }
+    let groups = network.entry(entry.0, entry.1);
+    set_is(rt, &network.links_before(alloc, groups, j)?, links);
     Ok(())
 }
 
@@ -381,56 +451,71 @@ fn before_is(
 fn before_a_group_stand_the_links_of_the_earlier_ones(rt: HostRuntime) -> Result<(), Fail> {
     let alloc = rt.alloc();
     let network = small(alloc, None)?;
-    let wanted = [(0, &[] as &[u32]), (1, &[1]), (2, &[1, 2]), (3, &[1, 2])];
-    before_is(&rt, alloc, &network, (0, IP1), &wanted)?;
-    before_is(&rt, alloc, &network, (0, S10), &[(0, &[]), (1, &[])])?;
+    before_is(&rt, alloc, &network, (LinkId(0), IP1), 0, &[])?;
+    before_is(&rt, alloc, &network, (LinkId(0), IP1), 1, &[1])?;
+    before_is(&rt, alloc, &network, (LinkId(0), IP1), 2, &[1, 2])?;
+    before_is(&rt, alloc, &network, (LinkId(0), IP1), 3, &[1, 2])?;
     let network = large(alloc, None)?;
-    before_is(&rt, alloc, &network, (3, S10), &[(0, &[]), (1, &[4])])
+    before_is(&rt, alloc, &network, (LinkId(3), S10), 1, &[4])
 }
 
 #[test]
 fn before_a_group_stand_whole_risk_groups(rt: HostRuntime) -> Result<(), Fail> {
     let alloc = rt.alloc();
     let network = small(alloc, Some("fiber"))?;
-    let wanted = [(0, &[] as &[u32]), (1, &[1, 4]), (2, &[1, 2, 4])];
-    before_is(&rt, alloc, &network, (0, IP1), &wanted)?;
+    before_is(&rt, alloc, &network, (LinkId(0), IP1), 0, &[])?;
+    before_is(&rt, alloc, &network, (LinkId(0), IP1), 1, &[1, 4])?;
+    before_is(&rt, alloc, &network, (LinkId(0), IP1), 2, &[1, 2, 4])?;
     let network = large(alloc, Some("fiber"))?;
-    before_is(&rt, alloc, &network, (3, S10), &[(0, &[]), (1, &[1, 4])])
+    before_is(&rt, alloc, &network, (LinkId(3), S10), 1, &[1, 4])
+}
+
+// The risk groups of l0, l1 and l4: l4's by its least link, how many those of l1 and l4 are, and the links of l4's.
+fn risks_are(
+    rt: &impl Abort,
+    alloc: Global,
+    network: &Network,
+    risk: u32,
+    count: usize,
+    widened: &[u32],
+) -> Result<(), Fail> {
+    assert_eq!(rt; network.risk(LinkId(4)), LinkId(risk));
+    assert_eq!(rt; network.risk(LinkId(0)), LinkId(0));
+    assert_eq!(rt; network.count(&set(alloc, &[1, 4])?), count);
+    set_is(rt, &network.widen(alloc, &set(alloc, &[4])?)?, widened);
+    Ok(())
 }
 
 #[test]
 fn links_of_one_risk_group_fail_together(rt: HostRuntime) -> Result<(), Fail> {
     let alloc = rt.alloc();
-    for (group, risk, count, widened) in [
-        (None, 4, 2, &[4u32] as &[u32]),
-        (Some("fiber"), 1, 1, &[1, 4]),
-    ] {
-        let network = small(alloc, group)?;
-        assert_eq!(rt; network.risk(LinkId(4)), LinkId(risk));
-        assert_eq!(rt; network.risk(LinkId(0)), LinkId(0));
-        assert_eq!(rt; network.count(&set(alloc, &[1, 4])?), count);
-        set_is(&rt, &network.widen(alloc, &set(alloc, &[4])?)?, widened);
-        set_is(&rt, &network.widen(alloc, &FailSet::new(alloc))?, &[]);
-    }
-    Ok(())
+    risks_are(&rt, alloc, &small(alloc, None)?, 4, 2, &[4])?;
+    risks_are(&rt, alloc, &small(alloc, Some("fiber"))?, 1, 1, &[1, 4])
 }
 
-#[test]
-fn a_refused_router_is_not_added(rt: HostRuntime) -> Result<(), Fail> {
-    let mut builder = NetworkBuilder::new(rt.alloc());
-    for (name, answer) in [
-        ("x", Ok(RouterId(0))),
-        ("", Err(BadName(Part::Name))),
-        ("a\"", Err(BadName(Part::Name))),
-        ("x", Err(Repeated)),
-        ("a", Ok(RouterId(1))),
+fn refuses_routers(rt: &impl Abort, builder: &mut NetworkBuilder) {
+    assert_eq!(rt; add_router(builder, "x"), Ok(RouterId(0)));
+    for (name, refused) in [
+        ("", BadName(Part::Name)),
+        ("a\"", BadName(Part::Name)),
+        ("x", Repeated),
     ] {
-        assert_eq!(rt; builder.router(name), answer, "{name}");
+        assert_eq!(rt; add_router(builder, name), Err(refused));
     }
+    assert_eq!(rt; add_router(builder, "a"), Ok(RouterId(1)));
+}
+
+fn has_two_routers(rt: &impl Abort, builder: &NetworkBuilder) {
     assert_eq!(rt; builder.router_count(), 2);
     assert_eq!(rt; builder.find_router("a"), Some(RouterId(1)));
     assert_eq!(rt; builder.find_router("a\""), None);
-    Ok(())
+}
+
+#[test]
+fn a_refused_router_is_not_added(rt: HostRuntime) {
+    let mut builder = NetworkBuilder::new(rt.alloc());
+    refuses_routers(&rt, &mut builder);
+    has_two_routers(&rt, &builder);
 }
 
 // A builder whose labels are all of class `mpls`.
@@ -458,47 +543,52 @@ impl Stacked {
     }
 }
 
-#[test]
-fn a_refused_label_is_not_added(rt: HostRuntime) -> Result<(), Fail> {
-    let mut stacked = Stacked::new(rt.alloc());
-    for (name, answer) in [
-        ("30", Ok(Label(0))),
-        ("", Err(BadName(Part::Name))),
-        ("30", Err(Repeated)),
-        ("31", Ok(Label(1))),
+fn refuses_labels(rt: &impl Abort, stacked: &mut Stacked) {
+    assert_eq!(rt; stacked.label("30"), Ok(Label(0)));
+    for (name, refused) in [
+        ("", BadName(Part::Name)),
+        ("a\"", BadName(Part::Name)),
+        ("30", Repeated),
     ] {
-        assert_eq!(rt; stacked.label(name), answer, "{name}");
+        assert_eq!(rt; stacked.label(name), Err(refused));
     }
-    let builder = &stacked.builder;
+    assert_eq!(rt; stacked.label("31"), Ok(Label(1)));
+}
+
+fn has_two_labels(rt: &impl Abort, builder: &NetworkBuilder) {
     assert_eq!(rt; builder.label_count(), 2);
     assert_eq!(rt; builder.find_label("31"), Some(Label(1)));
-    assert_eq!(rt; builder.find_label("32"), None);
+    assert_eq!(rt; builder.find_label("a\""), None);
     assert_eq!(rt; builder.class(Label(1)), Some(Class::Mpls));
     assert_eq!(rt; builder.class(Label(2)), None);
-    Ok(())
 }
 
 #[test]
-fn a_refused_link_is_not_added(rt: HostRuntime) -> Result<(), Fail> {
-    let mut builder = protected(rt.alloc(), None)?;
-    for (from, out, to, into, group, answer) in [
-        ("q", "", "q", "", Some(""), Err(BadName(Part::Group))),
-        ("q", "", "q", "", Some("g"), Err(BadName(Part::Out))),
-        ("q", "n", "q", "", None, Err(BadName(Part::In))),
-        ("q", "n", "q", "m", None, Err(Unknown(Part::From))),
-        ("x", "o", "q", "x", None, Err(Unknown(Part::To))),
-        ("x", "o", "a", "x", None, Err(Taken(Part::Out))),
-        ("x", "n", "a", "x", None, Err(Taken(Part::In))),
-        ("y", "m", "a", "y", Some("g"), Ok(LinkId(5))),
+fn a_refused_label_is_not_added(rt: HostRuntime) {
+    let mut stacked = Stacked::new(rt.alloc());
+    refuses_labels(&rt, &mut stacked);
+    has_two_labels(&rt, &stacked.builder);
+}
+
+// Links that are refused beside the five, and one that isn't.
+fn refuses_links(rt: &impl Abort, builder: &mut NetworkBuilder) {
+    for (ends, group, refused) in [
+        (("q", "", "q", ""), Some(""), BadName(Part::Group)),
+        (("q", "", "q", ""), Some("g"), BadName(Part::Out)),
+        (("q", "n", "q", ""), None, BadName(Part::In)),
+        (("q", "n", "q", "m"), None, Unknown(Part::From)),
+        (("x", "o", "q", "x"), None, Unknown(Part::To)),
+        (("x", "o", "a", "x"), None, Taken(Part::Out)),
+        (("x", "n", "a", "x"), None, Taken(Part::In)),
     ] {
-        assert_eq!(rt;
-            builder.link(from, out, to, into, 7, group),
-            answer,
-            "{out}"
-        );
+        assert_eq!(rt; add_link(builder, ends, 7, group), Err(refused));
     }
-    assert_eq!(rt; builder.link_count(), 6);
-    let added = Link {
+    let ends = ("y", "m", "a", "y");
+    assert_eq!(rt; add_link(builder, ends, 7, Some("g")), Ok(LinkId(5)));
+}
+
+fn has_six_links(rt: &impl Abort, builder: &NetworkBuilder) {
+    let last = Link {
         from: RouterId(4),
         out_if: NameId(6),
         to: RouterId(1),
@@ -506,43 +596,77 @@ fn a_refused_link_is_not_added(rt: HostRuntime) -> Result<(), Fail> {
         distance: 7,
         risk: LinkId(5),
     };
-    assert_eq!(rt; builder.link_at(LinkId(5)), Some(added));
+    assert_eq!(rt; builder.link_count(), 6);
+    assert_eq!(rt; builder.link_at(LinkId(5)), Some(last));
     assert_eq!(rt; builder.link_at(LinkId(6)), None);
+}
+
+fn finds_the_sixth(rt: &impl Abort, builder: &NetworkBuilder) {
     assert_eq!(rt; builder.find_out(RouterId(4), "m"), Some(LinkId(5)));
-    assert_eq!(rt; builder.find_in(RouterId(1), "y"), Some(LinkId(5)));
     assert_eq!(rt; builder.find_out(RouterId(4), "y"), None);
+    assert_eq!(rt; builder.find_in(RouterId(1), "y"), Some(LinkId(5)));
     assert_eq!(rt; builder.find_in(RouterId(1), "m"), None);
+}
+
+#[test]
+fn a_refused_link_is_not_added(rt: HostRuntime) -> Result<(), Fail> {
+    let mut builder = protected(rt.alloc(), None)?;
+    refuses_links(&rt, &mut builder);
+    has_six_links(&rt, &builder);
+    finds_the_sixth(&rt, &builder);
     Ok(())
 }
 
-// Rows of one group of one member that are refused.
+// A row of one group of one member.
+fn answers_row(
+    rt: &impl Abort,
+    alloc: Global,
+    builder: &mut NetworkBuilder,
+    row: (u32, Label),
+    member: (u32, &[Op]),
+    answer: Result<(), BuildRefused>,
+) -> Result<(), Fail> {
+    let groups = vec![in alloc; one(alloc, member.0, member.1)?]?;
+    assert_eq!(rt; add_row(builder, row.0, row.1, groups), answer);
+    Ok(())
+}
+
 fn refuses_rows(rt: &impl Abort, alloc: Global, builder: &mut NetworkBuilder) -> Result<(), Fail> {
     let nine = [Op::Pop; 9];
     let unknown = [Op::Pop, Op::Push(Label(3), Class::Mpls)];
     let misplaced = [Op::Swap(S10, Class::Mpls)];
-    for (link, top, out, ops, refused) in [
-        (5, Label(3), 9, &nine as &[Op], Unknown(Part::In)),
-        (0, Label(3), 9, &nine, Unknown(Part::Name)),
-        (0, IP1, 9, &nine, Repeated),
-        (3, S10, 9, &nine, Unknown(Part::Out)),
-        (3, S10, 3, &nine, Unknown(Part::Out)),
-        (3, S10, 4, &nine, Limit(Limited::Operations, 8)),
-        (3, S10, 4, &unknown, Unknown(Part::Name)),
-        (3, S10, 4, &misplaced, Unknown(Part::Name)),
+    for (row, member, refused) in [
+        ((5, Label(3)), (9, &nine as &[Op]), Unknown(Part::In)),
+        ((0, Label(3)), (9, &nine), Unknown(Part::Name)),
+        ((0, IP1), (9, &nine), Repeated),
+        ((3, S10), (9, &nine), Unknown(Part::Out)),
+        ((3, S10), (3, &nine), Unknown(Part::Out)),
+        ((3, S10), (4, &nine), Limit(Limited::Operations, 8)),
+        ((3, S10), (4, &unknown), Unknown(Part::Name)),
+        ((3, S10), (4, &misplaced), Unknown(Part::Name)),
     ] {
-        let groups = vec![in alloc; one(alloc, out, ops)?]?;
-        assert_eq!(rt; builder.table(LinkId(link), top, groups), Err(refused));
+        answers_row(rt, alloc, builder, row, member, Err(refused))?;
     }
     Ok(())
 }
 
-// Groups of which the second has no members and the third a link that isn't there.
-fn with_an_empty_group(alloc: Global) -> Result<Vec<Group>, Fail> {
-    Ok(vec![in alloc;
-        one(alloc, 4, &[])?,
-        Listed::of(Vec::new(alloc)),
-        one(alloc, 9, &[])?,
-    ]?)
+// Groups of which the second has no members, and the third a link that isn't there.
+fn refuses_an_empty_group(
+    rt: &impl Abort,
+    alloc: Global,
+    builder: &mut NetworkBuilder,
+) -> Result<(), Fail> {
+    let good = one(alloc, 4, &[])?;
+    let unknown = one(alloc, 9, &[])?;
+    let groups = vec![in alloc; good, Listed::of(Vec::new(alloc)), unknown]?;
+    assert_eq!(rt; add_row(builder, 3, S10, groups), Err(EmptyGroup));
+    Ok(())
+}
+
+fn has_rows(rt: &impl Abort, builder: &NetworkBuilder, rows: usize, members: usize, last: bool) {
+    assert_eq!(rt; builder.row_count(), rows);
+    assert_eq!(rt; builder.member_count(), members);
+    assert_eq!(rt; builder.has_row(LinkId(3), S10), last);
 }
 
 #[test]
@@ -550,14 +674,17 @@ fn a_refused_row_is_not_added(rt: HostRuntime) -> Result<(), Fail> {
     let alloc = rt.alloc();
     let mut builder = protected(alloc, None)?;
     refuses_rows(&rt, alloc, &mut builder)?;
-    let groups = with_an_empty_group(alloc)?;
-    assert_eq!(rt; builder.table(LinkId(3), S10, groups), Err(EmptyGroup));
-    assert!(rt; !builder.has_row(LinkId(3), S10));
-    let groups = vec![in alloc; one(alloc, 4, &[Op::Pop; 8])?]?;
-    assert_eq!(rt; builder.table(LinkId(3), S10, groups), Ok(()));
-    assert!(rt; builder.has_row(LinkId(3), S10));
-    assert_eq!(rt; builder.row_count(), 4);
-    assert_eq!(rt; builder.member_count(), 5);
+    refuses_an_empty_group(&rt, alloc, &mut builder)?;
+    has_rows(&rt, &builder, 3, 4, false);
+    answers_row(
+        &rt,
+        alloc,
+        &mut builder,
+        (3, S10),
+        (4, &[Op::Pop; 8]),
+        Ok(()),
+    )?;
+    has_rows(&rt, &builder, 4, 5, true);
     Ok(())
 }
 
@@ -584,15 +711,16 @@ fn put_bare(
     Ok(true)
 }
 
+fn puts_a_row(rt: &impl Abort, alloc: Global, builder: &mut NetworkBuilder) {
+    assert_eq!(rt; put_bare(alloc, builder, LinkId(3), S10), Ok(true));
+    assert_eq!(rt; put_bare(alloc, builder, LinkId(3), S10), Ok(false));
+}
+
 #[test]
 fn a_checked_row_is_added(rt: HostRuntime) -> Result<(), Fail> {
-    let alloc = rt.alloc();
-    let mut builder = protected(alloc, None)?;
-    for (link, answer) in [(3, Ok(true)), (3, Ok(false)), (0, Ok(true)), (5, Ok(false))] {
-        assert_eq!(rt; put_bare(alloc, &mut builder, LinkId(link), S10), answer);
-    }
-    assert_eq!(rt; builder.row_count(), 5);
-    assert_eq!(rt; builder.member_count(), 4);
+    let mut builder = protected(rt.alloc(), None)?;
+    puts_a_row(&rt, rt.alloc(), &mut builder);
+    has_rows(&rt, &builder, 4, 4, true);
     Ok(())
 }
 
@@ -602,17 +730,21 @@ fn digits(alloc: Global, number: u32) -> Result<String, Fail> {
 
 fn add_routers(alloc: Global, builder: &mut NetworkBuilder, count: u32) -> Result<(), Fail> {
     for i in 0..count {
-        builder.router(digits(alloc, i)?.as_str())?;
+        add_router(builder, digits(alloc, i)?.as_str())?;
     }
     Ok(())
+}
+
+fn refuses_router(rt: &impl Abort, builder: &mut NetworkBuilder, name: &str) {
+    let refused = Limit(Limited::Routers, 10000);
+    assert_eq!(rt; add_router(builder, name), Err(refused));
 }
 
 #[test]
 fn there_are_at_most_10000_routers(rt: HostRuntime) -> Result<(), Fail> {
     let mut builder = NetworkBuilder::new(rt.alloc());
     add_routers(rt.alloc(), &mut builder, 10000)?;
-    let refused = Limit(Limited::Routers, 10000);
-    assert_eq!(rt; builder.router(""), Err(refused));
+    refuses_router(&rt, &mut builder, "");
     Ok(())
 }
 
@@ -624,32 +756,49 @@ fn add_labels(alloc: Global, stacked: &mut Stacked, count: u32) -> Result<(), Fa
     Ok(())
 }
 
-// Adds a router with so many links to itself.
-fn add_loops(alloc: Global, builder: &mut NetworkBuilder, count: u32) -> Result<(), Fail> {
-    builder.router("r")?;
-    for i in 0..count {
-        let name = digits(alloc, i)?;
-        builder.link("r", name.as_str(), "r", name.as_str(), 1, None)?;
-    }
-    Ok(())
+fn refuses_label(rt: &impl Abort, stacked: &mut Stacked, name: &str) {
+    let refused = Limit(Limited::Labels, 20000);
+    assert_eq!(rt; stacked.label(name), Err(refused));
 }
 
 #[test]
 fn there_are_at_most_20000_labels(rt: HostRuntime) -> Result<(), Fail> {
     let mut stacked = Stacked::new(rt.alloc());
     add_labels(rt.alloc(), &mut stacked, 20000)?;
-    let refused = Limit(Limited::Labels, 20000);
-    assert_eq!(rt; stacked.label(""), Err(refused));
+    refuses_label(&rt, &mut stacked, "");
     Ok(())
+}
+
+// Adds a router with so many links to itself.
+fn add_loops(alloc: Global, builder: &mut NetworkBuilder, count: u32) -> Result<(), Fail> {
+    add_router(builder, "r")?;
+    for i in 0..count {
+        let name = digits(alloc, i)?;
+        add_link(builder, ("r", name.as_str(), "r", name.as_str()), 1, None)?;
+    }
+    Ok(())
+}
+
+fn refuses_link(rt: &impl Abort, builder: &mut NetworkBuilder, ends: Ends) {
+    let refused = Limit(Limited::Links, 20000);
+    assert_eq!(rt; add_link(builder, ends, 1, Some("")), Err(refused));
 }
 
 #[test]
 fn there_are_at_most_20000_links(rt: HostRuntime) -> Result<(), Fail> {
     let mut builder = NetworkBuilder::new(rt.alloc());
     add_loops(rt.alloc(), &mut builder, 20000)?;
-    let refused = Limit(Limited::Links, 20000);
-    assert_eq!(rt; builder.link("", "", "", "", 1, Some("")), Err(refused));
+    refuses_link(&rt, &mut builder, ("", "", "", ""));
     Ok(())
+}
+
+// A router with so many links to itself, and so many labels.
+fn looped(alloc: Global, labels: u32, links: u32) -> Result<NetworkBuilder, Fail> {
+    let mut stacked = Stacked::new(alloc);
+    add_labels(alloc, &mut stacked, labels)?;
+    let mut builder = stacked.builder();
+    add_loops(alloc, &mut builder, links)?;
+    Ok(builder)
 }
 
 // Adds rows without groups for so many labels and links.
@@ -661,7 +810,7 @@ fn add_bare_rows(
 ) -> Result<(), Fail> {
     for top in 0..labels {
         for link in 0..links {
-            builder.table(LinkId(link), Label(top), Vec::new(alloc))?;
+            add_row(builder, link, Label(top), Vec::new(alloc))?;
         }
     }
     Ok(())
@@ -670,32 +819,25 @@ fn add_bare_rows(
 #[test]
 fn there_are_at_most_200000_rows(rt: HostRuntime) -> Result<(), Fail> {
     let alloc = rt.alloc();
-    let mut stacked = Stacked::new(alloc);
-    add_labels(alloc, &mut stacked, 10)?;
-    let mut builder = stacked.builder();
-    add_loops(alloc, &mut builder, 20000)?;
+    let mut builder = looped(alloc, 10, 20000)?;
     add_bare_rows(alloc, &mut builder, 10, 20000)?;
-    let refused = Limit(Limited::Rows, 200000);
-    assert_eq!(rt;
-        builder.table(LinkId(20000), Label(0), Vec::new(alloc)),
-        Err(refused)
-    );
+    let refused = Err(Limit(Limited::Rows, 200000));
+    answers_row(&rt, alloc, &mut builder, (20000, S10), (0, &[]), refused)
+}
+
+// Adds one row with so many members.
+fn add_members(alloc: Global, builder: &mut NetworkBuilder, count: usize) -> Result<(), Fail> {
+    let links = vec![in alloc; 0; count]?;
+    let groups = vec![in alloc; of_links(alloc, links.as_slice())?]?;
+    add_row(builder, 0, Label(0), groups)?;
     Ok(())
 }
 
 #[test]
 fn there_are_at_most_400000_members(rt: HostRuntime) -> Result<(), Fail> {
     let alloc = rt.alloc();
-    let mut stacked = Stacked::new(alloc);
-    add_labels(alloc, &mut stacked, 2)?;
-    let mut builder = stacked.builder();
-    add_loops(alloc, &mut builder, 1)?;
-    let links = vec![in alloc; 0; 400000]?;
-    let groups = vec![in alloc; of_links(alloc, links.as_slice())?]?;
-    assert_eq!(rt; builder.table(LinkId(0), Label(0), groups), Ok(()));
-    let refused = Limit(Limited::Members, 400000);
-    let groups = vec![in alloc; one(alloc, 9, &[])?]?;
-    assert_eq!(rt; builder.table(LinkId(0), Label(1), groups), Err(refused));
-    assert_eq!(rt; builder.member_count(), 400000);
-    Ok(())
+    let mut builder = looped(alloc, 2, 1)?;
+    add_members(alloc, &mut builder, 400000)?;
+    let refused = Err(Limit(Limited::Members, 400000));
+    answers_row(&rt, alloc, &mut builder, (0, S10), (9, &[]), refused)
 }

@@ -1,0 +1,17 @@
+//! Networks in JSON: each file is a network, or has a first fault with its place.
+#![tactic(auto)]
+
+mod fault;
+mod file;
+mod labels;
+mod links;
+mod operations;
+mod routers;
+mod shape;
+mod tables;
+
+pub use fault::{LinkPart, MemberPart, NetFault, Place, TablePart};
+pub use file::read_network;
+
+#[cfg(test)]
+mod tests;

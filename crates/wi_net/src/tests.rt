@@ -1,5 +1,5 @@
 //! Networks by example.
-ghost use Rattle.std.specs.Prelude.{◌≡◌, true};
+ghost use Rattle.std.specs.Prelude.{◌≡◌, [], true};
 ghost use Rattle.std.specs.List.{list_all};
 ghost use Rattle.wi_labels.specs.declared.label.Class.TheVariants.{Mpls};
 ghost use Rattle.wi_net.specs.Network.{is_no_later};
@@ -75,12 +75,13 @@ fn of_links(alloc: Global, links: &[u32]) -> Result<Group, Fail> {
 
 // The labels 30, s10 and ip1.
 #[tactic(auto, unfolding(crate::specs::Builder::add_label))]
-fn labelled(alloc: Global) -> Result<NetworkBuilder, BuildRefused> {
-    let mut builder = NetworkBuilder::new(alloc);
+fn add_labels(builder: &mut NetworkBuilder) -> Result<(), BuildRefused>
+    requires { builder.old.net.classes ≡ [] }
+{
     builder.label(Class::Mpls, "30")?;
     builder.label(Class::Smpls, "s10")?;
     builder.label(Class::Ip, "ip1")?;
-    Ok(builder)
+    Ok(())
 }
 
 // Five routers and five links: a way over c protects the link from a to b. The links from a to b and from b to y may be in
@@ -124,7 +125,8 @@ fn add_rows(alloc: Global, builder: &mut NetworkBuilder) -> Result<(), Fail> {
 }
 
 fn protected(alloc: Global, group: Option<&str>) -> Result<NetworkBuilder, Fail> {
-    let mut builder = labelled(alloc)?;
+    let mut builder = NetworkBuilder::new(alloc);
+    add_labels(&mut builder)?;
     add_links(&mut builder, group)?;
     add_rows(alloc, &mut builder)?;
     Ok(builder)
@@ -412,25 +414,29 @@ fn active_is(
     Ok(())
 }
 
+fn way_is_active(rt: &impl Abort, alloc: Global, groups: &[Group]) -> Result<(), Fail> {
+    active_is(rt, alloc, groups, &[], Some(0))?;
+    active_is(rt, alloc, groups, &[0, 2, 4], Some(0))?;
+    active_is(rt, alloc, groups, &[1], Some(1))?;
+    active_is(rt, alloc, groups, &[1, 2], None)
+}
+
 #[test]
 fn the_first_group_with_a_link_left_is_active(rt: HostRuntime) -> Result<(), Fail> {
-    let alloc = rt.alloc();
-    let network = small(alloc, None)?;
-    let groups = network.entry(LinkId(0), IP1);
-    active_is(&rt, alloc, groups, &[], Some(0))?;
-    active_is(&rt, alloc, groups, &[0, 2, 4], Some(0))?;
-    active_is(&rt, alloc, groups, &[1], Some(1))?;
-    active_is(&rt, alloc, groups, &[1, 2], None)?;
-    active_is(&rt, alloc, &[], &[], None)
+    let network = small(rt.alloc(), None)?;
+    way_is_active(&rt, rt.alloc(), network.entry(LinkId(0), IP1))
+}
+
+fn pair_is_active(rt: &impl Abort, alloc: Global, groups: &[Group]) -> Result<(), Fail> {
+    active_is(rt, alloc, groups, &[1], Some(0))?;
+    active_is(rt, alloc, groups, &[2], Some(0))?;
+    active_is(rt, alloc, groups, &[1, 2], None)
 }
 
 #[test]
 fn a_group_is_active_while_one_of_its_links_is_left(rt: HostRuntime) -> Result<(), Fail> {
-    let alloc = rt.alloc();
-    let groups = vec![in alloc; of_links(alloc, &[1, 2])?]?;
-    active_is(&rt, alloc, groups.as_slice(), &[1], Some(0))?;
-    active_is(&rt, alloc, groups.as_slice(), &[2], Some(0))?;
-    active_is(&rt, alloc, groups.as_slice(), &[1, 2], None)
+    let groups = [of_links(rt.alloc(), &[1, 2])?];
+    pair_is_active(&rt, rt.alloc(), &groups)
 }
 
 // The links that have to fail before a group is used.
@@ -447,27 +453,48 @@ fn before_is(
     Ok(())
 }
 
+// Before the way, before the detour, and past both.
+fn before_the_way(
+    rt: &impl Abort,
+    alloc: Global,
+    network: &Network,
+    one: &[u32],
+    both: &[u32],
+) -> Result<(), Fail> {
+    let entry = (LinkId(0), IP1);
+    before_is(rt, alloc, network, entry, 0, &[])?;
+    before_is(rt, alloc, network, entry, 1, one)?;
+    before_is(rt, alloc, network, entry, 2, both)?;
+    before_is(rt, alloc, network, entry, 3, both)
+}
+
 #[test]
 fn before_a_group_stand_the_links_of_the_earlier_ones(rt: HostRuntime) -> Result<(), Fail> {
-    let alloc = rt.alloc();
-    let network = small(alloc, None)?;
-    before_is(&rt, alloc, &network, (LinkId(0), IP1), 0, &[])?;
-    before_is(&rt, alloc, &network, (LinkId(0), IP1), 1, &[1])?;
-    before_is(&rt, alloc, &network, (LinkId(0), IP1), 2, &[1, 2])?;
-    before_is(&rt, alloc, &network, (LinkId(0), IP1), 3, &[1, 2])?;
-    let network = large(alloc, None)?;
-    before_is(&rt, alloc, &network, (LinkId(3), S10), 1, &[4])
+    let network = small(rt.alloc(), None)?;
+    before_the_way(&rt, rt.alloc(), &network, &[1], &[1, 2])
 }
 
 #[test]
 fn before_a_group_stand_whole_risk_groups(rt: HostRuntime) -> Result<(), Fail> {
-    let alloc = rt.alloc();
-    let network = small(alloc, Some("fiber"))?;
-    before_is(&rt, alloc, &network, (LinkId(0), IP1), 0, &[])?;
-    before_is(&rt, alloc, &network, (LinkId(0), IP1), 1, &[1, 4])?;
-    before_is(&rt, alloc, &network, (LinkId(0), IP1), 2, &[1, 2, 4])?;
-    let network = large(alloc, Some("fiber"))?;
-    before_is(&rt, alloc, &network, (LinkId(3), S10), 1, &[1, 4])
+    let network = small(rt.alloc(), Some("fiber"))?;
+    before_the_way(&rt, rt.alloc(), &network, &[1, 4], &[1, 2, 4])
+}
+
+// Before the turn to z.
+fn before_the_exit(
+    rt: &impl Abort,
+    alloc: Global,
+    group: Option<&str>,
+    links: &[u32],
+) -> Result<(), Fail> {
+    let network = large(alloc, group)?;
+    before_is(rt, alloc, &network, (LinkId(3), S10), 1, links)
+}
+
+#[test]
+fn before_an_exit_stands_the_risk_group_of_the_other(rt: HostRuntime) -> Result<(), Fail> {
+    before_the_exit(&rt, rt.alloc(), None, &[4])?;
+    before_the_exit(&rt, rt.alloc(), Some("fiber"), &[1, 4])
 }
 
 // The risk groups of l0, l1 and l4: l4's by its least link, how many those of l1 and l4 are, and the links of l4's.
@@ -487,10 +514,15 @@ fn risks_are(
 }
 
 #[test]
+fn a_link_without_a_risk_group_fails_alone(rt: HostRuntime) -> Result<(), Fail> {
+    let network = small(rt.alloc(), None)?;
+    risks_are(&rt, rt.alloc(), &network, 4, 2, &[4])
+}
+
+#[test]
 fn links_of_one_risk_group_fail_together(rt: HostRuntime) -> Result<(), Fail> {
-    let alloc = rt.alloc();
-    risks_are(&rt, alloc, &small(alloc, None)?, 4, 2, &[4])?;
-    risks_are(&rt, alloc, &small(alloc, Some("fiber"))?, 1, 1, &[1, 4])
+    let network = small(rt.alloc(), Some("fiber"))?;
+    risks_are(&rt, rt.alloc(), &network, 1, 1, &[1, 4])
 }
 
 fn refuses_routers(rt: &impl Abort, builder: &mut NetworkBuilder) {
@@ -669,23 +701,23 @@ fn has_rows(rt: &impl Abort, builder: &NetworkBuilder, rows: usize, members: usi
     assert_eq!(rt; builder.has_row(LinkId(3), S10), last);
 }
 
+fn refuses_and_takes(
+    rt: &impl Abort,
+    alloc: Global,
+    builder: &mut NetworkBuilder,
+) -> Result<(), Fail> {
+    refuses_rows(rt, alloc, builder)?;
+    refuses_an_empty_group(rt, alloc, builder)?;
+    has_rows(rt, builder, 3, 4, false);
+    answers_row(rt, alloc, builder, (3, S10), (4, &[Op::Pop; 8]), Ok(()))?;
+    has_rows(rt, builder, 4, 5, true);
+    Ok(())
+}
+
 #[test]
 fn a_refused_row_is_not_added(rt: HostRuntime) -> Result<(), Fail> {
-    let alloc = rt.alloc();
-    let mut builder = protected(alloc, None)?;
-    refuses_rows(&rt, alloc, &mut builder)?;
-    refuses_an_empty_group(&rt, alloc, &mut builder)?;
-    has_rows(&rt, &builder, 3, 4, false);
-    answers_row(
-        &rt,
-        alloc,
-        &mut builder,
-        (3, S10),
-        (4, &[Op::Pop; 8]),
-        Ok(()),
-    )?;
-    has_rows(&rt, &builder, 4, 5, true);
-    Ok(())
+    let mut builder = protected(rt.alloc(), None)?;
+    refuses_and_takes(&rt, rt.alloc(), &mut builder)
 }
 
 // A row without groups, put by the call whose rules the caller checks.
@@ -748,8 +780,8 @@ fn there_are_at_most_10000_routers(rt: HostRuntime) -> Result<(), Fail> {
     Ok(())
 }
 
-// Adds so many labels.
-fn add_labels(alloc: Global, stacked: &mut Stacked, count: u32) -> Result<(), Fail> {
+// So many labels.
+fn stack(alloc: Global, stacked: &mut Stacked, count: u32) -> Result<(), Fail> {
     for i in 0..count {
         stacked.label(digits(alloc, i)?.as_str())?;
     }
@@ -764,7 +796,7 @@ fn refuses_label(rt: &impl Abort, stacked: &mut Stacked, name: &str) {
 #[test]
 fn there_are_at_most_20000_labels(rt: HostRuntime) -> Result<(), Fail> {
     let mut stacked = Stacked::new(rt.alloc());
-    add_labels(rt.alloc(), &mut stacked, 20000)?;
+    stack(rt.alloc(), &mut stacked, 20000)?;
     refuses_label(&rt, &mut stacked, "");
     Ok(())
 }
@@ -792,13 +824,11 @@ fn there_are_at_most_20000_links(rt: HostRuntime) -> Result<(), Fail> {
     Ok(())
 }
 
-// A router with so many links to itself, and so many labels.
-fn looped(alloc: Global, labels: u32, links: u32) -> Result<NetworkBuilder, Fail> {
+// So many labels.
+fn with_labels(alloc: Global, count: u32) -> Result<NetworkBuilder, Fail> {
     let mut stacked = Stacked::new(alloc);
-    add_labels(alloc, &mut stacked, labels)?;
-    let mut builder = stacked.builder();
-    add_loops(alloc, &mut builder, links)?;
-    Ok(builder)
+    stack(alloc, &mut stacked, count)?;
+    Ok(stacked.builder())
 }
 
 // Adds rows without groups for so many labels and links.
@@ -816,28 +846,40 @@ fn add_bare_rows(
     Ok(())
 }
 
+fn refuses_a_row(rt: &impl Abort, alloc: Global, builder: &mut NetworkBuilder) -> Result<(), Fail> {
+    add_loops(alloc, builder, 20000)?;
+    add_bare_rows(alloc, builder, 10, 20000)?;
+    let refused = Err(Limit(Limited::Rows, 200000));
+    answers_row(rt, alloc, builder, (20000, S10), (0, &[]), refused)
+}
+
 #[test]
 fn there_are_at_most_200000_rows(rt: HostRuntime) -> Result<(), Fail> {
-    let alloc = rt.alloc();
-    let mut builder = looped(alloc, 10, 20000)?;
-    add_bare_rows(alloc, &mut builder, 10, 20000)?;
-    let refused = Err(Limit(Limited::Rows, 200000));
-    answers_row(&rt, alloc, &mut builder, (20000, S10), (0, &[]), refused)
+    let mut builder = with_labels(rt.alloc(), 10)?;
+    refuses_a_row(&rt, rt.alloc(), &mut builder)
 }
 
 // Adds one row with so many members.
 fn add_members(alloc: Global, builder: &mut NetworkBuilder, count: usize) -> Result<(), Fail> {
     let links = vec![in alloc; 0; count]?;
     let groups = vec![in alloc; of_links(alloc, links.as_slice())?]?;
-    add_row(builder, 0, Label(0), groups)?;
+    add_row(builder, 0, L30, groups)?;
     Ok(())
+}
+
+fn refuses_a_member(
+    rt: &impl Abort,
+    alloc: Global,
+    builder: &mut NetworkBuilder,
+) -> Result<(), Fail> {
+    add_loops(alloc, builder, 1)?;
+    add_members(alloc, builder, 400000)?;
+    let refused = Err(Limit(Limited::Members, 400000));
+    answers_row(rt, alloc, builder, (0, S10), (9, &[]), refused)
 }
 
 #[test]
 fn there_are_at_most_400000_members(rt: HostRuntime) -> Result<(), Fail> {
-    let alloc = rt.alloc();
-    let mut builder = looped(alloc, 2, 1)?;
-    add_members(alloc, &mut builder, 400000)?;
-    let refused = Err(Limit(Limited::Members, 400000));
-    answers_row(&rt, alloc, &mut builder, (0, S10), (9, &[]), refused)
+    let mut builder = with_labels(rt.alloc(), 2)?;
+    refuses_a_member(&rt, rt.alloc(), &mut builder)
 }

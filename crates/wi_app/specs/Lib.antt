@@ -1,0 +1,5 @@
+pub mod Words
+pub mod Texts
+pub mod Edges
+pub mod Known
+pub mod Run

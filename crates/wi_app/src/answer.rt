@@ -1,0 +1,124 @@
+//! From the words to the report.
+ghost use Rattle.std.specs.Prelude.{◌≡◌, ◌⊎◌, true, ℕ, List, Option, Some, map, string_bytes, IfOk, IfErr};
+ghost use Rattle.wi_net.specs.Net.{labels_known};
+ghost use Rattle.wi_app.specs.Words.{verify_of};
+ghost use Rattle.wi_app.specs.Run.{FromBytes, FromShelf, FromWords, IsAsked, IsNetworkFile, IsReport};
+ghost use Rattle.wi_app.specs.declared.refusal.Refusal.{Refusal};
+
+use crate::literal::{Literal, LiteralRefused, read_literal};
+use crate::refusal::Refusal;
+use crate::report::{no_report, yes_report};
+use crate::search::least_run;
+use crate::text::Text;
+use crate::words::{Verify, command_of};
+use std::alloc::Global;
+use wi_base::{FetchRefused, NoMemory, Shelf};
+use wi_net::Network;
+use wi_netjson::{NetFault, Place, read_network};
+
+/// The most bytes of a network file.
+const NETWORK_LIMIT: u64 = 67_108_864;
+
+/// What is to be printed, with the exit status: 0 for yes, 1 for no.
+#[derive(Drop)]
+pub struct Printed {
+    pub status: u8,
+    pub text: Text,
+}
+
+/// What the words ask for, or why not.
+pub fn answer_of<'a, S: Shelf>(
+    alloc: Global,
+    words: &'a [String],
+    shelf: &mut S,
+) -> Result<Printed, Refusal<'a>>
+    ensures files { (other : List ℕ) → S.file shelf.new other ≡ S.file shelf.old other }
+    ensures calm { IfOk result (λ _. S.failed shelf.new ≡ S.failed shelf.old) }
+    ensures asked { IfOk result (λ _. IsAsked (S.told shelf.old) (S.file shelf.old) (verify_of (map string_bytes words.now))) }
+    ensures report { IfOk result (λ printed. IsReport printed.status printed.text) }
+    ensures refused { IfErr result (λ refusal. FromWords (S.told shelf.old) (S.file shelf.old) (verify_of (map string_bytes words.now)) (S.failed shelf.old) (S.failed shelf.new) refusal) }
+{
+    let Some(verify) = command_of(words) else {
+        return Err(Refusal::Usage);
+    };
+    answer_to(alloc, verify, shelf)
+}
+
+// What a command asks for, or why not.
+fn answer_to<'a, S: Shelf>(
+    alloc: Global,
+    verify: Verify<'a>,
+    shelf: &mut S,
+) -> Result<Printed, Refusal<'a>>
+    ensures files { (other : List ℕ) → S.file shelf.new other ≡ S.file shelf.old other }
+    ensures calm { IfOk result (λ _. S.failed shelf.new ≡ S.failed shelf.old) }
+    ensures asked { IfOk result (λ _. IsAsked (S.told shelf.old) (S.file shelf.old) (Some (verify.entry.network.now, verify.entry.query.now))) }
+    ensures report { IfOk result (λ printed. IsReport printed.status printed.text) }
+    ensures refused { IfErr result (λ refusal. FromShelf (S.told shelf.old) (S.file shelf.old verify.entry.network.now) verify.entry.network.now (S.failed shelf.old) (S.failed shelf.new) refusal) }
+{
+    let bytes = fetch(verify.network, shelf)?;
+    answer(alloc, bytes.as_slice(), verify.query)
+}
+
+// The bytes of the network file.
+fn fetch<'a, S: Shelf>(name: &'a str, shelf: &mut S) -> Result<Vec<u8>, Refusal<'a>>
+    ensures files { (other : List ℕ) → S.file shelf.new other ≡ S.file shelf.old other }
+    ensures calm { IfOk result (λ _. S.failed shelf.new ≡ S.failed shelf.old) }
+    ensures found { S.told shelf.old ≡ true → IfOk result (λ bytes. S.file shelf.old name.now ≡ Some bytes.items) }
+    ensures refused { IfErr result (λ refusal. FromShelf (S.told shelf.old) (S.file shelf.old name.now) name.now (S.failed shelf.old) (S.failed shelf.new) refusal) }
+{
+    match shelf.fetch(name, NETWORK_LIMIT) {
+        Ok(bytes) => Ok(bytes),
+        Err(FetchRefused::Failed) => Err(Refusal::CannotRead(name)),
+        Err(FetchRefused::TooBig) => Err(Refusal::Network(NetFault::OverLimit(
+            Place::File,
+            67_108_864,
+        ))),
+        Err(FetchRefused::Memory) => Err(Refusal::Memory),
+    }
+}
+
+// The answer for the bytes of a network file.
+fn answer<'a>(alloc: Global, bytes: &[u8], query: &str) -> Result<Printed, Refusal<'a>>
+    ensures network { IfOk result (λ _. IsNetworkFile bytes.now) }
+    ensures report { IfOk result (λ printed. IsReport printed.status printed.text) }
+    ensures refused { IfErr result (λ refusal. FromBytes bytes.now refusal) }
+{
+    match read_network(alloc, bytes) {
+        Ok(net) => verify(alloc, &net, query),
+        Err(fault) => Err(Refusal::Network(fault)),
+    }
+}
+
+// The answer for a network.
+fn verify<'a>(alloc: Global, net: &Network, query: &str) -> Result<Printed, Refusal<'a>>
+    ensures report { IfOk result (λ printed. IsReport printed.status printed.text) }
+    ensures refused { IfErr result (λ refusal. (refusal ≡ Refusal.NotLiteral) ⊎ (refusal ≡ Refusal.Memory)) }
+{
+    let query = match read_literal(alloc, net, query) {
+        Ok(query) => query,
+        Err(LiteralRefused::NotLiteral) => return Err(Refusal::NotLiteral),
+        Err(LiteralRefused::Memory) => return Err(Refusal::Memory),
+    };
+    match decided(alloc, net, &query) {
+        Ok(printed) => Ok(printed),
+        Err(NoMemory::Memory) => Err(Refusal::Memory),
+    }
+}
+
+// The report on a query.
+fn decided(alloc: Global, net: &Network, query: &Literal) -> Result<Printed, NoMemory>
+    requires { labels_known net.now query.now.first.items ≡ true }
+    ensures { IfOk result (λ printed. IsReport printed.status printed.text) }
+{
+    match least_run(alloc, net, query)? {
+        Some(found) => {
+            let text = yes_report(alloc, net, &found)?;
+            Ok(Printed { status: 0, text })
+        }
+        None => {
+            let text = no_report(alloc)?;
+            Ok(Printed { status: 1, text })
+        }
+    }
+}

@@ -1,0 +1,54 @@
+//! Whole files and whole pieces, by reads and writes that may each take only a part.
+ghost use Rattle.std.specs.Prelude.{◌≤◌, ◌<◌, ◌≡◌, IfOk, IfSome, IsErrOf, OnOk, length, vec_len};
+ghost use Rattle.std.specs.Io.KnownBytes.{Appends};
+
+use std::alloc::Global;
+use std::io::{self, ErrorKind, Read, Write};
+use wi_base::FetchRefused;
+
+// How many bytes one read asks for.
+const PIECE: usize = 65_536;
+
+/// All that a reader gives, `limit` bytes at most. It is too big as soon as more have come, so a reader
+/// without an end is too. A read of nothing is the end.
+pub fn read_within<R: Read>(
+    alloc: Global,
+    from: &mut R,
+    limit: u64,
+) -> Result<Vec<u8>, FetchRefused>
+    ensures short { IfOk result (λ bytes. vec_len bytes ≤ limit) }
+    ensures whole { IfOk result (λ bytes. IfSome (R.remaining from.old) (λ given. bytes.items ≡ given)) }
+    ensures too_big { IsErrOf result FetchRefused.TooBig → IfSome (R.remaining from.old) (λ given. limit < length given) }
+{
+    let mut bytes = Vec::new(alloc);
+    let mut piece = [0; PIECE];
+    loop {
+        let Ok(taken) = from.read(&mut piece) else {
+            return Err(FetchRefused::Failed);
+        };
+        if taken == 0 {
+            return Ok(bytes);
+        }
+        if bytes.extend_from_slice(&piece[..taken]).is_err() {
+            return Err(FetchRefused::Memory);
+        }
+        if bytes.len() as u64 > limit {
+            return Err(FetchRefused::TooBig);
+        }
+    }
+}
+
+/// Writes a piece whole. A write that takes nothing of what is left has failed, so each turn takes a byte at least.
+pub fn write_whole<W: Write>(to: &mut W, piece: &[u8]) -> io::Result<()>
+    ensures { OnOk result (Appends (W.contents to.old) (W.contents to.new) piece.now) }
+{
+    let mut rest = piece;
+    while !rest.is_empty() {
+        let written = to.write(rest)?;
+        if written == 0 {
+            return Err(io::Error::from(ErrorKind::WriteZero));
+        }
+        rest = &rest[written..];
+    }
+    Ok(())
+}

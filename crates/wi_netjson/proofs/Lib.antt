@@ -5,3 +5,11 @@ pub mod LinkRules
 pub mod Held
 pub mod FoundLemmas
 pub mod RowRules
+pub mod WrittenLemmas
+pub mod TextLemmas
+pub mod PlaceLemmas
+pub mod ReadNames
+pub mod ReadGroups
+pub mod ReadLinks
+pub mod ReadTables
+pub mod RoundTrip

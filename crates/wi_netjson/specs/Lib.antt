@@ -6,3 +6,4 @@ pub mod Links
 pub mod Operations
 pub mod Tables
 pub mod File
+pub mod Written

@@ -9,9 +9,11 @@ mod operations;
 mod routers;
 mod shape;
 mod tables;
+mod written;
 
 pub use fault::{LinkPart, MemberPart, NetFault, Place, TablePart};
 pub use file::read_network;
+pub use written::write_network;
 
 #[cfg(test)]
 mod tests;

@@ -1,5 +1,5 @@
 //! Network files by example.
-use crate::read_network;
+use crate::{read_network, write_network};
 use std::alloc::{AllocError, Global};
 use std::test::Fail;
 use wi_labels::{Class, Label};
@@ -517,5 +517,55 @@ fn faults_of_risk_groups(rt: HostRuntime) -> Result<(), Fail> {
         let text = judged(rt.alloc(), text.as_bytes())?;
         assert_eq!(rt; text.as_str(), wanted);
     }
+    Ok(())
+}
+
+// The text that is written of the network that bytes mean.
+fn rewritten(alloc: Global, bytes: &[u8]) -> Result<Vec<u8>, AllocError> {
+    match read_network(alloc, bytes) {
+        Ok(network) => match write_network(alloc, &network) {
+            Ok(text) => Ok(text),
+            Err(_) => Err(AllocError),
+        },
+        Err(_) => Ok(Vec::new(alloc)),
+    }
+}
+
+const CANONICAL: &str =
+    r#"{"format":"mpls-whatif-1","labels":{"ip":["ip1"],"mpls":["30"],"smpls":["s10"]},"links":[{"distance":1,"from":"x","in":"x","out":"o","to":"a"},{"distance":1,"from":"a","in":"a","out":"b","to":"b"},{"distance":2,"from":"a","in":"a","out":"c","to":"c"},{"distance":2,"from":"c","in":"c","out":"b","to":"b"},{"distance":1,"from":"b","in":"b","out":"y","to":"y"}],"routers":["x","a","b","c","y"],"tables":[{"at":"a","groups":[[{"ops":[["push","s10"]],"out":"b"}],[{"ops":[["push","s10"],["push","30"]],"out":"c"}]],"in":"x","label":"ip1"},{"at":"b","groups":[[{"ops":[["pop"]],"out":"y"}]],"in":"a","label":"s10"},{"at":"c","groups":[[{"ops":[["pop"]],"out":"b"}]],"in":"a","label":"30"},{"at":"b","groups":[[{"ops":[["pop"]],"out":"y"}]],"in":"c","label":"s10"}]}"#;
+
+#[test]
+fn the_canonical_text(rt: HostRuntime) -> Result<(), Fail> {
+    let alloc = rt.alloc();
+    let text = rewritten(alloc, N1.as_bytes())?;
+    assert!(rt; text.as_slice() == CANONICAL.as_bytes());
+    let again = rewritten(alloc, text.as_slice())?;
+    assert!(rt; again.as_slice() == CANONICAL.as_bytes());
+    Ok(())
+}
+
+#[test]
+fn the_canonical_text_of_risk_groups(rt: HostRuntime) -> Result<(), Fail> {
+    let alloc = rt.alloc();
+    let fiber = r#""group":"fiber""#;
+    let text = with_groups(alloc, "mpls-whatif-2", fiber, fiber)?;
+    let versioned = CANONICAL.replace(alloc, "mpls-whatif-1", "mpls-whatif-2")?;
+    let first = versioned.replace(
+        alloc,
+        r#""from":"a","in":"a","out":"b""#,
+        r#""from":"a","group":"g1","in":"a","out":"b""#,
+    )?;
+    let wanted = first.replace(
+        alloc,
+        r#""from":"b","in":"b""#,
+        r#""from":"b","group":"g1","in":"b""#,
+    )?;
+    let written = rewritten(alloc, text.as_bytes())?;
+    assert!(rt; written.as_slice() == wanted.as_bytes());
+    let again = rewritten(alloc, written.as_slice())?;
+    assert!(rt; again.as_slice() == wanted.as_bytes());
+    let alone = with_groups(alloc, "mpls-whatif-2", fiber, r#""note":1"#)?;
+    let written = rewritten(alloc, alone.as_bytes())?;
+    assert!(rt; written.as_slice() == CANONICAL.as_bytes());
     Ok(())
 }

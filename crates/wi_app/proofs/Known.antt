@@ -19,11 +19,11 @@ use Rattle.wi_net.specs.declared.parts.Link.{Link}
 use Rattle.wi_net.specs.declared.parts.RouterId.{RouterId}
 use Rattle.wi_net.specs.Net.{Net, is_link, label_known, labels_known, entry}
 use Rattle.wi_net.specs.Tables.{is_row, groups_in}
-use Rattle.wi_net.specs.Network.{IsNetwork, op_known, leaves, is_member_at, is_group_at, is_row_of}
+use Rattle.wi_net.specs.Network.{IsNetwork, op_known, is_member_of}
 use Rattle.wi_app.specs.Known.{members_known}
 use Rattle.wi_net.proofs.KeptLists.{all_get}
-use Rattle.wi_net.proofs.GroupLemmas.{all_weaken, leaves_link}
-use Rattle.wi_net.proofs.MemberLemmas.{get_within, get_read}
+use Rattle.wi_net.proofs.GroupLemmas.{entry_groups, members_links}
+use Rattle.std.proofs.lemmas.Option.{slice_get_within}
 
 class_self : (c : Class) → same_class c c ≡ true
 class_self Mpls = refl
@@ -43,56 +43,17 @@ known_label net h i l k known e = go (slice_get net.classes l.0.0) refl
 
     go : (o : Option Class) → slice_get net.classes l.0.0 ≡ o → l.0.0 < length net.labels
     go None eo = let none : false ≡ true = rw eo at here in cc
-    go (Some c) eo = let within = get_within net.classes l.0.0 c eo in omega (arith, within, k.classes)
-
--- what a network keeps of the members of an entry
-abbrev member_kept : Net → Member → Bool
-member_kept net m = is_link net m.link && list_all (op_known net) m.ops
-
-abbrev groups_kept : Net → List (List Member) → Bool
-groups_kept net gs = list_all (λ g. list_all (member_kept net) g) gs
-
-row_kept : (net : Net) (row : Row) → is_row_of net row ≡ true → groups_kept net row.groups ≡ true
-row_kept net row h = go (slice_get net.links row.link.0) refl
-  where
-    parts : (nat_lt row.label.0 (length net.labels) ≡ true) × (option_map_or (λ (l : Link). list_all (is_group_at net l.to) row.groups) (slice_get net.links row.link.0) false ≡ true)
-    parts = and_parts (nat_lt row.label.0 (length net.labels)) (option_map_or (λ (l : Link). list_all (is_group_at net l.to) row.groups) (slice_get net.links row.link.0) false) h
-
-    member : (r : RouterId) (m : Member) → is_member_at net r m ≡ true → member_kept net m ≡ true
-    member r m q =
-        let a = and_parts (leaves net r m.link) (nat_le (length m.ops) 8 && list_all (op_known net) m.ops) q in
-        let b = and_parts (nat_le (length m.ops) 8) (list_all (op_known net) m.ops) a.1 in
-        and_from (is_link net m.link) (list_all (op_known net) m.ops) (leaves_link net r m.link a.0) b.1
-
-    group : (r : RouterId) (g : List Member) → is_group_at net r g ≡ true → list_all (member_kept net) g ≡ true
-    group r g q = all_weaken (is_member_at net r) (member_kept net) g (member r) ((and_parts (nat_lt 0 (length g)) (list_all (is_member_at net r) g) q).1)
-
-    go : (o : Option Link) → slice_get net.links row.link.0 ≡ o → groups_kept net row.groups ≡ true
-    go None eo = let none : false ≡ true = rw eo at parts.1 in cc
-    go (Some l) eo = all_weaken (is_group_at net l.to) (λ g. list_all (member_kept net) g) row.groups (group l.to) (rw eo at parts.1)
-
-entry_kept : (net : Net) (rows : List Row) (e : LinkId) (l : Label) → list_all (is_row_of net) rows ≡ true → groups_kept net (groups_in rows e l) ≡ true
-entry_kept net [] e l k = refl
-entry_kept net (row ∷ rows) e l k = go (is_row e l row) refl (entry_kept net rows e l)
-  where
-    parts : (is_row_of net row ≡ true) × (list_all (is_row_of net) rows ≡ true)
-    parts = and_parts (is_row_of net row) (list_all (is_row_of net) rows) k
-
-    go : (b : Bool) → is_row e l row ≡ b → (list_all (is_row_of net) rows ≡ true → groups_kept net (groups_in rows e l) ≡ true) → groups_kept net (groups_in (row ∷ rows) e l) ≡ true
-    go true eb ih = rw eb (row_kept net row parts.0)
-    go false eb ih = rw eb (ih parts.1)
+    go (Some c) eo = let within = slice_get_within net.classes l.0.0 c eo in omega (arith, within, k.classes)
 
 -- the members of a group of an entry have links of the network
 pub group_links : (net : Net) (e : LinkId) (l : Label) (j : ℕ) (g : List Member) → IsNetwork net → slice_get (entry net e l) j ≡ Some g → members_known net g ≡ true
-group_links net e l j g k at =
-    let kept : list_all (member_kept net) g ≡ true = all_get (λ x. list_all (member_kept net) x) (entry net e l) j g (entry_kept net net.rows e l k.rows) at in
-    all_weaken (member_kept net) (λ (m : Member). is_link net m.link) g (λ m q. (and_parts (is_link net m.link) (list_all (op_known net) m.ops) q).0) kept
+group_links net e l j g k at = members_links net g (all_get (λ x. list_all (is_member_of net) x) (entry net e l) j g (entry_groups net e l k) at)
 
 -- and so has a member, and its operations have labels of the network
 pub member_kept_at : (net : Net) (e : LinkId) (l : Label) (j i : ℕ) (g : List Member) (m : Member) → IsNetwork net → slice_get (entry net e l) j ≡ Some g → slice_get g i ≡ Some m → (is_link net m.link ≡ true) × (list_all (op_known net) m.ops ≡ true)
 member_kept_at net e l j i g m k at here =
-    let kept : list_all (member_kept net) g ≡ true = all_get (λ x. list_all (member_kept net) x) (entry net e l) j g (entry_kept net net.rows e l k.rows) at in
-    and_parts (is_link net m.link) (list_all (op_known net) m.ops) (all_get (member_kept net) g i m kept here)
+    let kept : list_all (is_member_of net) g ≡ true = all_get (λ x. list_all (is_member_of net) x) (entry net e l) j g (entry_groups net e l k) at in
+    and_parts (is_link net m.link) (list_all (op_known net) m.ops) (all_get (is_member_of net) g i m kept here)
 
 -- operations with known labels leave a known header known
 op_keeps : (net : Net) (op : Op) (h next : List Entry) → op_known net op ≡ true → labels_known net h ≡ true → after_op op h ≡ Some next → labels_known net next ≡ true

@@ -17,7 +17,7 @@ use wi_net::Network;
 use wi_netjson::{NetFault, Place, read_network};
 
 /// The most bytes of a network file.
-const NETWORK_LIMIT: u64 = 67_108_864;
+const NETWORK_LIMIT: u32 = 67_108_864;
 
 /// What is to be printed, with the exit status: 0 for yes, 1 for no.
 #[derive(Drop)]
@@ -67,12 +67,12 @@ fn fetch<'a, S: Shelf>(name: &'a str, shelf: &mut S) -> Result<Vec<u8>, Refusal<
     ensures found { S.told shelf.old ≡ true → IfOk result (λ bytes. S.file shelf.old name.now ≡ Some bytes.items) }
     ensures refused { IfErr result (λ refusal. FromShelf (S.told shelf.old) (S.file shelf.old name.now) name.now (S.failed shelf.old) (S.failed shelf.new) refusal) }
 {
-    match shelf.fetch(name, NETWORK_LIMIT) {
+    match shelf.fetch(name, NETWORK_LIMIT as u64) {
         Ok(bytes) => Ok(bytes),
         Err(FetchRefused::Failed) => Err(Refusal::CannotRead(name)),
         Err(FetchRefused::TooBig) => Err(Refusal::Network(NetFault::OverLimit(
             Place::File,
-            67_108_864,
+            NETWORK_LIMIT,
         ))),
         Err(FetchRefused::Memory) => Err(Refusal::Memory),
     }

@@ -1,12 +1,12 @@
 -- How many risk groups a union of them has.
-use Rattle.std.proofs.Common.{◌≡◌, ◌≢◌, ℕ, zero, suc, ◌+◌, ◌-◌, ◌<◌, ◌≤◌, Bool, true, false, not, cond, ◌&&◌, ◌||◌, nat_eq, nat_lt, nat_le, List, [], ◌∷◌, length, refl, arith, ap, inl, inr, ◌⊎◌, sym, ◌∙◌}
-use Rattle.std.proofs.lemmas.Bool.{eqb-true, eq-eqb, and_parts, and_from, and_left, and_right, not-true, not_from_false, not_from_true, or_cases, or_left, or_right, false_from_ne_true, cases_Bool, true≢false, cond_both}
+use Rattle.std.proofs.Common.{◌≡◌, ℕ, zero, suc, ◌+◌, ◌<◌, ◌≤◌, Bool, true, false, not, cond, ◌&&◌, ◌||◌, nat_eq, nat_le, List, [], ◌∷◌, length, refl, arith, ap, inl, inr, ◌⊎◌, sym, ◌∙◌}
+use Rattle.std.proofs.lemmas.Bool.{eqb-true, eq-eqb, and_parts, and_from, not-true, not_from_false, not_from_true, or_cases, or_left, or_right, false_from_ne_true, true≢false, cond_both}
 use Rattle.std.proofs.lemmas.Bool.Decides.{nat_tests}
-use Rattle.std.specs.List.{filter, list_any, list_all}
+use Rattle.std.specs.List.{filter, list_any}
 use Rattle.wi_net.specs.declared.parts.LinkId.{LinkId}
 use Rattle.wi_net.specs.Net.{Net}
-use Rattle.wi_net.specs.LinkSet.{links_from, has, is_within, is_apart, outside}
-use Rattle.wi_net.specs.Net.{with_risk, without_risk, all_links, links_where, is_link, risk_of, same_risk, widened, risk_count}
+use Rattle.wi_net.specs.LinkSet.{links_from, has, outside}
+use Rattle.wi_net.specs.Net.{with_risk, all_links, links_where, is_link, risk_of, same_risk, widened, risk_count}
 use Rattle.wi_net.specs.Network.{IsNetwork, is_risk_named}
 use Rattle.wi_net.proofs.SetLemmas.{same_link, same_risk_flip, has-all_links, has-links_where, has_where, where_has, union_has, union_link, all_at, any_in, in_any, same_risk_self}
 

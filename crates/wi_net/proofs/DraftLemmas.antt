@@ -1,5 +1,5 @@
 -- The fields of a builder after a call are those of a draft that is kept.
-use Rattle.std.proofs.Common.{◌≡◌, ℕ, ◌+◌, ◌<◌, Bool, true, false, List, [], ◌∷◌, ◌++◌, length, position, Option, Some, None, Result, Ok, refl, sym, ap, subst, ◌∙◌}
+use Rattle.std.proofs.Common.{◌≡◌, ℕ, ◌<◌, true, false, List, [], ◌∷◌, ◌++◌, length, position, Option, Some, None, Ok, refl, sym, subst}
 use Rattle.std.specs.Prelude.{is_some}
 use Rattle.std.specs.List.{list_all}
 use Rattle.wi_labels.specs.declared.label.Class.{Class}
@@ -9,7 +9,7 @@ use Rattle.wi_net.specs.declared.parts.Link.{Link}
 use Rattle.wi_net.specs.Names.{is_name, place, number_of, with_name}
 use Rattle.wi_net.specs.Ends.{is_out, is_in}
 use Rattle.wi_net.specs.Network.{is_no_later}
-use Rattle.wi_net.specs.Builder.{Draft, IsDraft, with_router, with_label, link_ends, named_with, firsts_with, first_in}
+use Rattle.wi_net.specs.Builder.{Draft, IsDraft, link_ends, named_with, firsts_with, first_in}
 use Rattle.wi_net.proofs.KeptLemmas.{router_kept, label_kept, link_kept, free_ends}
 
 -- what isn't there is nothing

@@ -1,7 +1,6 @@
 -- The ends of the links of a network.
-use Rattle.std.proofs.Common.{◌≡◌, ℕ, true, nat_lt, List, length, slice_get, Some, arith}
+use Rattle.std.proofs.Common.{◌≡◌, ℕ, true, nat_lt, length, slice_get, Some}
 use Rattle.std.specs.Prelude.{◌&&◌}
-use Rattle.std.specs.List.{list_all}
 use Rattle.std.proofs.lemmas.Bool.{ltb-true, and_parts}
 use Rattle.wi_net.specs.declared.parts.Link.{Link}
 use Rattle.wi_net.specs.Net.{Net}

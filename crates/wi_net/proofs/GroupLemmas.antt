@@ -1,7 +1,8 @@
 -- First active groups, and what must have failed before them.
-use Rattle.std.proofs.Common.{◌≡◌, ◌≢◌, ℕ, zero, suc, ◌+◌, ◌<◌, ◌≤◌, Bool, true, false, not, cond, ◌&&◌, ◌||◌, nat_eq, nat_lt, nat_le, List, [], ◌∷◌, length, take, slice_get, Option, Some, None, refl, arith, ap, inl, inr, ◌⊎◌, sym, ◌∙◌, add-one, one-add}
-use Rattle.std.proofs.lemmas.Bool.{and_parts, and_from, not-true, not-false, not_from_false, not_from_true, or_cases, or_left, or_right, or_parts, or_from, false_from_ne_true, cases_Bool, true≢false, ltb-true, ltb-false, lt-ltb, le-ltb}
-use Rattle.std.specs.List.{filter, list_any, list_all, prefix_len, position}
+use Rattle.std.proofs.Common.{◌≡◌, ℕ, zero, suc, ◌+◌, Bool, true, false, not, ◌&&◌, ◌||◌, nat_lt, nat_le, List, [], ◌∷◌, length, take, slice_get, Option, Some, None, refl, arith, ap, inl, inr, sym, ◌∙◌, one-add}
+use Rattle.std.proofs.lemmas.Bool.{and_parts, and_from, not-true, not-false, not_from_false, or_cases, or_left, or_right, or_parts, false_from_ne_true, true≢false, ltb-true, ltb-false, lt-ltb, le-ltb}
+use Rattle.std.proofs.lemmas.Option.{slice_get_within}
+use Rattle.std.specs.List.{list_any, list_all, prefix_len}
 use Rattle.std.specs.Option.{option_map, option_map_or}
 use Rattle.wi_labels.specs.declared.label.Label.{Label}
 use Rattle.wi_net.specs.declared.parts.LinkId.{LinkId}
@@ -13,7 +14,7 @@ use Rattle.wi_net.specs.Net.{Net}
 use Rattle.wi_net.specs.LinkSet.{has}
 use Rattle.wi_net.specs.Net.{is_link, same_risk, widened, is_active, first_active, before, entry}
 use Rattle.wi_net.specs.Tables.{is_row, groups_in}
-use Rattle.wi_net.specs.Network.{leaves, op_known, is_member_at, is_group_at, is_row_of, IsNetwork}
+use Rattle.wi_net.specs.Network.{leaves, op_known, is_member_of, are_groups_of, is_member_at, is_group_at, is_row_of, IsNetwork}
 use Rattle.wi_net.proofs.SetLemmas.{where_has, has_where, union_has, same_risk_self}
 
 -- a link of one of the groups passes a test
@@ -140,49 +141,55 @@ all_weaken p q (x ∷ xs) each h =
     let parts = and_parts (p x) (list_all p xs) h in
     and_from (q x) (list_all q xs) (each x parts.0) (all_weaken p q xs each parts.1)
 
--- an element stands within the list
-get_within : {X : Type 0} (xs : List X) (i : ℕ) (x : X) → slice_get xs i ≡ Some x → i < length xs
-get_within [] i x e = cc
-get_within (y ∷ xs) zero x e = omega arith
-get_within (y ∷ xs) (suc i) x e = let ih = get_within xs i x e in omega (arith, ih)
-
 -- a link that leaves a router is one of the network's
 pub leaves_link : (net : Net) (router : RouterId) (e : LinkId) → leaves net router e ≡ true → is_link net e ≡ true
 leaves_link net router e h = go (slice_get net.links e.0) refl
   where
     go : (o : Option Link) → slice_get net.links e.0 ≡ o → is_link net e ≡ true
     go None eo = let none : false ≡ true = rw eo at h in cc
-    go (Some l) eo = lt-ltb e.0 (length net.links) (get_within net.links e.0 l eo)
+    go (Some l) eo = lt-ltb e.0 (length net.links) (slice_get_within net.links e.0 l eo)
 
-row_known : (net : Net) (row : Row) → is_row_of net row ≡ true → groups_known net row.groups ≡ true
-row_known net row h = go (slice_get net.links row.link.0) refl
+-- a member that a table of a router may have is one of the network's, and so are the groups of a row
+member_of : (net : Net) (r : RouterId) (m : Member) → is_member_at net r m ≡ true → is_member_of net m ≡ true
+member_of net r m h =
+    let parts = and_parts (leaves net r m.link) (nat_le (length m.ops) 8 && list_all (op_known net) m.ops) h in
+    let ops = and_parts (nat_le (length m.ops) 8) (list_all (op_known net) m.ops) parts.1 in
+    and_from (is_link net m.link) (list_all (op_known net) m.ops) (leaves_link net r m.link parts.0) ops.1
+
+group_of : (net : Net) (r : RouterId) (g : List Member) → is_group_at net r g ≡ true → list_all (is_member_of net) g ≡ true
+group_of net r g h = all_weaken (is_member_at net r) (is_member_of net) g (member_of net r) ((and_parts (nat_lt 0 (length g)) (list_all (is_member_at net r) g) h).1)
+
+pub row_groups : (net : Net) (row : Row) → is_row_of net row ≡ true → are_groups_of net row.groups ≡ true
+row_groups net row h = go (slice_get net.links row.link.0) refl
   where
     parts : (nat_lt row.label.0 (length net.labels) ≡ true) × (option_map_or (λ (l : Link). list_all (is_group_at net l.to) row.groups) (slice_get net.links row.link.0) false ≡ true)
     parts = and_parts (nat_lt row.label.0 (length net.labels)) (option_map_or (λ (l : Link). list_all (is_group_at net l.to) row.groups) (slice_get net.links row.link.0) false) h
 
-    member : (r : RouterId) (m : Member) → is_member_at net r m ≡ true → is_link net m.link ≡ true
-    member r m k = leaves_link net r m.link ((and_parts (leaves net r m.link) (nat_le (length m.ops) 8 && list_all (op_known net) m.ops) k).0)
-
-    group : (r : RouterId) (g : List Member) → is_group_at net r g ≡ true → list_all (λ (m : Member). is_link net m.link) g ≡ true
-    group r g k = all_weaken (is_member_at net r) (λ (m : Member). is_link net m.link) g (member r) ((and_parts (nat_lt 0 (length g)) (list_all (is_member_at net r) g) k).1)
-
-    go : (o : Option Link) → slice_get net.links row.link.0 ≡ o → groups_known net row.groups ≡ true
+    go : (o : Option Link) → slice_get net.links row.link.0 ≡ o → are_groups_of net row.groups ≡ true
     go None eo = let none : false ≡ true = rw eo at parts.1 in cc
-    go (Some l) eo = all_weaken (is_group_at net l.to) (λ g. list_all (λ (m : Member). is_link net m.link) g) row.groups (group l.to) (rw eo at parts.1)
+    go (Some l) eo = all_weaken (is_group_at net l.to) (λ g. list_all (is_member_of net) g) row.groups (group_of net l.to) (rw eo at parts.1)
 
-known_in : (net : Net) (rows : List Row) (e : LinkId) (l : Label) → list_all (is_row_of net) rows ≡ true → groups_known net (groups_in rows e l) ≡ true
-known_in net [] e l k = refl
-known_in net (row ∷ rows) e l k = go (is_row e l row) refl (known_in net rows e l)
+groups_of_rows : (net : Net) (rows : List Row) (e : LinkId) (l : Label) → list_all (is_row_of net) rows ≡ true → are_groups_of net (groups_in rows e l) ≡ true
+groups_of_rows net [] e l k = refl
+groups_of_rows net (row ∷ rows) e l k = go (is_row e l row) refl (groups_of_rows net rows e l)
   where
     parts : (is_row_of net row ≡ true) × (list_all (is_row_of net) rows ≡ true)
     parts = and_parts (is_row_of net row) (list_all (is_row_of net) rows) k
 
-    go : (b : Bool) → is_row e l row ≡ b → (list_all (is_row_of net) rows ≡ true → groups_known net (groups_in rows e l) ≡ true) → groups_known net (groups_in (row ∷ rows) e l) ≡ true
-    go true eb ih = rw eb (row_known net row parts.0)
+    go : (b : Bool) → is_row e l row ≡ b → (list_all (is_row_of net) rows ≡ true → are_groups_of net (groups_in rows e l) ≡ true) → are_groups_of net (groups_in (row ∷ rows) e l) ≡ true
+    go true eb ih = rw eb (row_groups net row parts.0)
     go false eb ih = rw eb (ih parts.1)
 
+-- the groups of an entry have members of the network
+pub entry_groups : (net : Net) (e : LinkId) (l : Label) → IsNetwork net → are_groups_of net (entry net e l) ≡ true
+entry_groups net e l k = groups_of_rows net net.rows e l k.rows
+
+-- members of the network have links of it
+pub members_links : (net : Net) (g : List Member) → list_all (is_member_of net) g ≡ true → list_all (λ (m : Member). is_link net m.link) g ≡ true
+members_links net g h = all_weaken (is_member_of net) (λ (m : Member). is_link net m.link) g (λ m k. (and_parts (is_link net m.link) (list_all (op_known net) m.ops) k).0) h
+
 pub entry_known : (net : Net) (e : LinkId) (l : Label) → IsNetwork net → groups_known net (entry net e l) ≡ true
-entry_known net e l k = known_in net net.rows e l k.rows
+entry_known net e l k = all_weaken (λ g. list_all (is_member_of net) g) (λ g. list_all (λ (m : Member). is_link net m.link) g) (entry net e l) (members_links net) (entry_groups net e l k)
 
 -- where what a group needs has failed, no group before it is active
 pub none_before : (net : Net) (fails : List LinkId) (gs : List (List Member)) (j : ℕ) → groups_known net gs ≡ true → ((e : LinkId) → has (before net gs j) e ≡ true → has fails e ≡ true) → list_any (λ g. is_active fails g) (take j gs) ≡ false

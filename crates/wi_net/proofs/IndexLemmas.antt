@@ -1,6 +1,6 @@
 -- The index from a risk group to its links.
-use Rattle.std.proofs.Common.{◌≡◌, ◌≢◌, ℕ, zero, suc, ◌+◌, ◌<◌, ◌≤◌, ◌^◌, Bool, true, false, not, cond, ◌&&◌, ◌||◌, nat_eq, nat_lt, nat_le, List, [], ◌∷◌, ◌++◌, length, map, take, slice_get, slice_set, Option, Some, None, refl, arith, ap, inl, inr, ◌⊎◌, sym, ◌∙◌, add-one, one-add, add-zero}
-use Rattle.std.proofs.lemmas.Bool.{eqb-true, eqb-false, eq-eqb, ne_eqb, ltb-true, ltb-false, lt-ltb, le-ltb, and_parts, and_from, or_cases, or_left, or_right, or_from, cases_Bool, true≢false}
+use Rattle.std.proofs.Common.{◌≡◌, ℕ, zero, suc, ◌+◌, ◌<◌, ◌≤◌, Bool, true, false, ◌&&◌, ◌||◌, nat_eq, nat_lt, List, [], ◌∷◌, ◌++◌, length, map, slice_get, slice_set, Some, None, refl, arith, ap, sym, ◌∙◌}
+use Rattle.std.proofs.lemmas.Bool.{eq-eqb, ne_eqb, ltb-true, ltb-false, lt-ltb, le-ltb, and_parts}
 use Rattle.std.proofs.lemmas.Bool.Decides.{nat_tests}
 use Rattle.std.specs.List.{filter, list_any, list_all, range_with_len}
 use Rattle.std.specs.Option.{option_map_or}
@@ -9,10 +9,9 @@ use Rattle.wi_net.specs.declared.parts.Link.{Link}
 use Rattle.wi_net.specs.LinkSet.{has, is_rising, with_link, links_from, numbers_where, risk_in, sharing}
 use Rattle.wi_net.specs.RiskGroups.{union, named_by, gathered}
 use Rattle.wi_net.specs.Network.{groups_of}
-use Rattle.wi_net.proofs.SetLemmas.{has-filter, has-links_from, lt_zero_plus, same_link, all_from, all_at}
-use Rattle.wi_net.proofs.CountLemmas.{bool_same, filter_same}
-use Rattle.wi_net.proofs.RisingLemmas.{rising_same, with_rising, filter_rising}
-use Rattle.wi_net.proofs.WidenLemmas.{filter_next, filter_yes, filter_no, links_rising, union_rising, has-union, union_keeps_rising}
+use Rattle.wi_net.proofs.SetLemmas.{has-filter, has-links_from, lt_zero_plus, same_link, all_from}
+use Rattle.wi_net.proofs.RisingLemmas.{rising_same, filter_rising}
+use Rattle.wi_net.proofs.WidenLemmas.{filter_yes, filter_no, links_rising, has-union, union_keeps_rising}
 
 abbrev in_group : List Link → LinkId → LinkId → Bool
 in_group links r e = nat_eq (risk_in links e).0 r.0
@@ -184,6 +183,11 @@ gathered_is links rs within =
     (gathered_rising (groups_of links) [] rs refl)
     (filter_rising (λ e. has rs (risk_in links e)) (links_from 0 (length links)) (links_rising 0 (length links)))
     (λ e. has-gathered (groups_of links) [] rs e ∙ any_named links rs e within ∙ sym (has-filter (λ x. has rs (risk_in links x)) (links_from 0 (length links)) e ∙ ap (λ b. b && has rs (risk_in links e)) (has-links_from 0 (length links) e ∙ lt_zero_plus e.0 (length links))))
+
+-- what an index gathers for risk groups, by whichever way they are told
+pub union_is : (links : List Link) (index : List (List LinkId)) (rs risks : List LinkId) → index ≡ groups_of links → list_all (λ (l : Link). nat_lt l.risk.0 (length links)) links ≡ true → rs ≡ risks
+    → gathered index [] rs ≡ numbers_where links (λ e. has risks (risk_in links e))
+union_is links index rs risks index_is within is = ap (λ (i : List (List LinkId)). gathered i [] rs) index_is ∙ ap (λ (r : List LinkId). gathered (groups_of links) [] r) is ∙ gathered_is links risks within
 
 pub shared_count : (links : List Link) (i n : ℕ) → length (shared_among links i n) ≡ n
 shared_count links i n = count 0 n

@@ -22,7 +22,7 @@ use Rattle.wi_net.specs.Builder.{Draft, IsDraft, empty, is_first, with_router, w
 use Rattle.wi_net.proofs.GroupLemmas.{all_weaken}
 use Rattle.wi_net.proofs.KeptLists.{nothing_is, all_push, all_get, get_before, place_before, there_from, rule_held, known_held, step_held, given_is}
 use Rattle.wi_net.proofs.KeptNames.{names_push, names_with, names_longer, number_within}
-use Rattle.wi_net.proofs.KeptLinks.{ends_push, out_free, in_free, with_last, first_more, first_new, risks_push, risks_in}
+use Rattle.wi_net.proofs.KeptLinks.{ends_push, turn_push, out_free, in_free, with_last, first_more, first_new, risks_push, risks_in}
 use Rattle.wi_net.proofs.KeptRows.{Grows, links_more, rows_more, rows_apart_push, row_members_push, groups_held}
 
 -- the risk group of each link is named by a link of the network
@@ -38,6 +38,7 @@ empty_kept = record {
     classes = refl;
     in_order = refl;
     interfaces = refl;
+    in_turn = refl;
     links = refl;
     ends = refl;
     risks = refl;
@@ -68,6 +69,7 @@ router_kept d name k room good new =
         classes = k.net.classes;
         in_order = k.net.in_order;
         interfaces = k.net.interfaces;
+        in_turn = k.net.in_turn;
         links = links_more d.net ((with_router d name).net) d.net.links g k.net.links;
         ends = k.net.ends;
         risks = k.net.risks;
@@ -108,6 +110,7 @@ label_kept d class name k later room good new =
         classes = omega (arith, count, classes, length-append d.net.classes (class ∷ []));
         in_order = order_push d.net.classes class k.net.in_order later;
         interfaces = k.net.interfaces;
+        in_turn = k.net.in_turn;
         links = links_more d.net ((with_label d class name).net) d.net.links g k.net.links;
         ends = k.net.ends;
         risks = k.net.risks;
@@ -231,6 +234,7 @@ link_kept d from out to into distance group ends k e =
         classes = k.net.classes;
         in_order = k.net.in_order;
         interfaces = names_with (with_name d.net.interfaces out) into (names_with d.net.interfaces out k.net.interfaces fits.out_named) fits.in_named;
+        in_turn = turn_push d.net.interfaces out into d.net.links l k.net.in_turn refl refl;
         links = all_push (is_link_of new.net) d.net.links l (links_more d.net new.net d.net.links grows k.net.links) link_is;
         ends = ends_push d.net.links l k.net.ends free.0 free.1;
         risks = risks_push d.net l k.net.risks (joins_held d group k.firsts);
@@ -325,6 +329,7 @@ row_kept d row k e =
         classes = k.net.classes;
         in_order = k.net.in_order;
         interfaces = k.net.interfaces;
+        in_turn = k.net.in_turn;
         links = k.net.links;
         ends = k.net.ends;
         risks = k.net.risks;

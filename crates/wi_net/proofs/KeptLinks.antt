@@ -1,5 +1,5 @@
 -- A network's links with a link more: their ends, and their risk groups.
-use Rattle.std.proofs.Common.{◌≡◌, ℕ, ◌+◌, ◌<◌, ◌≤◌, Bool, true, false, ◌&&◌, ◌==◌, ◌⊎◌, inl, inr, nat_lt, nat_le, List, [], ◌∷◌, ◌++◌, length, position, slice_get, Some, None, refl, sym, ap, ◌∙◌, arith, length-append}
+use Rattle.std.proofs.Common.{◌≡◌, ℕ, ◌+◌, ◌<◌, ◌≤◌, Bool, true, false, ◌&&◌, ◌==◌, ◌⊎◌, inl, inr, nat_lt, nat_le, List, [], ◌∷◌, ◌++◌, length, position, slice_get, Option, Some, None, refl, sym, ap, ◌∙◌, arith, length-append}
 use Rattle.std.specs.Prelude.{is_none, option_and_then}
 use Rattle.std.specs.List.{list_all}
 use Rattle.std.proofs.lemmas.Bool.{and_parts, and_from, and_right, ltb-true, ltb-false, lt-ltb, leb-true, le-leb, eq-eqb, eqb-true, cases_Bool}
@@ -12,11 +12,11 @@ use Rattle.wi_net.specs.Names.{place, with_name, number_of}
 use Rattle.wi_net.specs.Ends.{is_out, is_in, are_ends_apart}
 use Rattle.wi_net.specs.LinkSet.{has}
 use Rattle.wi_net.specs.Net.{Net, is_link, all_links, risk_of}
-use Rattle.wi_net.specs.Network.{is_link_of, is_risk_named}
+use Rattle.wi_net.specs.Network.{is_link_of, is_risk_named, named_next, named_after}
 use Rattle.wi_net.specs.Builder.{is_first}
 use Rattle.wi_net.proofs.SetLemmas.{all_at, all_from, has-all_links}
 use Rattle.wi_net.proofs.KeptLists.{nothing_is, is_nothing, none_push, none_parts, none_by, all_places, get_before, get_there, get_last, same_flip}
-use Rattle.wi_net.proofs.KeptNames.{number_kept, number_past}
+use Rattle.wi_net.proofs.KeptNames.{number_kept, number_past, number_next}
 
 -- two links leave a router alike in either order
 out_flip : (l m : Link) → is_out l.from l.out_if m ≡ is_out m.from m.out_if l
@@ -39,6 +39,17 @@ ends_push (m ∷ links) l all out into =
     and_from (is_none (position (is_out m.from m.out_if) (links ++ l ∷ []))) (is_none (position (is_in m.to m.in_if) (links ++ l ∷ [])) && are_ends_apart (links ++ l ∷ []))
     (is_nothing (position (is_out m.from m.out_if) (links ++ l ∷ [])) out_here)
     (and_from (is_none (position (is_in m.to m.in_if) (links ++ l ∷ []))) (are_ends_apart (links ++ l ∷ [])) (is_nothing (position (is_in m.to m.in_if) (links ++ l ∷ [])) in_here) (ends_push links l more.1 outs.1 ins.1))
+
+-- a link more names its interfaces after the others
+after_last : (n : Option ℕ) (links : List Link) (l : Link) → named_after n (links ++ l ∷ []) ≡ named_next (named_next (named_after n links) l.out_if.0) l.in_if.0
+after_last n [] l = refl
+after_last n (m ∷ links) l = after_last (named_next (named_next n m.out_if.0) m.in_if.0) links l
+
+pub turn_push : (names : List (List ℕ)) (out into : List ℕ) (links : List Link) (l : Link) → named_after (Some 0) links ≡ Some (length names) → l.out_if.0 ≡ number_of names out → l.in_if.0 ≡ number_of (with_name names out) into
+    → named_after (Some 0) (links ++ l ∷ []) ≡ Some (length (with_name (with_name names out) into))
+turn_push names out into links l turn out_is in_is =
+    after_last (Some 0) links l
+    ∙ rw (turn, out_is, in_is, number_next names out) (number_next (with_name names out) into)
 
 -- the interfaces of a link have names
 link_named : (net : Net) (l : Link) → is_link_of net l ≡ true → (l.out_if.0 < length net.interfaces) × (l.in_if.0 < length net.interfaces)

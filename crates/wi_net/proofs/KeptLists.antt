@@ -6,7 +6,6 @@ use Rattle.std.proofs.lemmas.Bool.Decides.{nat_tests}
 use Rattle.std.proofs.lemmas.List.Folds.{list_any-append, list_all-append}
 use Rattle.std.specs.List.{list_any, list_all, position_or_len}
 use Rattle.std.specs.Option.{option_map_or}
-use Rattle.wi_net.specs.declared.refused.BuildRefused.{BuildRefused}
 use Rattle.wi_net.specs.Builder.{◌>>=◌, rule, known}
 use Rattle.wi_net.proofs.FindingLemmas.{any_within, none_any}
 
@@ -99,17 +98,17 @@ pub there_from : {X : Type 0} (p : X → Bool) (o : Option X) (x : X) → o ≡ 
 there_from p o x e here = rw e here
 
 -- a rule before others held
-pub rule_held : {A : Type 0} (refusal : BuildRefused) (test : Bool) (rest : Unit {0} → Result A BuildRefused) (x : A) → (rule refusal test >>= rest) ≡ Ok x → (test ≡ true) × (rest tt ≡ Ok x)
+pub rule_held : {A E : Type 0} (refusal : E) (test : Bool) (rest : Unit {0} → Result A E) (x : A) → (rule refusal test >>= rest) ≡ Ok x → (test ≡ true) × (rest tt ≡ Ok x)
 rule_held refusal true rest x e = (refl, e)
 rule_held refusal false rest x e = cc
 
 -- a thing that had to be there was
-pub known_held : {A B : Type 0} (refusal : BuildRefused) (o : Option A) (rest : A → Result B BuildRefused) (x : B) → (known refusal o >>= rest) ≡ Ok x → (v : A) × (o ≡ Some v) × (rest v ≡ Ok x)
+pub known_held : {A B E : Type 0} (refusal : E) (o : Option A) (rest : A → Result B E) (x : B) → (known refusal o >>= rest) ≡ Ok x → (v : A) × (o ≡ Some v) × (rest v ≡ Ok x)
 known_held refusal (Some v) rest x e = (v, refl, e)
 known_held refusal None rest x e = cc
 
 -- a step before others gave something
-pub step_held : {A B : Type 0} (step : Result A BuildRefused) (rest : A → Result B BuildRefused) (x : B) → (step >>= rest) ≡ Ok x → (v : A) × (step ≡ Ok v) × (rest v ≡ Ok x)
+pub step_held : {A B E : Type 0} (step : Result A E) (rest : A → Result B E) (x : B) → (step >>= rest) ≡ Ok x → (v : A) × (step ≡ Ok v) × (rest v ≡ Ok x)
 step_held (Ok v) rest x e = (v, refl, e)
 step_held (Err r) rest x e = cc
 
@@ -118,5 +117,5 @@ pub same_flip : (a b : ℕ) → (a == b) ≡ (b == a)
 same_flip a b = grind (arith, nat_tests)
 
 -- what was given is what is there
-pub given_is : {A : Type 0} (x y : A) → (let given : Result A BuildRefused = Ok x in given ≡ Ok y) → x ≡ y
+pub given_is : {A E : Type 0} (x y : A) → (let given : Result A E = Ok x in given ≡ Ok y) → x ≡ y
 given_is x y e = cc

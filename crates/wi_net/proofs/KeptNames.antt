@@ -1,12 +1,13 @@
 -- Lists of names with a name more.
-use Rattle.std.proofs.Common.{◌≡◌, ℕ, suc, ◌+◌, ◌<◌, ◌≤◌, Bool, true, false, not, ◌&&◌, nat_lt, List, [], ◌∷◌, ◌++◌, length, Option, Some, None, refl, sym, ap, ◌∙◌, true≢false, arith, length-append}
+use Rattle.std.proofs.Common.{◌≡◌, ℕ, suc, ◌+◌, ◌<◌, ◌≤◌, Bool, true, false, not, ◌&&◌, ◌==◌, nat_lt, List, [], ◌∷◌, ◌++◌, length, Option, Some, None, refl, sym, ap, ◌∙◌, true≢false, arith, length-append}
 use Rattle.std.specs.Prelude.{is_none}
 use Rattle.std.specs.List.{prefix_len}
 use Rattle.std.specs.Str.{bytes_eq}
-use Rattle.std.proofs.lemmas.Bool.{and_parts, and_from, ltb-true, false_from_ne_true}
+use Rattle.std.proofs.lemmas.Bool.{and_parts, and_from, ltb-true, ltb-false, eq-eqb, false_from_ne_true}
 use Rattle.std.proofs.lemmas.List.Sums.{prefix_len-le-length}
 use Rattle.std.proofs.lemmas.Slice.Eq.{bytes_eq-Decides}
 use Rattle.wi_net.specs.Names.{is_name, are_names, place, with_name, number_of}
+use Rattle.wi_net.specs.Network.{named_next}
 use Rattle.wi_net.proofs.KeptLists.{nothing_is, is_nothing, none_push, none_parts}
 
 -- two names differ in either order
@@ -47,6 +48,18 @@ number_within names s = go (nat_lt (number_of names s) (length names)) refl
     go : (b : Bool) → nat_lt (number_of names s) (length names) ≡ b → number_of names s < length (with_name names s)
     go true e = rw e (ltb-true (number_of names s) (length names) e)
     go false e = rw e (omega (arith, length-append names (s ∷ []), prefix_len-le-length (λ x. not (bytes_eq s x)) names))
+
+-- and its number is the next one where it is new
+pub number_next : (names : List (List ℕ)) (s : List ℕ) → named_next (Some (length names)) (number_of names s) ≡ Some (length (with_name names s))
+number_next names s = go (nat_lt (number_of names s) (length names)) refl
+  where
+    go : (b : Bool) → nat_lt (number_of names s) (length names) ≡ b → named_next (Some (length names)) (number_of names s) ≡ Some (length (with_name names s))
+    go true e = rw e refl
+    go false e =
+        let low = ltb-false (number_of names s) (length names) e in
+        let last : (number_of names s == length names) ≡ true = eq-eqb (number_of names s) (length names) (omega (arith, low, prefix_len-le-length (λ x. not (bytes_eq s x)) names)) in
+        let more : length names + 1 ≡ length (names ++ s ∷ []) = sym (length-append names (s ∷ [])) in
+        rw (e, last) (ap Some more)
 
 -- the length of a beginning that ends within a list stays when the list is longer
 prefix_within : {X : Type 0} (p : X → Bool) (xs ys : List X) → prefix_len p xs < length xs → prefix_len p (xs ++ ys) ≡ prefix_len p xs

@@ -1,9 +1,9 @@
 -- Rows by their place, and members by their number.
-use Rattle.std.proofs.Common.{◌≡◌, ◌≢◌, ℕ, zero, suc, ◌+◌, ◌-◌, ◌<◌, ◌≤◌, Bool, true, false, not, cond, nat_lt, nat_le, List, [], ◌∷◌, ◌++◌, length, drop, get_or, slice_get, position, Option, Some, None, refl, sym, ap, ◌∙◌, arith, add-one, one-add, length-append}
+use Rattle.std.proofs.Common.{◌≡◌, ℕ, zero, suc, ◌+◌, ◌-◌, ◌<◌, ◌≤◌, Bool, true, false, not, nat_lt, nat_le, List, [], ◌∷◌, ◌++◌, length, drop, get_or, slice_get, position, Some, None, refl, sym, ap, ◌∙◌, arith, add-one, one-add, length-append}
 use Rattle.std.proofs.Math.Seq.{drop-cons}
 use Rattle.std.specs.List.{prefix_len, position_or_len, AllWithin}
 use Rattle.std.specs.List.Sorted.{IsPartitionedBy}
-use Rattle.std.proofs.lemmas.Bool.{ltb-true, ltb-false, lt-ltb, le-ltb, leb-true, leb-false, le-leb, cases_Bool}
+use Rattle.std.proofs.lemmas.Bool.{ltb-true, ltb-false, leb-true, le-leb}
 use Rattle.std.proofs.lemmas.Bool.Decides.{nat_tests}
 use Rattle.wi_labels.specs.declared.label.Label.{Label}
 use Rattle.wi_net.specs.declared.parts.LinkId.{LinkId}
@@ -204,12 +204,6 @@ row_start rows starts e l i s known found is =
     let at = position_found (is_row e l) rows i (sym found) in
     let there : slice_get starts i ≡ Some (0 + members_before rows e l) = ap (λ ss. slice_get ss i) known ∙ ap (λ k. slice_get (starts_from 0 rows) k) at.0 ∙ starts_here rows 0 e l (omega (arith, at.0, at.1)) in
     get_or_some starts i (0 + members_before rows e l) s there is ∙ omega arith
-
--- an element stands within the list
-pub get_within : {X : Type 0} (xs : List X) (i : ℕ) (x : X) → slice_get xs i ≡ Some x → i < length xs
-get_within [] i x e = cc
-get_within (y ∷ xs) zero x e = omega arith
-get_within (y ∷ xs) (suc i) x e = let ih = get_within xs i x e in omega (arith, ih)
 
 -- the place of a row is one in the list of first members
 pub row_within : (rows : List Row) (starts : List ℕ) (e : LinkId) (l : Label) (i : ℕ) → starts ≡ starts_from 0 rows → Some i ≡ position (is_row e l) rows → i < length starts

@@ -1,9 +1,8 @@
 -- Places in a strictly rising list.
-use Rattle.std.proofs.Common.{◌≡◌, ◌≢◌, ℕ, zero, suc, ◌+◌, ◌-◌, ◌<◌, ◌≤◌, Bool, true, false, not, cond, ◌&&◌, ◌||◌, nat_eq, nat_lt, nat_le, List, [], ◌∷◌, ◌++◌, length, take, drop, get_or, slice_get, Option, Some, None, refl, arith, ap, inl, inr, ◌⊎◌, sym, ◌∙◌, add-one, one-add}
-use Rattle.std.proofs.lemmas.Bool.{eqb-true, eqb-false, eq-eqb, ne_eqb, ltb-true, ltb-false, lt-ltb, le-ltb, and_parts, and_from, not-true, not_from_false, not_from_true, or_cases, or_left, or_right, or_from, or_parts, false_from_ne_true, true≢false, cases_order, cases_Bool}
-use Rattle.std.proofs.lemmas.Bool.Decides.{nat_tests}
-use Rattle.std.specs.List.{filter, list_any, list_all, prefix_len, insert, remove, AllWithin}
-use Rattle.std.specs.List.Sorted.{IsPartitionPoint, IsPartitionedBy}
+use Rattle.std.proofs.Common.{◌≡◌, ℕ, zero, suc, ◌<◌, ◌≤◌, Bool, true, false, not, ◌&&◌, ◌||◌, nat_eq, nat_lt, List, [], ◌∷◌, length, get_or, slice_get, refl, arith, ap, inl, inr, sym, ◌∙◌, one-add}
+use Rattle.std.proofs.lemmas.Bool.{eqb-true, eqb-false, eq-eqb, ne_eqb, ltb-true, ltb-false, lt-ltb, le-ltb, and_parts, and_from, or_cases, or_left, or_parts, false_from_ne_true, true≢false}
+use Rattle.std.specs.List.{filter, list_all, prefix_len, insert, remove, AllWithin}
+use Rattle.std.specs.List.Sorted.{IsPartitionedBy}
 use Rattle.std.specs.Option.{option_map_or}
 use Rattle.wi_net.specs.declared.parts.LinkId.{LinkId}
 use Rattle.wi_net.specs.LinkSet.{has, is_rising, with_link, without, place_in}

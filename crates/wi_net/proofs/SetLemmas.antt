@@ -1,13 +1,12 @@
 -- Which links a set has, by how the set is made.
-use Rattle.std.proofs.Common.{◌≡◌, ◌≢◌, ℕ, zero, suc, ◌+◌, ◌-◌, ◌<◌, ◌≤◌, Bool, true, false, not, cond, ◌&&◌, ◌||◌, nat_eq, nat_lt, nat_le, List, [], ◌∷◌, length, take, slice_get, Option, Some, None, refl, arith, ap, inl, inr, ◌⊎◌, sym, ◌∙◌, add-one}
-use Rattle.std.proofs.lemmas.Grind.{common_steps}
-use Rattle.std.proofs.lemmas.Bool.{eqb-true, eqb-false, eq-eqb, ne_eqb, ltb-true, leb-true, lt-ltb, le-leb, and_parts, and_from, and_left, and_right, not-true, not_from_false, not_from_true, or_cases, or_left, or_right, false_from_ne_true, cases_Bool}
+use Rattle.std.proofs.Common.{◌≡◌, ℕ, zero, suc, ◌+◌, Bool, true, false, not, ◌&&◌, nat_eq, nat_lt, nat_le, List, [], ◌∷◌, length, refl, arith, ap, inl, inr, sym, ◌∙◌}
+use Rattle.std.proofs.lemmas.Bool.{eqb-true, eq-eqb, and_parts, and_from, and_right, not-true, not_from_false, or_cases, or_left, or_right}
 use Rattle.std.proofs.lemmas.Bool.Decides.{nat_tests}
 use Rattle.std.specs.List.{filter, list_any, list_all}
 use Rattle.wi_net.specs.declared.parts.LinkId.{LinkId}
 use Rattle.wi_net.specs.Net.{Net}
-use Rattle.wi_net.specs.LinkSet.{links_from, has, is_within, is_apart, outside}
-use Rattle.wi_net.specs.Net.{all_links, links_where, is_link, risk_of, same_risk, widened, risk_count}
+use Rattle.wi_net.specs.LinkSet.{links_from, has, is_within, is_apart}
+use Rattle.wi_net.specs.Net.{all_links, links_where, is_link, risk_of, same_risk, widened}
 
 -- links of one number are one
 pub same_link : (d e : LinkId) → nat_eq d.0 e.0 ≡ true → d ≡ e

@@ -1,6 +1,6 @@
 -- Unions of risk groups, made from their least links.
-use Rattle.std.proofs.Common.{◌≡◌, ◌≢◌, ℕ, zero, suc, ◌+◌, ◌<◌, ◌≤◌, Bool, true, false, not, cond, ◌&&◌, ◌||◌, nat_eq, nat_lt, nat_le, List, [], ◌∷◌, ◌++◌, length, map, take, refl, arith, ap, inl, inr, ◌⊎◌, sym, ◌∙◌, add-one, add-zero, append-nil}
-use Rattle.std.proofs.lemmas.Bool.{eqb-true, eqb-false, eq-eqb, ltb-true, ltb-false, lt-ltb, and_parts, and_from, or_cases, or_left, or_right, or_from, cases_Bool, true≢false}
+use Rattle.std.proofs.Common.{◌≡◌, ℕ, zero, suc, ◌+◌, Bool, true, false, cond, ◌&&◌, ◌||◌, nat_eq, nat_lt, nat_le, List, [], ◌∷◌, ◌++◌, length, map, refl, arith, ap, sym, ◌∙◌, add-one, add-zero, append-nil}
+use Rattle.std.proofs.lemmas.Bool.{eqb-true, eq-eqb, and_parts, and_from}
 use Rattle.std.proofs.lemmas.Bool.Decides.{nat_tests}
 use Rattle.std.specs.List.{filter, list_any, list_all}
 use Rattle.wi_net.specs.declared.parts.LinkId.{LinkId}
@@ -8,9 +8,8 @@ use Rattle.wi_net.specs.declared.parts.Link.{Link}
 use Rattle.wi_net.specs.declared.parts.Member.{Member}
 use Rattle.wi_net.specs.LinkSet.{links_from, has, is_rising, with_link, risk_in, same_risk_in, numbers_where}
 use Rattle.wi_net.specs.RiskGroups.{union, with_risks, with_group_risks}
-use Rattle.wi_net.specs.Net.{Net, all_links, links_where, widened, before, same_risk, risk_of}
 use Rattle.wi_net.proofs.SetLemmas.{all_from, has-links_from, same_link}
-use Rattle.wi_net.proofs.CountLemmas.{bool_same, filter_same}
+use Rattle.wi_net.proofs.CountLemmas.{filter_same}
 use Rattle.wi_net.proofs.RisingLemmas.{filter_rising, with_rising}
 
 next_number : (at n : ℕ) → at + 1 + n ≡ at + suc n
@@ -103,8 +102,6 @@ widened_is links s = filter_same (λ e. has (with_risks links [] s) (risk_in lin
 pub before_is : (links : List Link) (gs : List (List Member)) → numbers_where links (λ e. has (with_group_risks links [] gs) (risk_in links e)) ≡ numbers_where links (λ e. list_any (λ g. list_any (λ (m : Member). same_risk_in links m.link e) g) gs)
 before_is links gs = filter_same (λ e. has (with_group_risks links [] gs) (risk_in links e)) (λ e. list_any (λ g. list_any (λ (m : Member). same_risk_in links m.link e) g) gs) (links_from 0 (length links)) (λ e h. has-with_group_risks links [] gs (risk_in links e))
 
-pub ruleset widen_laws = (widened_is, before_is)
-
 pub union_rising : (p : LinkId → Bool) (n : ℕ) → is_rising (filter p (links_from 0 n)) ≡ true
 union_rising p n = filter_rising p (links_from 0 n) (links_rising 0 n)
 
@@ -114,8 +111,6 @@ filter_next p n e is = go (p e) refl
     go : (c : Bool) → p e ≡ c → filter p (links_from 0 (n + 1)) ≡ cond (p e) (filter p (links_from 0 n) ++ e ∷ []) (filter p (links_from 0 n))
     go true c = filter_yes p n e is c ∙ sym (rw c refl)
     go false c = filter_no p n e is c ∙ sym (rw c refl)
-
-pub ruleset union_laws = (union_rising)
 
 pub has-union : (s es : List LinkId) (r : LinkId) → has (union s es) r ≡ (has s r || has es r)
 has-union s [] r = or_comm false (has s r)

@@ -5,9 +5,7 @@ use Rattle.wi_labels.specs.declared.label.Class.{Class}
 use Rattle.wi_labels.specs.declared.label.Label.{Label}
 use Rattle.wi_net.specs.declared.refused.BuildRefused.{BuildRefused}
 use Rattle.wi_net.specs.declared.refused.BuildRefused.TheVariants.{Memory, Repeated, Unknown, Taken, EmptyGroup, Limit, BadName}
-use Rattle.wi_net.specs.declared.refused.Part.{Part}
 use Rattle.wi_net.specs.declared.refused.Part.TheVariants as part
-use Rattle.wi_net.specs.declared.refused.Limited.{Limited}
 use Rattle.wi_net.specs.declared.refused.Limited.TheVariants as limited
 use Rattle.wi_net.specs.declared.parts.RouterId.{RouterId}
 use Rattle.wi_net.specs.declared.parts.LinkId.{LinkId}
@@ -46,10 +44,10 @@ abbrev pub ◌>>=◌ : {A B E : Type 0} → Result A E → (A → Result B E) �
 (Err e) >>= f = Err e
 
 -- a rule that has to hold, and a thing that has to be there
-abbrev pub rule : BuildRefused → Bool → Result (Unit {0}) BuildRefused
+abbrev pub rule : {E : Type 0} → E → Bool → Result (Unit {0}) E
 rule refusal test = if test then Ok tt else Err refusal
 
-abbrev pub known : {A : Type 0} → BuildRefused → Option A → Result A BuildRefused
+abbrev pub known : {A E : Type 0} → E → Option A → Result A E
 known refusal (Some x) = Ok x
 known refusal None = Err refusal
 

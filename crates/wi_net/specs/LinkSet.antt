@@ -1,5 +1,5 @@
 -- Sets of links as strictly rising lists, and risk groups.
-use Rattle.std.specs.Prelude.{◌≡◌, ℕ, Bool, true, not, ◌&&◌, ◌||◌, ◌==◌, nat_lt, if◌then◌else◌, List, [], ◌∷◌, length, slice_get, map}
+use Rattle.std.specs.Prelude.{ℕ, Bool, true, not, ◌&&◌, ◌==◌, nat_lt, if◌then◌else◌, List, [], ◌∷◌, length, slice_get, map}
 use Rattle.std.specs.Option.{option_map_or}
 use Rattle.std.specs.List.{filter, list_any, list_all, prefix_len, range_with_len}
 use Rattle.wi_net.specs.declared.parts.LinkId.{LinkId}

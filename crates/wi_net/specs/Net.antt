@@ -1,5 +1,5 @@
 -- A network's links, risk groups and tables.
-use Rattle.std.specs.Prelude.{◌≡◌, ℕ, Bool, true, false, not, ◌&&◌, ◌||◌, ◌==◌, nat_lt, List, length, take, slice_get, Option}
+use Rattle.std.specs.Prelude.{ℕ, Bool, false, not, ◌&&◌, ◌||◌, ◌==◌, nat_lt, List, length, take, slice_get, Option}
 use Rattle.std.specs.List.{filter, list_any, list_all, position}
 use Rattle.std.specs.Option.{option_map_or}
 use Rattle.wi_labels.specs.declared.label.Label.{Label}

@@ -1,5 +1,5 @@
 -- What each network keeps.
-use Rattle.std.specs.Prelude.{◌≡◌, ℕ, ◌+◌, ◌*◌, ◌≤◌, ◌<◌, ◌^◌, ◌&&◌, ◌==◌, Bool, true, false, nat_lt, nat_le, List, [], ◌∷◌, length, map, slice_get}
+use Rattle.std.specs.Prelude.{◌≡◌, ℕ, ◌+◌, ◌*◌, ◌≤◌, ◌<◌, ◌&&◌, ◌==◌, Bool, true, false, nat_lt, nat_le, if◌then◌else◌, Option, Some, None, List, [], ◌∷◌, length, map, slice_get}
 use Rattle.std.specs.List.{list_all}
 use Rattle.std.specs.Option.{option_map_or}
 use Rattle.wi_labels.specs.declared.label.Class.{Class}
@@ -40,6 +40,13 @@ op_known net Pop = true
 abbrev pub leaves : Net → RouterId → LinkId → Bool
 leaves net router e = option_map_or (λ l. l.from.0 == router.0) (slice_get net.links e.0) false
 
+-- a member whose link and labels are the network's, and groups of such
+abbrev pub is_member_of : Net → Member → Bool
+is_member_of net m = is_link net m.link && list_all (op_known net) m.ops
+
+abbrev pub are_groups_of : Net → List (List Member) → Bool
+are_groups_of net gs = list_all (λ g. list_all (is_member_of net) g) gs
+
 -- a member that a table of a router may have
 abbrev pub is_member_at : Net → RouterId → Member → Bool
 is_member_at net router m = leaves net router m.link && (nat_le (length m.ops) 8 && list_all (op_known net) m.ops)
@@ -69,12 +76,23 @@ pub record HasEnds (net : Net) (l : Link) : Type 0 where
 abbrev pub is_risk_named : Net → LinkId → Bool
 is_risk_named net e = nat_le (risk_of net e).0 e.0 && ((risk_of net (risk_of net e)).0 == (risk_of net e).0)
 
+-- how many interfaces there are when one of a number is named: a new one has the next number
+abbrev pub named_next : Option ℕ → ℕ → Option ℕ
+named_next None i = None
+named_next (Some n) i = if nat_lt i n then Some n else if i == n then Some (n + 1) else None
+
+-- how many there are after links, each of which names its out interface, then its in interface
+abbrev pub named_after : Option ℕ → List Link → Option ℕ
+named_after n [] = n
+named_after n (l ∷ links) = named_after (named_next (named_next n l.out_if.0) l.in_if.0) links
+
 pub record IsNetwork (net : Net) : Type 0 where
   pub routers : are_names net.routers ≡ true
   pub labels : are_names net.labels ≡ true
   pub classes : length net.classes ≡ length net.labels
   pub in_order : are_in_order net.classes ≡ true
   pub interfaces : are_names net.interfaces ≡ true
+  pub in_turn : named_after (Some 0) net.links ≡ Some (length net.interfaces)
   pub links : list_all (is_link_of net) net.links ≡ true
   pub ends : are_ends_apart net.links ≡ true
   pub risks : list_all (is_risk_named net) (all_links net) ≡ true

@@ -1,5 +1,5 @@
 -- Unions of risk groups, put together from an index.
-use Rattle.std.specs.Prelude.{ℕ, List, [], ◌∷◌, map, slice_get, unwrap_or}
+use Rattle.std.specs.Prelude.{List, [], ◌∷◌, map, slice_get, unwrap_or}
 use Rattle.wi_net.specs.declared.parts.LinkId.{LinkId}
 use Rattle.wi_net.specs.declared.parts.Link.{Link}
 use Rattle.wi_net.specs.declared.parts.Member.{Member}

@@ -100,7 +100,6 @@ pub fn count_in(links: &[Link], fails: &[LinkId]) -> usize
 }
 
 /// The union of the risk groups that have one of the listed links.
-#[tactic(auto, using(crate::proofs::WidenLemmas::widen_laws))]
 pub fn union_of(
     alloc: Global,
     groups: &RiskGroups,
@@ -113,11 +112,10 @@ pub fn union_of(
 {
     let mut risks = FailSet::new(alloc);
     add_risks(links, fails, &mut risks)?;
-    union_named(alloc, groups, links, risks.as_slice())
+    union_named(alloc, groups, risks.as_slice())
 }
 
 /// The union of the risk groups that have a link of one of the first groups.
-#[tactic(auto, using(crate::proofs::WidenLemmas::widen_laws))]
 pub fn union_before(
     alloc: Global,
     groups: &RiskGroups,
@@ -130,26 +128,17 @@ pub fn union_before(
     ensures { IfOk result (λ s. s ≡ numbers_where links.now (λ e. list_any (λ g. list_any (λ m. same_risk_in links.now m.link e) g) (take j entry.now))) }
 {
     let risks = group_risks(alloc, links, first_groups(entry, j))?;
-    union_named(alloc, groups, links, risks.as_slice())
+    union_named(alloc, groups, risks.as_slice())
 }
 
-// The union of the risk groups with these names.
-#[tactic(auto, using(crate::proofs::IndexLemmas::gathered_is))]
-fn union_named(
-    alloc: Global,
-    groups: &RiskGroups,
-    links: &[Link],
-    risks: &[LinkId],
-) -> Result<FailSet, NoMemory>
-    requires index { groups.now ≡ groups_of links.now }
-    requires within { list_all (λ l. nat_lt l.risk.0 (length links.now)) links.now ≡ true }
-    ensures { IfOk result (λ s. s ≡ numbers_where links.now (λ e. has risks.now (risk_in links.now e))) }
+// The union of the risk groups that these links name.
+fn union_named(alloc: Global, groups: &RiskGroups, risks: &[LinkId]) -> Result<FailSet, NoMemory>
+    ensures { IfOk result (λ s. s ≡ gathered groups.now [] risks.now) }
 {
     let mut set = FailSet::new(alloc);
     for risk in risks {
         groups.add_to(&mut set, *risk)?;
     }
-    let _links = links;
     Ok(set)
 }
 

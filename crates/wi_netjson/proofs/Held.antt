@@ -1,29 +1,10 @@
--- Steps of reading that gave something.
-use Rattle.std.proofs.Common.{◌≡◌, ℕ, ◌+◌, Bool, true, false, Option, Some, None, Result, Ok, Err, refl, sym, ap, subst, arith}
+-- What each element keeps, and how elements count.
+use Rattle.std.proofs.Common.{◌≡◌, ℕ, ◌+◌, Result, Ok, sym, ap, subst, arith}
 use Rattle.serde_json.specs.Data.{Data, Items, no_items, item}
 use Rattle.serde_json.specs.Events.{items_len}
-use Rattle.wi_net.specs.Builder.{◌>>=◌}
+use Rattle.wi_net.proofs.KeptLists.{step_held, given_is}
 use Rattle.wi_netjson.specs.declared.fault.NetFault.{NetFault}
-use Rattle.wi_netjson.specs.Reading.{require, known, each}
-
--- a step before others gave something
-pub step_held : {A B : Type 0} (step : Result A NetFault) (rest : A → Result B NetFault) (x : B) → (step >>= rest) ≡ Ok x → (v : A) × (step ≡ Ok v) × (rest v ≡ Ok x)
-step_held (Ok v) rest x e = (v, refl, e)
-step_held (Err fault) rest x e = cc
-
--- a test that had to hold held
-pub test_held : {A : Type 0} (fault : NetFault) (test : Bool) (rest : Unit {0} → Result A NetFault) (x : A) → (require fault test >>= rest) ≡ Ok x → (test ≡ true) × (rest tt ≡ Ok x)
-test_held fault true rest x e = (refl, e)
-test_held fault false rest x e = cc
-
--- a thing that had to be there was
-pub there_held : {A B : Type 0} (fault : NetFault) (o : Option A) (rest : A → Result B NetFault) (x : B) → (known fault o >>= rest) ≡ Ok x → (v : A) × (o ≡ Some v) × (rest v ≡ Ok x)
-there_held fault (Some v) rest x e = (v, refl, e)
-there_held fault None rest x e = cc
-
--- what was given is what is there
-pub given_is : {A : Type 0} (x y : A) → (let given : Result A NetFault = Ok x in given ≡ Ok y) → x ≡ y
-given_is x y e = cc
+use Rattle.wi_netjson.specs.Reading.{each}
 
 -- what each element keeps, all of them keep
 pub each_keeps : {S : Type 0} (step : S → ℕ → Data → Result S NetFault) (P : S → Type 0) → ((s : S) (i : ℕ) (d : Data) (next : S) → P s → step s i d ≡ Ok next → P next)

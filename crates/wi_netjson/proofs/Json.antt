@@ -4,9 +4,9 @@ use Rattle.std.specs.Str.{IsUtf8, is_utf8}
 use Rattle.std.proofs.lemmas.Str.{IsUtf8-from_is_utf8, is_utf8-from_IsUtf8}
 use Rattle.serde_json.specs.Data.{Data}
 use Rattle.serde_json.specs.Read.{read}
+use Rattle.wi_net.specs.Builder.{known}
 use Rattle.wi_netjson.specs.declared.fault.Place.TheVariants.{File}
 use Rattle.wi_netjson.specs.declared.fault.NetFault.TheVariants.{NotJson}
-use Rattle.wi_netjson.specs.Reading.{known}
 use Rattle.wi_netjson.specs.File.{json_of}
 
 pub json_ok : (bytes : List ℕ) (d : Data) → IsUtf8 bytes × (read bytes ≡ Some d) → known (NotJson File) (json_of bytes) ≡ Ok d

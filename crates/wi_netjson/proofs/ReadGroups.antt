@@ -1,19 +1,19 @@
 -- Risk groups that were written are read as they were.
-use Rattle.std.proofs.Common.{◌≡◌, ◌≢◌, ℕ, zero, suc, ◌+◌, ◌-◌, ◌*◌, ◌/◌, ◌%◌, ◌^◌, ◌<◌, ◌≤◌, ◌⊎◌, inl, inr, Bool, true, false, cond, not, ◌&&◌, ◌||◌, ◌==◌, nat_lt, nat_le, List, [], ◌∷◌, ◌++◌, map, drop, length, slice_get, position, Option, Some, None, refl, sym, ap, subst, ◌∙◌, append-nil, true≢false, arith, lit<, length-append}
-use Rattle.std.specs.Prelude.{is_some, codes, decimal, unwrap_or, option_map, option_and_then}
-use Rattle.std.specs.List.{list_all, list_any}
+use Rattle.std.proofs.Common.{◌≡◌, ℕ, zero, suc, ◌+◌, ◌-◌, ◌%◌, ◌^◌, ◌<◌, ◌≤◌, ◌⊎◌, inl, inr, Bool, true, false, cond, ◌&&◌, ◌==◌, nat_lt, nat_le, List, [], ◌∷◌, ◌++◌, map, drop, length, slice_get, position, Option, Some, None, refl, sym, ap, ◌∙◌, append-nil, true≢false, arith, lit<}
+use Rattle.std.specs.Prelude.{codes, decimal, option_map}
+use Rattle.std.specs.List.{list_all}
 use Rattle.std.specs.Str.{bytes_eq}
-use Rattle.std.proofs.lemmas.Bool.{and_parts, and_from, ltb-true, lt-ltb, leb-true, le-leb, eqb-true, eq-eqb, ne_eqb, cases_lt, false_from_ne_true}
+use Rattle.std.proofs.lemmas.Bool.{and_from, ltb-true, lt-ltb, le-leb, eq-eqb, ne_eqb, cases_lt, false_from_ne_true}
 use Rattle.std.proofs.lemmas.Bool.Decides.{nat_tests}
 use Rattle.std.proofs.lemmas.Fmt.{decimal_by_steps, decimal_injective, length-decimal-le}
 use Rattle.std.proofs.lemmas.List.{map_push}
 use Rattle.std.proofs.lemmas.List.Folds.{list_all-append}
-use Rattle.std.proofs.lemmas.Option.{slice_get-map, slice_get_within}
+use Rattle.std.proofs.lemmas.Option.{slice_get-map}
 use Rattle.std.proofs.lemmas.Slice.Eq.{bytes_eq-Decides}
 use Rattle.wi_net.specs.declared.parts.Link.{Link}
 use Rattle.wi_net.specs.declared.parts.LinkId.{LinkId}
-use Rattle.wi_net.specs.Names.{is_name, is_name_byte, place, with_name}
-use Rattle.wi_net.specs.Builder.{first_in, named_with, firsts_with, is_group_name}
+use Rattle.wi_net.specs.Names.{is_name, is_name_byte, place}
+use Rattle.wi_net.specs.Builder.{first_in, named_with, firsts_with}
 use Rattle.wi_net.proofs.FindingLemmas.{position-map}
 use Rattle.wi_net.proofs.KeptLists.{none_by, all_get}
 use Rattle.wi_netjson.specs.Written.{is_larger}

@@ -1,36 +1,34 @@
 -- Links that were written are read as they were.
-use Rattle.std.proofs.Common.{◌≡◌, ℕ, zero, suc, ◌+◌, ◌<◌, ◌≤◌, ◌⊎◌, inl, inr, Bool, true, false, cond, not, ◌&&◌, ◌==◌, nat_lt, nat_le, List, [], ◌∷◌, ◌++◌, map, take, drop, length, slice_get, position, Option, Some, None, Result, Ok, refl, sym, ap, subst, ◌∙◌, append_assoc, append-nil, true≢false, arith}
-use Rattle.std.specs.Prelude.{is_none, is_some, option_map, option_and_then}
-use Rattle.std.specs.List.{list_all, list_any, prefix_len, position_or_len}
+use Rattle.std.proofs.Common.{◌≡◌, ℕ, suc, ◌+◌, ◌<◌, ◌≤◌, ◌⊎◌, inl, inr, Bool, true, false, cond, not, ◌&&◌, ◌==◌, nat_lt, nat_le, List, [], ◌∷◌, ◌++◌, map, take, drop, length, slice_get, position, Option, Some, None, Result, Ok, refl, sym, ap, ◌∙◌, append_assoc, append-nil, true≢false, arith}
+use Rattle.std.specs.Prelude.{is_none}
+use Rattle.std.specs.List.{list_all}
 use Rattle.std.specs.Str.{bytes_eq}
-use Rattle.std.proofs.lemmas.Bool.{and_parts, and_from, and_cases, ltb-true, leb-true, lt-ltb, le-ltb, eqb-true, eq-eqb, cases_lt}
+use Rattle.std.proofs.lemmas.Bool.{and_parts, and_from, leb-true, lt-ltb, le-ltb, eqb-true, eq-eqb, cases_lt}
 use Rattle.std.proofs.lemmas.List.{take_all, length-take-le}
 use Rattle.std.proofs.lemmas.List.Sums.{prefix_len-le-length}
 use Rattle.std.proofs.lemmas.Option.{slice_get_within, get_or_from_slice_get}
-use Rattle.serde_json.specs.Data.{Data}
 use Rattle.serde_json.specs.View.{items_of}
 use Rattle.wi_net.specs.declared.parts.Link.{Link}
 use Rattle.wi_net.specs.declared.parts.LinkId.{LinkId}
-use Rattle.wi_net.specs.declared.parts.NameId.{NameId}
 use Rattle.wi_net.specs.declared.parts.RouterId.{RouterId}
-use Rattle.wi_net.specs.Names.{is_name, place, are_names, with_name, number_of}
+use Rattle.wi_net.specs.Names.{is_name, are_names, with_name, number_of}
 use Rattle.wi_net.specs.Ends.{is_out, is_in, are_ends_apart}
 use Rattle.wi_net.specs.Net.{Net, is_link, all_links, risk_of}
-use Rattle.wi_net.specs.LinkSet.{links_from}
 use Rattle.wi_net.specs.Finding.{find_router, find_out, find_in}
-use Rattle.wi_net.specs.Network.{IsNetwork, is_risk_named}
+use Rattle.wi_net.specs.Network.{IsNetwork, HasEnds, is_risk_named, named_next, named_after}
 use Rattle.wi_net.specs.Builder.{◌>>=◌, Draft, with_new_link, is_group_name, first_in, named_with, firsts_with}
 use Rattle.wi_net.proofs.SetLemmas.{all_at, has-all_links}
-use Rattle.wi_net.proofs.KeptLists.{nothing_is, same_flip, all_get, get_there, get_last, get_before}
+use Rattle.wi_net.proofs.KeptLists.{nothing_is, same_flip, all_get, get_there, get_before}
 use Rattle.wi_net.proofs.MemberLemmas.{position_found, position_missing}
 use Rattle.wi_netjson.specs.declared.fault.NetFault.{NetFault}
 use Rattle.wi_netjson.specs.Reading.{each}
 use Rattle.wi_netjson.specs.Links.{link_at, link_rules}
-use Rattle.wi_netjson.specs.Written.{name_at, is_larger, has_larger, link_data, has_small_distance, named_next, named_after}
+use Rattle.wi_netjson.specs.Written.{name_at, is_larger, has_larger, link_data, has_small_distance}
 use Rattle.wi_netjson.proofs.PlaceLemmas.{IsApart, before, split_at, found_at, found_in_take, none_in_take}
 use Rattle.wi_netjson.proofs.ReadNames.{names_apart, name_in}
 use Rattle.wi_netjson.proofs.ReadGroups.{group_of, group_named, GroupsAre, GroupsStep, RiskFits, groups_step, link_of}
-use Rattle.wi_netjson.proofs.WrittenLemmas.{longer, any_here, HasEnds, has_ends}
+use Rattle.wi_net.proofs.EndLemmas.{has_ends}
+use Rattle.wi_netjson.proofs.WrittenLemmas.{longer, any_here}
 
 -- links are apart by either end
 pub test_flip : (a b c d : ℕ) → ((a == b) && (c == d)) ≡ false → ((b == a) && (d == c)) ≡ false
@@ -273,10 +271,10 @@ link_step net v pre post l n m h i named firsts w versioned is out_next in_next 
     larger e = sym versioned ∙ any_here (λ (x : Link). is_larger net.links x.risk.0) net.links (length pre) l here e
 
     out : HasName net.interfaces l.out_if.0 (name_at net.interfaces l.out_if.0)
-    out = name_of net.interfaces l.out_if.0 w.kept.interfaces ends.out
+    out = name_of net.interfaces l.out_if.0 w.kept.interfaces ends.out_if
 
     into : HasName net.interfaces l.in_if.0 (name_at net.interfaces l.in_if.0)
-    into = name_of net.interfaces l.in_if.0 w.kept.interfaces ends.into
+    into = name_of net.interfaces l.in_if.0 w.kept.interfaces ends.in_if
 
     out_is : (number_of (take n net.interfaces) (name_at net.interfaces l.out_if.0) ≡ l.out_if.0) × (with_name (take n net.interfaces) (name_at net.interfaces l.out_if.0) ≡ take m net.interfaces)
     out_is = named_step net.interfaces n l.out_if.0 m (name_at net.interfaces l.out_if.0) w.kept.interfaces out.at out_next

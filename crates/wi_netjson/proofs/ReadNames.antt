@@ -1,13 +1,12 @@
 -- Names that were written are read as they were.
-use Rattle.std.proofs.Common.{◌≡◌, ℕ, zero, suc, ◌+◌, ◌<◌, ◌≤◌, Bool, true, false, cond, ◌&&◌, nat_le, List, [], ◌∷◌, ◌++◌, map, length, slice_get, get_or, Option, Some, None, Result, Ok, refl, sym, ap, subst, ◌∙◌, append_assoc, append-nil, true≢false, arith, length-append}
+use Rattle.std.proofs.Common.{◌≡◌, ℕ, suc, ◌+◌, Bool, true, false, ◌&&◌, List, [], ◌∷◌, ◌++◌, map, length, None, Ok, refl, sym, ap, ◌∙◌, append_assoc, append-nil, true≢false, arith}
 use Rattle.std.specs.Prelude.{is_none}
 use Rattle.std.specs.List.{list_all}
 use Rattle.std.specs.Str.{bytes_eq}
-use Rattle.std.proofs.lemmas.Bool.{and_parts, and_from, le-leb}
-use Rattle.std.proofs.lemmas.List.{length-map}
+use Rattle.std.proofs.lemmas.Bool.{and_parts}
 use Rattle.std.proofs.lemmas.Slice.Eq.{bytes_eq-Decides}
 use Rattle.std.proofs.lemmas.Bool.{false_from_ne_true}
-use Rattle.serde_json.specs.Data.{Data, string, Items, no_items, item}
+use Rattle.serde_json.specs.Data.{Data, string}
 use Rattle.serde_json.specs.View.{items_of}
 use Rattle.serde_json.specs.Events.{items_len}
 use Rattle.wi_labels.specs.declared.label.Class.{Class}
@@ -15,10 +14,8 @@ use Rattle.wi_labels.specs.declared.label.Class.TheVariants.{Mpls, Smpls, Ip}
 use Rattle.wi_labels.specs.Header.{same_class}
 use Rattle.wi_net.specs.Names.{is_name, place, are_names}
 use Rattle.wi_net.specs.Network.{is_no_later, are_in_order}
-use Rattle.wi_net.specs.Net.{Net}
-use Rattle.wi_net.specs.Builder.{◌>>=◌, Draft, with_router, with_label}
-use Rattle.wi_net.proofs.KeptLists.{nothing_is, is_nothing}
-use Rattle.wi_netjson.specs.declared.fault.NetFault.{NetFault}
+use Rattle.wi_net.specs.Builder.{Draft}
+use Rattle.wi_net.proofs.KeptLists.{nothing_is}
 use Rattle.wi_netjson.specs.Reading.{each}
 use Rattle.wi_netjson.specs.Routers.{router_at}
 use Rattle.wi_netjson.specs.Labels.{label_at}

@@ -1,12 +1,11 @@
 -- Tables that were written are read as they were.
-use Rattle.std.proofs.Common.{◌≡◌, ℕ, zero, suc, ◌+◌, ◌<◌, ◌≤◌, Bool, true, false, ◌&&◌, ◌==◌, nat_lt, nat_le, List, [], ◌∷◌, ◌++◌, map, length, slice_get, position, Option, Some, None, Result, Ok, refl, sym, ap, ◌∙◌, append_assoc, append-nil, arith, length-append}
-use Rattle.std.specs.Prelude.{is_none, option_map}
+use Rattle.std.proofs.Common.{◌≡◌, ℕ, ◌+◌, ◌<◌, ◌≤◌, Bool, true, false, ◌&&◌, ◌==◌, nat_lt, nat_le, List, [], ◌∷◌, ◌++◌, map, length, slice_get, position, Some, None, Result, Ok, refl, sym, ap, ◌∙◌, append_assoc, append-nil, arith, length-append}
+use Rattle.std.specs.Prelude.{is_none}
 use Rattle.std.specs.Option.{option_map_or}
 use Rattle.std.specs.List.{list_all}
 use Rattle.std.specs.Str.{bytes_eq}
-use Rattle.std.proofs.lemmas.Bool.{and_parts, and_from, ltb-true, leb-true, lt-ltb, le-leb, eqb-true, eq-eqb}
+use Rattle.std.proofs.lemmas.Bool.{and_parts, ltb-true, leb-true, lt-ltb, le-leb, eqb-true}
 use Rattle.std.proofs.lemmas.Option.{slice_get_within}
-use Rattle.serde_json.specs.Data.{Data}
 use Rattle.serde_json.specs.Find.{as_array}
 use Rattle.serde_json.specs.View.{items_of}
 use Rattle.serde_json.specs.Events.{items_len}
@@ -16,7 +15,7 @@ use Rattle.wi_labels.specs.declared.label.Class.TheVariants.{Mpls, Smpls, Ip}
 use Rattle.wi_labels.specs.declared.label.Label.{Label}
 use Rattle.wi_labels.specs.declared.ops.Op.{Op}
 use Rattle.wi_labels.specs.declared.ops.Op.TheVariants.{Swap, Push, Pop}
-use Rattle.wi_labels.specs.Header.{Entry, same_class}
+use Rattle.wi_labels.specs.Header.{same_class}
 use Rattle.wi_net.specs.declared.parts.Link.{Link}
 use Rattle.wi_net.specs.declared.parts.LinkId.{LinkId}
 use Rattle.wi_net.specs.declared.parts.RouterId.{RouterId}
@@ -26,9 +25,9 @@ use Rattle.wi_net.specs.Names.{are_names}
 use Rattle.wi_net.specs.Tables.{is_row, are_rows_apart, group_members, row_members}
 use Rattle.wi_net.specs.Net.{Net, label_known}
 use Rattle.wi_net.specs.Finding.{find_router, find_label, find_out, find_in}
-use Rattle.wi_net.specs.Network.{IsNetwork, op_known, leaves, is_member_at, is_group_at, is_row_of}
-use Rattle.wi_net.specs.Builder.{◌>>=◌, Draft, with_row}
-use Rattle.wi_net.proofs.KeptLists.{nothing_is, there_parts, same_flip}
+use Rattle.wi_net.specs.Network.{IsNetwork, op_known, leaves, is_member_at, is_group_at}
+use Rattle.wi_net.specs.Builder.{◌>>=◌, Draft}
+use Rattle.wi_net.proofs.KeptLists.{nothing_is, there_parts}
 use Rattle.wi_net.proofs.TableLemmas.{group_members_push}
 use Rattle.wi_netjson.specs.declared.fault.Place.{Place}
 use Rattle.wi_netjson.specs.declared.fault.Place.TheVariants.{Operation}
@@ -36,11 +35,12 @@ use Rattle.wi_netjson.specs.declared.fault.NetFault.{NetFault}
 use Rattle.wi_netjson.specs.Reading.{each}
 use Rattle.wi_netjson.specs.Operations.{labelled, operation_of, operation_at}
 use Rattle.wi_netjson.specs.Tables.{way_at, member_at, group_members_at, group_at, table_ends, table_at}
-use Rattle.wi_netjson.specs.Written.{name_at, list_of, label_name, target_name, out_name, in_name, op_data, way_data, group_data, row_data}
+use Rattle.wi_netjson.specs.Written.{name_at, label_name, target_name, out_name, in_name, op_data, way_data, group_data, row_data}
 use Rattle.wi_netjson.proofs.PlaceLemmas.{IsApart, before, found_at}
 use Rattle.wi_netjson.proofs.ReadNames.{names_apart, len_of_list}
-use Rattle.wi_netjson.proofs.ReadLinks.{same_out, same_in, outs_apart, ins_apart, test_flip, test_self, HasName, name_of, router_is_found}
-use Rattle.wi_netjson.proofs.WrittenLemmas.{HasEnds, has_ends, row_in}
+use Rattle.wi_netjson.proofs.ReadLinks.{same_out, same_in, outs_apart, ins_apart, test_flip, test_self, name_of, router_is_found}
+use Rattle.wi_net.proofs.EndLemmas.{has_ends}
+use Rattle.wi_netjson.proofs.WrittenLemmas.{row_in}
 
 -- the network with some rows
 abbrev pub net_at : Net → List Row → Net
@@ -93,14 +93,14 @@ ops_are_read net rows i j m (op ∷ rest) ops o k all =
 out_is_found : (net : Net) (rows : List Row) (e : LinkId) (l : Link) → IsNetwork net → slice_get net.links e.0 ≡ Some l → find_out (net_at net rows) l.from (out_name net e) ≡ Some e
 out_is_found net rows e l k at =
     let ends = has_ends net e.0 l k at in
-    let there = name_of net.interfaces l.out_if.0 k.interfaces ends.out in
+    let there = name_of net.interfaces l.out_if.0 k.interfaces ends.out_if in
     rw (at, found_at bytes_eq are_names names_apart net.interfaces l.out_if.0 (name_at net.interfaces l.out_if.0) k.interfaces there.at, found_at same_out are_ends_apart outs_apart net.links e.0 l k.ends at) refl
 
 -- and the one that reaches a router by the name of its in interface
 in_is_found : (net : Net) (rows : List Row) (e : LinkId) (l : Link) → IsNetwork net → slice_get net.links e.0 ≡ Some l → find_in (net_at net rows) l.to (in_name net e) ≡ Some e
 in_is_found net rows e l k at =
     let ends = has_ends net e.0 l k at in
-    let there = name_of net.interfaces l.in_if.0 k.interfaces ends.into in
+    let there = name_of net.interfaces l.in_if.0 k.interfaces ends.in_if in
     rw (at, found_at bytes_eq are_names names_apart net.interfaces l.in_if.0 (name_at net.interfaces l.in_if.0) k.interfaces there.at, found_at same_in are_ends_apart ins_apart net.links e.0 l k.ends at) refl
 
 router_of : ℕ → RouterId

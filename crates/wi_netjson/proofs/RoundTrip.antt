@@ -1,10 +1,9 @@
 -- A network that was written is read as it was.
-use Rattle.std.proofs.Common.{◌≡◌, ℕ, suc, ◌+◌, ◌<◌, ◌≤◌, Bool, true, false, nat_le, List, [], ◌∷◌, ◌++◌, map, max, length, Option, Some, None, Result, Ok, refl, sym, ap, ◌∙◌, append_assoc, append-nil, lit≤, arith, length-append}
-use Rattle.std.specs.Prelude.{codes}
-use Rattle.std.specs.Str.{IsUtf8, is_utf8}
+use Rattle.std.proofs.Common.{◌≡◌, ℕ, suc, ◌+◌, ◌≤◌, Bool, true, false, nat_le, List, [], ◌∷◌, ◌++◌, map, length, Some, Ok, refl, sym, ap, ◌∙◌, append_assoc, append-nil, lit≤, arith, length-append}
+use Rattle.std.specs.Str.{IsUtf8}
 use Rattle.std.proofs.lemmas.Bool.{le-leb}
 use Rattle.std.proofs.lemmas.Str.{is_utf8-from_IsUtf8}
-use Rattle.serde_json.specs.Data.{Data, string, Items, no_items, item, depth, items_depth, members_depth}
+use Rattle.serde_json.specs.Data.{Data, string, depth, items_depth}
 use Rattle.serde_json.specs.Read.{read, max_depth}
 use Rattle.serde_json.specs.View.{items_of}
 use Rattle.serde_json.specs.Events.{items_len}
@@ -19,17 +18,15 @@ use Rattle.wi_net.specs.declared.parts.Row.{Row}
 use Rattle.wi_net.specs.Names.{are_names}
 use Rattle.wi_net.specs.Net.{Net}
 use Rattle.wi_net.specs.Network.{IsNetwork}
-use Rattle.wi_net.specs.Builder.{◌>>=◌, Draft, empty}
-use Rattle.wi_netjson.specs.declared.fault.NetFault.{NetFault}
+use Rattle.wi_net.specs.Builder.{Draft, empty}
 use Rattle.wi_netjson.specs.Reading.{each}
-use Rattle.wi_netjson.specs.Routers.{router_at, routers_of}
-use Rattle.wi_netjson.specs.Labels.{label_at, label_list, labels_of}
+use Rattle.wi_netjson.specs.Routers.{routers_of}
+use Rattle.wi_netjson.specs.Labels.{label_list, labels_of}
 use Rattle.wi_netjson.specs.Links.{link_at, links_of}
-use Rattle.wi_netjson.specs.Tables.{table_at, tables_of}
+use Rattle.wi_netjson.specs.Tables.{tables_of}
 use Rattle.wi_netjson.specs.File.{json_of, has_groups, file_of, network_of}
-use Rattle.wi_netjson.specs.Written.{list_of, labels_in, labels_data, is_larger, has_larger, format_of, link_data, op_data, way_data, group_data, row_data, network_data, AreInterfacesInOrder}
+use Rattle.wi_netjson.specs.Written.{list_of, labels_in, is_larger, has_larger, format_of, link_data, op_data, way_data, group_data, row_data, network_data}
 use Rattle.wi_netjson.proofs.ReadNames.{len_of_list, with_routers, routers_are_read, with_labels, each_of, labels_are_read, IsByClass, by_class}
-use Rattle.wi_netjson.proofs.ReadGroups.{GroupsAre}
 use Rattle.wi_netjson.proofs.ReadLinks.{IsWritten, draft_at, LinksRead, links_are_read}
 use Rattle.wi_netjson.proofs.ReadTables.{rows_at, tables_are_read}
 
@@ -98,8 +95,8 @@ labels_read net k = rw (first, second, third) (ap (λ names. Ok (with_labels d n
     third = list_is_read d Ip (m ++ s) i [] (each_of Mpls m ++ each_of Smpls s) whole (omega (arith, count, length-append m s))
 
 -- the links, and what the builder then knows
-links_read : (net : Net) → IsWritten net → AreInterfacesInOrder net → LinksRead (has_larger net.links) net (draft_at net [] [] [] []) 0 net.links
-links_read net w next = links_are_read net (has_larger net.links) net.links [] 0 0 [] [] w refl refl next (record { firsts_are = refl; named_are = refl })
+links_read : (net : Net) → IsWritten net → LinksRead (has_larger net.links) net (draft_at net [] [] [] []) 0 net.links
+links_read net w = links_are_read net (has_larger net.links) net.links [] 0 0 [] [] w refl refl w.kept.in_turn (record { firsts_are = refl; named_are = refl })
 
 links_of_read : (net : Net) (named : List (List ℕ)) (firsts : List LinkId) → IsNetwork net → each (link_at (has_larger net.links)) (draft_at net [] [] [] []) 0 (items_of (map (link_data net) net.links)) ≡ Ok (draft_at net net.interfaces net.links named firsts)
     → links_of (has_larger net.links) (draft_at net [] [] [] []) (network_data net) ≡ Ok (rows_at net named firsts [])
@@ -116,12 +113,12 @@ pub record MeansNetwork (net : Net) : Type 0 where
   pub read : file_of empty (network_data net) ≡ Ok draft
   pub same : draft.net ≡ net
 
-pub network_is_read : (net : Net) → IsWritten net → AreInterfacesInOrder net → MeansNetwork net
+pub network_is_read : (net : Net) → IsWritten net → MeansNetwork net
 unfolding file_of
-network_is_read net w next = record { draft = rows_at net links.named links.firsts net.rows; read = rw (format_is_read net, routers_read net w.kept, labels_read net w.kept, links_of_read net links.named links.firsts w.kept links.read) (tables_read net links.named links.firsts w.kept); same = refl }
+network_is_read net w = record { draft = rows_at net links.named links.firsts net.rows; read = rw (format_is_read net, routers_read net w.kept, labels_read net w.kept, links_of_read net links.named links.firsts w.kept links.read) (tables_read net links.named links.firsts w.kept); same = refl }
   where
     links : LinksRead (has_larger net.links) net (draft_at net [] [] [] []) 0 net.links
-    links = links_read net w next
+    links = links_read net w
 
 -- ---- how deep the value is
 
@@ -164,12 +161,12 @@ network_flat net =
     omega (arith, routers, mpls, smpls, ip, links, tables)
 
 -- bytes that read as the value of a network mean it
-pub bytes_mean : (net : Net) (d : Data) (bytes : List ℕ) → IsWritten net → d ≡ network_data net → IsUtf8 bytes → (depth d ≤ max_depth → read bytes ≡ Some d) → AreInterfacesInOrder net → length bytes ≤ 67108864 → network_of bytes ≡ Ok net
+pub bytes_mean : (net : Net) (d : Data) (bytes : List ℕ) → IsWritten net → d ≡ network_data net → IsUtf8 bytes → (depth d ≤ max_depth → read bytes ≡ Some d) → length bytes ≤ 67108864 → network_of bytes ≡ Ok net
 unfolding network_of json_of
-bytes_mean net d bytes w is utf8 reads next few = rw (le-leb (length bytes) 67108864 few, is_utf8-from_IsUtf8 bytes utf8, value, means.read) (ap Ok means.same)
+bytes_mean net d bytes w is utf8 reads few = rw (le-leb (length bytes) 67108864 few, is_utf8-from_IsUtf8 bytes utf8, value, means.read) (ap Ok means.same)
   where
     means : MeansNetwork net
-    means = network_is_read net w next
+    means = network_is_read net w
 
     flat : depth d ≤ max_depth
     flat = rw is (network_flat net)

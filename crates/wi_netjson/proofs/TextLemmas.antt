@@ -1,8 +1,8 @@
 -- The value of a network has no float.
-use Rattle.std.proofs.Common.{◌≡◌, ℕ, Bool, true, false, List, [], ◌∷◌, ◌++◌, ◌||◌, map, refl, sym, ap, ◌∙◌}
-use Rattle.serde_json.specs.Data.{Data, string, array, object, Items, no_items, item, Members}
+use Rattle.std.proofs.Common.{◌≡◌, ℕ, Bool, true, false, List, [], ◌∷◌, map, refl, ap, ◌∙◌}
+use Rattle.serde_json.specs.Data.{Data, string}
 use Rattle.serde_json.specs.View.{items_of}
-use Rattle.serde_json.specs.Written.{has_float, items_have_float, members_have_float, compact_text}
+use Rattle.serde_json.specs.Written.{has_float, items_have_float, compact_text}
 use Rattle.wi_labels.specs.declared.label.Class.TheVariants.{Mpls, Smpls, Ip}
 use Rattle.wi_labels.specs.declared.ops.Op.{Op}
 use Rattle.wi_labels.specs.declared.ops.Op.TheVariants.{Swap, Push, Pop}
@@ -10,7 +10,7 @@ use Rattle.wi_net.specs.declared.parts.Link.{Link}
 use Rattle.wi_net.specs.declared.parts.Member.{Member}
 use Rattle.wi_net.specs.declared.parts.Row.{Row}
 use Rattle.wi_net.specs.Net.{Net}
-use Rattle.wi_netjson.specs.Written.{list_of, labels_in, labels_data, is_larger, group_member, link_data, op_data, way_data, group_data, row_data, network_data, text_of}
+use Rattle.wi_netjson.specs.Written.{list_of, labels_in, labels_data, is_larger, link_data, op_data, way_data, group_data, row_data, network_data, text_of}
 
 items_plain : {X : Type 0} (f : X → Data) (xs : List X) → ((x : X) → has_float (f x) ≡ false) → items_have_float (items_of (map f xs)) ≡ false
 items_plain f [] plain = refl

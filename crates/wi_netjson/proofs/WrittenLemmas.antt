@@ -1,10 +1,9 @@
 -- Values that are written one by one.
-use Rattle.std.proofs.Common.{◌≡◌, ℕ, zero, suc, ◌+◌, ◌<◌, ◌≤◌, Bool, true, false, cond, ◌&&◌, ◌||◌, ◌==◌, nat_lt, nat_le, List, [], ◌∷◌, ◌++◌, map, take, drop, set, length, slice_get, get_or, position, Option, Some, None, ◌⊎◌, inl, inr, refl, sym, ap, ◌∙◌, append-nil, arith}
+use Rattle.std.proofs.Common.{◌≡◌, ℕ, zero, suc, ◌+◌, ◌<◌, ◌≤◌, Bool, true, false, cond, ◌||◌, ◌==◌, List, [], ◌∷◌, ◌++◌, map, take, drop, set, length, slice_get, get_or, position, Option, Some, None, ◌⊎◌, inl, inr, refl, sym, ap, ◌∙◌, append-nil, arith}
 use Rattle.std.specs.Prelude.{is_none, codes, option_map}
-use Rattle.std.specs.Option.{option_map_or}
 use Rattle.std.specs.List.{list_all, list_any}
 use Rattle.std.specs.Global.{Vec}
-use Rattle.std.proofs.lemmas.Bool.{and_parts, and_from, ltb-true, lt-ltb, cases_lt, cases_eq, eq-eqb, ne_eqb}
+use Rattle.std.proofs.lemmas.Bool.{and_parts, and_from, cases_lt, cases_eq, eq-eqb, ne_eqb}
 use Rattle.std.proofs.lemmas.List.{map_push, take_more, take_all, length-take, drop-append-le, get_or-set_same, get_or-set_other}
 use Rattle.std.proofs.Math.ListN.{drop_of_length-le}
 use Rattle.std.proofs.lemmas.List.Folds.{list_any-append}
@@ -18,15 +17,13 @@ use Rattle.wi_labels.specs.declared.label.Label.{Label}
 use Rattle.wi_labels.specs.Header.{same_class}
 use Rattle.wi_net.specs.declared.parts.Link.{Link}
 use Rattle.wi_net.specs.declared.parts.LinkId.{LinkId}
-use Rattle.wi_net.specs.declared.parts.RouterId.{RouterId}
 use Rattle.wi_net.specs.declared.parts.Member.{Member}
 use Rattle.wi_net.specs.declared.parts.Row.{Row}
 use Rattle.wi_net.specs.Tables.{is_row, are_rows_apart, groups_in}
-use Rattle.wi_net.specs.Net.{Net, is_link, entry}
-use Rattle.wi_net.specs.Network.{IsNetwork, op_known, leaves, is_member_at, is_group_at, is_row_of, is_link_of}
-use Rattle.wi_net.proofs.GroupLemmas.{all_weaken}
-use Rattle.wi_net.proofs.KeptLists.{nothing_is, none_parts, there_parts, same_flip, all_get, all_push, get_there}
-use Rattle.wi_netjson.specs.Written.{name_at, list_of, labels_in, is_larger, is_way_of, op_data, way_data, group_data, row_data}
+use Rattle.wi_net.specs.Net.{Net, entry}
+use Rattle.wi_net.specs.Network.{IsNetwork, is_row_of}
+use Rattle.wi_net.proofs.KeptLists.{nothing_is, none_parts, same_flip, all_get, all_push, get_there}
+use Rattle.wi_netjson.specs.Written.{name_at, list_of, labels_in, op_data, way_data, group_data, row_data}
 
 -- one more
 pub longer : {X : Type 0} (xs : List X) (i : ℕ) (x : X) → slice_get xs i ≡ Some x → take (i + 1) xs ≡ take i xs ++ x ∷ []
@@ -130,7 +127,7 @@ one_label : (class c : Class) (classes : List Class) (labels : List (List ℕ)) 
 one_label class c classes labels i n at_c at_n =
     let c_in = slice_get_within classes i c at_c in
     let n_in = slice_get_within labels i n at_n in
-    let len : length (take i classes) ≡ length (take i labels) = rw (length-take, length-take) (omega arith) in
+    let len : length (take i classes) ≡ length (take i labels) = rw (length-take i classes, length-take i labels) (omega arith) in
     ap (λ cs. labels_in class cs (take (i + 1) labels)) (longer classes i c at_c) ∙ ap (labels_in class (take i classes ++ c ∷ [])) (longer labels i n at_n) ∙ labels_push class c (take i classes) (take i labels) n len
 
 -- the labels of a class so far, with one more
@@ -147,45 +144,8 @@ class_skip class c classes labels i vs at_c len other so_far =
     let n = get_there labels i (omega (arith, len, within)) in
     so_far ∙ ap (map string) (sym (one_label class c classes labels i n.0 at_c n.1 ∙ ap (λ b. labels_in class (take i classes) (take i labels) ++ cond b (n.0 ∷ []) []) other ∙ append-nil (labels_in class (take i classes) (take i labels))))
 
--- a link of a network has its ends there
-pub record HasEnds (net : Net) (l : Link) : Type 0 where
-  pub from : l.from.0 < length net.routers
-  pub to : l.to.0 < length net.routers
-  pub out : l.out_if.0 < length net.interfaces
-  pub into : l.in_if.0 < length net.interfaces
-
-pub ends_of : (net : Net) (l : Link) → is_link_of net l ≡ true → HasEnds net l
-ends_of net l h =
-    let parts = and_parts (nat_lt l.from.0 (length net.routers) && nat_lt l.to.0 (length net.routers)) (nat_lt l.out_if.0 (length net.interfaces) && nat_lt l.in_if.0 (length net.interfaces)) h in
-    let routers = and_parts (nat_lt l.from.0 (length net.routers)) (nat_lt l.to.0 (length net.routers)) parts.0 in
-    let interfaces = and_parts (nat_lt l.out_if.0 (length net.interfaces)) (nat_lt l.in_if.0 (length net.interfaces)) parts.1 in
-    record { from = ltb-true _ _ routers.0; to = ltb-true _ _ routers.1; out = ltb-true _ _ interfaces.0; into = ltb-true _ _ interfaces.1 }
-
-pub link_in : (net : Net) (i : ℕ) (l : Link) → IsNetwork net → slice_get net.links i ≡ Some l → is_link_of net l ≡ true
-link_in net i l k at = all_get (is_link_of net) net.links i l k.links at
-
-pub has_ends : (net : Net) (i : ℕ) (l : Link) → IsNetwork net → slice_get net.links i ≡ Some l → HasEnds net l
-has_ends net i l k at = ends_of net l (link_in net i l k at)
-
 named : (names : List (List ℕ)) (i : ℕ) (s : List ℕ) → slice_get names i ≡ Some s → name_at names i ≡ s
 named names i s at = get_or_from_slice_get names i s [] at
-
--- a member that a table of a router may have has its link and labels in the network
-way_in : (net : Net) (r : RouterId) (m : Member) → is_member_at net r m ≡ true → is_way_of net m ≡ true
-way_in net r m h =
-    let parts = and_parts (leaves net r m.link) (nat_le (length m.ops) 8 && list_all (op_known net) m.ops) h in
-    let ops = and_parts (nat_le (length m.ops) 8) (list_all (op_known net) m.ops) parts.1 in
-    let found = there_parts (λ (l : Link). l.from.0 == r.0) (slice_get net.links m.link.0) parts.0 in
-    and_from (is_link net m.link) (list_all (op_known net) m.ops) (lt-ltb _ _ (slice_get_within net.links m.link.0 found.0 found.1)) ops.1
-
-group_in : (net : Net) (r : RouterId) (g : List Member) → is_group_at net r g ≡ true → list_all (is_way_of net) g ≡ true
-group_in net r g h = all_weaken (is_member_at net r) (is_way_of net) g (λ m k. way_in net r m k) ((and_parts (nat_lt 0 (length g)) (list_all (is_member_at net r) g) h).1)
-
-pub row_ways : (net : Net) (row : Row) → is_row_of net row ≡ true → list_all (λ g. list_all (is_way_of net) g) row.groups ≡ true
-row_ways net row h =
-    let parts = and_parts (nat_lt row.label.0 (length net.labels)) (option_map_or (λ (l : Link). list_all (is_group_at net l.to) row.groups) (slice_get net.links row.link.0) false) h in
-    let found = there_parts (λ (l : Link). list_all (is_group_at net l.to) row.groups) (slice_get net.links row.link.0) parts.1 in
-    all_weaken (is_group_at net (found.0).to) (λ g. list_all (is_way_of net) g) row.groups (λ g k. group_in net (found.0).to g k) found.2
 
 -- a member of names that are there
 pub way_written : (net : Net) (m : Member) (l : Link) (out : List ℕ) (ops v : Data) → slice_get net.links m.link.0 ≡ Some l → slice_get net.interfaces l.out_if.0 ≡ Some out → ops ≡ list_of (op_data net) m.ops
@@ -224,13 +184,13 @@ row_found net i link label groups k found is = go (slice_get net.rows i) refl
   where
     go : (o : Option Row) → slice_get net.rows i ≡ o → slice_get net.rows i ≡ Some (row_of link label groups)
     go (Some row) at =
-        let given : Some (row.link, row.label) ≡ Some (link, label) = rw at at found in
+        let given : (let o : Option (LinkId × Label) = Some (row.link, row.label) in o ≡ Some (link, label)) = rw at at found in
         let pair : (let p : LinkId × Label = (row.link, row.label) in p ≡ (link, label)) = cc in
         let link_is : row.link ≡ link = ap (λ (p : LinkId × Label). p.0) pair in
         let label_is : row.label ≡ label = ap (λ (p : LinkId × Label). p.1) pair in
         let groups_are : row.groups ≡ groups = sym (groups_of_row net.rows i row k.rows_apart at) ∙ ap (λ e. groups_in net.rows e row.label) link_is ∙ ap (λ l. groups_in net.rows link l) label_is ∙ sym is in
         at ∙ ap (λ e. Some (row_of e row.label row.groups)) link_is ∙ ap (λ l. Some (row_of link l row.groups)) label_is ∙ ap (λ gs. Some (row_of link label gs)) groups_are
-    go None at = let none : None ≡ Some (link, label) = rw at at found in cc
+    go None at = let none : (let o : Option (LinkId × Label) = None in o ≡ Some (link, label)) = rw at at found in cc
 
 pub row_in : (net : Net) (i : ℕ) (row : Row) → IsNetwork net → slice_get net.rows i ≡ Some row → is_row_of net row ≡ true
 row_in net i row k at = all_get (is_row_of net) net.rows i row k.rows at

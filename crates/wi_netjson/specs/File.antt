@@ -5,11 +5,11 @@ use Rattle.serde_json.specs.Read.{read}
 use Rattle.serde_json.specs.Data.{Data}
 use Rattle.serde_json.specs.Find.{get}
 use Rattle.wi_net.specs.Net.{Net}
-use Rattle.wi_net.specs.Builder.{◌>>=◌, Draft, empty}
+use Rattle.wi_net.specs.Builder.{◌>>=◌, Draft, empty, rule, known}
 use Rattle.wi_netjson.specs.declared.fault.Place.TheVariants.{File, Format}
 use Rattle.wi_netjson.specs.declared.fault.NetFault.{NetFault}
 use Rattle.wi_netjson.specs.declared.fault.NetFault.TheVariants.{NotJson, UnknownFormat, OverLimit}
-use Rattle.wi_netjson.specs.Reading.{text, object, require, known}
+use Rattle.wi_netjson.specs.Reading.{text, object}
 use Rattle.wi_netjson.specs.Routers.{routers_of}
 use Rattle.wi_netjson.specs.Labels.{labels_of}
 use Rattle.wi_netjson.specs.Links.{links_of}
@@ -36,7 +36,7 @@ file_of draft d = do
   tables_of links file
 
 abbrev pub few_bytes : List ℕ → Result (Unit {0}) NetFault
-few_bytes bytes = require (OverLimit File 67108864) (nat_le (length bytes) 67108864)
+few_bytes bytes = rule (OverLimit File 67108864) (nat_le (length bytes) 67108864)
 
 -- the network that bytes mean, or their first fault
 unfoldable pub network_of : List ℕ → Result Net NetFault

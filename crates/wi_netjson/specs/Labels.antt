@@ -5,18 +5,18 @@ use Rattle.serde_json.specs.Find.{get}
 use Rattle.wi_labels.specs.declared.label.Class.{Class}
 use Rattle.wi_labels.specs.declared.label.Class.TheVariants.{Mpls, Smpls, Ip}
 use Rattle.wi_net.specs.Names.{is_name, place}
-use Rattle.wi_net.specs.Builder.{◌>>=◌, Draft, with_label}
+use Rattle.wi_net.specs.Builder.{◌>>=◌, Draft, with_label, rule}
 use Rattle.wi_netjson.specs.declared.fault.Place.TheVariants.{Labels, LabelList, LabelName}
 use Rattle.wi_netjson.specs.declared.fault.NetFault.{NetFault}
 use Rattle.wi_netjson.specs.declared.fault.NetFault.TheVariants.{BadName, RepeatedLabel}
-use Rattle.wi_netjson.specs.Reading.{text, list, object, require, limited, each}
+use Rattle.wi_netjson.specs.Reading.{text, list, object, limited, each}
 
 -- a name that is new over all classes
 unfoldable pub label_at : Class → Draft → ℕ → Data → Result Draft NetFault
 label_at class draft i d = do
   name ← text (LabelName class i) (Some d)
-  _ ← require (BadName (LabelName class i)) (is_name name)
-  _ ← require (RepeatedLabel (LabelName class i)) (is_none (place draft.net.labels name))
+  _ ← rule (BadName (LabelName class i)) (is_name name)
+  _ ← rule (RepeatedLabel (LabelName class i)) (is_none (place draft.net.labels name))
   Ok (with_label draft class name)
 
 -- the labels of a class; with those before they aren't too many

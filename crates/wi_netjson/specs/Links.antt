@@ -4,12 +4,12 @@ use Rattle.serde_json.specs.Data.{Data}
 use Rattle.serde_json.specs.Find.{get}
 use Rattle.wi_net.specs.Names.{is_name}
 use Rattle.wi_net.specs.Finding.{find_router, find_out, find_in}
-use Rattle.wi_net.specs.Builder.{◌>>=◌, Draft, with_new_link, is_group_name}
+use Rattle.wi_net.specs.Builder.{◌>>=◌, Draft, with_new_link, is_group_name, rule, known}
 use Rattle.wi_netjson.specs.declared.fault.Place.TheVariants.{Links, Link, LinkPart}
 use Rattle.wi_netjson.specs.declared.fault.LinkPart.TheVariants as on
 use Rattle.wi_netjson.specs.declared.fault.NetFault.{NetFault}
 use Rattle.wi_netjson.specs.declared.fault.NetFault.TheVariants.{BadName, UnknownRouter, InterfaceTaken}
-use Rattle.wi_netjson.specs.Reading.{text, list, object, require, known, limited, whole, optional_text, each}
+use Rattle.wi_netjson.specs.Reading.{text, list, object, limited, whole, optional_text, each}
 
 -- the name of a link's risk group, in a file that has such
 abbrev pub group_name_at : Bool → ℕ → Data → Result (Option (List ℕ)) NetFault
@@ -19,13 +19,13 @@ group_name_at true i o = optional_text (LinkPart i on.Group) (get (codes "group"
 -- a link by names: routers that are there, interfaces that are free
 unfoldable pub link_rules : Draft → ℕ → List ℕ → List ℕ → List ℕ → List ℕ → ℕ → Option (List ℕ) → Result Draft NetFault
 link_rules draft i from out to into distance group = do
-  _ ← require (BadName (LinkPart i on.Group)) (is_group_name group)
-  _ ← require (BadName (LinkPart i on.Out)) (is_name out)
-  _ ← require (BadName (LinkPart i on.In)) (is_name into)
+  _ ← rule (BadName (LinkPart i on.Group)) (is_group_name group)
+  _ ← rule (BadName (LinkPart i on.Out)) (is_name out)
+  _ ← rule (BadName (LinkPart i on.In)) (is_name into)
   f ← known (UnknownRouter (LinkPart i on.From)) (find_router draft.net from)
   t ← known (UnknownRouter (LinkPart i on.To)) (find_router draft.net to)
-  _ ← require (InterfaceTaken (LinkPart i on.Out)) (is_none (find_out draft.net f out))
-  _ ← require (InterfaceTaken (LinkPart i on.In)) (is_none (find_in draft.net t into))
+  _ ← rule (InterfaceTaken (LinkPart i on.Out)) (is_none (find_out draft.net f out))
+  _ ← rule (InterfaceTaken (LinkPart i on.In)) (is_none (find_in draft.net t into))
   Ok (with_new_link draft f out t into distance group)
 
 -- shapes first, then the rules

@@ -8,12 +8,11 @@ use Rattle.wi_labels.specs.declared.ops.Op.TheVariants.{Swap, Push, Pop}
 use Rattle.wi_labels.specs.Header.{Entry}
 use Rattle.wi_net.specs.Net.{Net}
 use Rattle.wi_net.specs.Finding.{find_label}
-use Rattle.wi_net.specs.Builder.{◌>>=◌}
+use Rattle.wi_net.specs.Builder.{◌>>=◌, known}
 use Rattle.wi_netjson.specs.declared.fault.Place.{Place}
 use Rattle.wi_netjson.specs.declared.fault.Place.TheVariants.{Operation}
 use Rattle.wi_netjson.specs.declared.fault.NetFault.{NetFault}
 use Rattle.wi_netjson.specs.declared.fault.NetFault.TheVariants.{UnknownLabel, BadOperation}
-use Rattle.wi_netjson.specs.Reading.{known}
 
 -- the label of a name, with its class
 abbrev pub labelled : Net → List ℕ → Option Entry

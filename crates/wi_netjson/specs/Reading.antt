@@ -1,9 +1,9 @@
 -- Reading a value from the top down, with the first fault that is met.
-use Rattle.std.specs.Prelude.{◌≡◌, ℕ, ◌+◌, List, Option, Some, None, Result, Ok, Err, is_some, nat_le, option_and_then, if◌then◌else◌, Bool}
+use Rattle.std.specs.Prelude.{◌≡◌, ℕ, ◌+◌, List, Option, Some, None, Result, Ok, Err, is_some, nat_le, option_and_then, if◌then◌else◌}
 use Rattle.serde_json.specs.Data.{Data, Items, no_items, item, Num}
 use Rattle.serde_json.specs.Find.{as_str, as_array, as_object, as_number, as_u64}
 use Rattle.serde_json.specs.Events.{items_len}
-use Rattle.wi_net.specs.Builder.{◌>>=◌}
+use Rattle.wi_net.specs.Builder.{◌>>=◌, rule, known}
 use Rattle.wi_netjson.specs.declared.fault.Place.{Place}
 use Rattle.wi_netjson.specs.declared.fault.NetFault.{NetFault}
 use Rattle.wi_netjson.specs.declared.fault.NetFault.TheVariants.{Memory, WrongShape, OverLimit, BadNumber}
@@ -17,15 +17,6 @@ Fails fault read = read ≡ Err fault
 abbrev pub Gives : {X Y : Type 0} → (X → Y) → Result X NetFault → Result Y NetFault → Type 0
 Gives view (Ok x) read = read ≡ Ok (view x)
 Gives view (Err fault) read = Fails fault read
-
--- a test that has to hold
-abbrev pub require : NetFault → Bool → Result (Unit {0}) NetFault
-require fault test = if test then Ok tt else Err fault
-
--- a thing that has to be there
-abbrev pub known : {A : Type 0} → NetFault → Option A → Result A NetFault
-known fault (Some x) = Ok x
-known fault None = Err fault
 
 -- what is there, or the wrong shape
 abbrev pub shaped : {A : Type 0} → Place → Option A → Result A NetFault
@@ -58,7 +49,7 @@ optional_text place (Some d) = text place (Some d) >>= λ s. Ok (Some s)
 
 -- so many things and those of a list aren't over a limit
 abbrev pub limited : Place → ℕ → ℕ → Items → Result (Unit {0}) NetFault
-limited place limit before items = require (OverLimit place limit) (nat_le (before + items_len items) limit)
+limited place limit before items = rule (OverLimit place limit) (nat_le (before + items_len items) limit)
 
 -- the elements in turn, each with its number and with what those before it left
 abbrev pub each : {S : Type 0} → (S → ℕ → Data → Result S NetFault) → S → ℕ → Items → Result S NetFault

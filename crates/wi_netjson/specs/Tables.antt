@@ -10,13 +10,13 @@ use Rattle.wi_net.specs.declared.parts.Member.{Member as Way}
 use Rattle.wi_net.specs.Tables.{is_row, group_members, row_members}
 use Rattle.wi_net.specs.Net.{Net}
 use Rattle.wi_net.specs.Finding.{find_router, find_label, find_out, find_in}
-use Rattle.wi_net.specs.Builder.{◌>>=◌, Draft, with_row}
+use Rattle.wi_net.specs.Builder.{◌>>=◌, Draft, with_row, rule, known}
 use Rattle.wi_netjson.specs.declared.fault.Place.TheVariants.{Tables, Table, TablePart, Group, Member, MemberPart}
 use Rattle.wi_netjson.specs.declared.fault.TablePart.TheVariants as table
 use Rattle.wi_netjson.specs.declared.fault.MemberPart.TheVariants as way
 use Rattle.wi_netjson.specs.declared.fault.NetFault.{NetFault}
 use Rattle.wi_netjson.specs.declared.fault.NetFault.TheVariants.{UnknownRouter, UnknownInterface, UnknownLabel, RepeatedTable, EmptyGroup, OverLimit}
-use Rattle.wi_netjson.specs.Reading.{text, list, object, require, known, limited, each}
+use Rattle.wi_netjson.specs.Reading.{text, list, object, limited, each}
 use Rattle.wi_netjson.specs.Operations.{operation_at}
 
 -- a way out of a router, where so many members stand before it in the file
@@ -25,7 +25,7 @@ way_at net router so_far i j m d = do
   o ← object (Member i j m) (Some d)
   out ← text (MemberPart i j m way.Out) (get (codes "out") o)
   items ← list (MemberPart i j m way.Ops) (get (codes "ops") o)
-  _ ← require (OverLimit (Member i j m) 400000) (nat_lt so_far 400000)
+  _ ← rule (OverLimit (Member i j m) 400000) (nat_lt so_far 400000)
   link ← known (UnknownInterface (MemberPart i j m way.Out)) (find_out net router out)
   _ ← limited (MemberPart i j m way.Ops) 8 0 items
   ops ← each (operation_at net i j m) [] 0 items
@@ -39,7 +39,7 @@ member_at net router so_far i j before m d = way_at net router (so_far + length 
 unfoldable pub group_members_at : Net → RouterId → ℕ → ℕ → ℕ → Data → Result (List Way) NetFault
 group_members_at net router so_far i j d = do
   items ← list (Group i j) (Some d)
-  _ ← require (EmptyGroup (Group i j)) (nat_lt 0 (items_len items))
+  _ ← rule (EmptyGroup (Group i j)) (nat_lt 0 (items_len items))
   each (member_at net router so_far i j) [] 0 items
 
 -- one more group
@@ -52,7 +52,7 @@ table_ends net i at into name = do
   router ← known (UnknownRouter (TablePart i table.At)) (find_router net at)
   link ← known (UnknownInterface (TablePart i table.In)) (find_in net router into)
   label ← known (UnknownLabel (TablePart i table.Label)) (find_label net name)
-  _ ← require (RepeatedTable (TablePart i table.Label)) (is_none (position (is_row link label) net.rows))
+  _ ← rule (RepeatedTable (TablePart i table.Label)) (is_none (position (is_row link label) net.rows))
   Ok (router, link, label)
 
 -- shapes, then ends, then groups

@@ -1,6 +1,6 @@
 -- The canonical text of a network.
-use Rattle.std.specs.Prelude.{◌≡◌, ℕ, ◌+◌, ◌==◌, ◌&&◌, Bool, false, List, [], ◌∷◌, ◌++◌, map, drop, slice_get, slice_index_or, unwrap_or, option_map, codes, decimal, length, nat_lt, nat_le, Option, Some, None, if◌then◌else◌}
-use Rattle.std.specs.List.{list_any, list_all}
+use Rattle.std.specs.Prelude.{◌≡◌, ℕ, ◌+◌, ◌==◌, Bool, false, List, [], ◌∷◌, ◌++◌, map, drop, slice_get, slice_index_or, unwrap_or, option_map, codes, decimal, nat_le, if◌then◌else◌}
+use Rattle.std.specs.List.{list_any}
 use Rattle.serde_json.specs.Data.{Data, number, unsigned, string, array, object, Members, member, no_members}
 use Rattle.serde_json.specs.View.{items_of}
 use Rattle.serde_json.specs.Written.{compact_text}
@@ -14,8 +14,7 @@ use Rattle.wi_net.specs.declared.parts.Link.{Link}
 use Rattle.wi_net.specs.declared.parts.LinkId.{LinkId}
 use Rattle.wi_net.specs.declared.parts.Member.{Member}
 use Rattle.wi_net.specs.declared.parts.Row.{Row}
-use Rattle.wi_net.specs.Net.{Net, is_link}
-use Rattle.wi_net.specs.Network.{op_known}
+use Rattle.wi_net.specs.Net.{Net}
 
 -- the name of a number
 abbrev pub name_at : List (List ℕ) → ℕ → List ℕ
@@ -80,10 +79,6 @@ op_data net (Swap l c) = list_of string (codes "swap" ∷ label_name net l ∷ [
 op_data net (Push l c) = list_of string (codes "push" ∷ label_name net l ∷ [])
 op_data net Pop = list_of string (codes "pop" ∷ [])
 
--- the member's link and labels are the network's
-abbrev pub is_way_of : Net → Member → Bool
-is_way_of net m = is_link net m.link && list_all (op_known net) m.ops
-
 -- a member of a group
 abbrev pub way_data : Net → Member → Data
 way_data net m = object (member (codes "ops") (list_of (op_data net) m.ops) (member (codes "out") (string (out_name net m.link)) no_members))
@@ -116,18 +111,3 @@ network_data net =
 -- the compact text of a network's value
 unfoldable pub text_of : Net → List ℕ
 text_of net = compact_text (network_data net)
-
--- ---- interfaces are numbered in the order in which links name them
-
--- how many have names when one of a number is named: a new one has the next number
-abbrev pub named_next : Option ℕ → ℕ → Option ℕ
-named_next None i = None
-named_next (Some n) i = if nat_lt i n then Some n else if i == n then Some (n + 1) else None
-
--- how many have names after links, each of which names its out interface, then its in interface
-abbrev pub named_after : Option ℕ → List Link → Option ℕ
-named_after n [] = n
-named_after n (l ∷ links) = named_after (named_next (named_next n l.out_if.0) l.in_if.0) links
-
-abbrev pub AreInterfacesInOrder : Net → Type 0
-AreInterfacesInOrder net = named_after (Some 0) net.links ≡ Some (length net.interfaces)

@@ -1,8 +1,8 @@
 //! A whole network file.
 ghost use Rattle.std.specs.Prelude.{◌≡◌, option_map};
 ghost use Rattle.serde_json.specs.View.{view};
-ghost use Rattle.wi_net.specs.Builder.{empty};
-ghost use Rattle.wi_netjson.specs.Reading.{Gives, known};
+ghost use Rattle.wi_net.specs.Builder.{empty, known};
+ghost use Rattle.wi_netjson.specs.Reading.{Gives};
 ghost use Rattle.wi_netjson.specs.File.{json_of, has_groups, file_of, network_of, few_bytes};
 
 use crate::fault::{NetFault, Place};

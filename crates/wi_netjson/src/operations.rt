@@ -2,7 +2,8 @@
 ghost use Rattle.std.specs.Prelude.{◌≡◌, [], option_map};
 ghost use Rattle.serde_json.specs.Find.{as_array};
 ghost use Rattle.serde_json.specs.View.{view, items_view};
-ghost use Rattle.wi_netjson.specs.Reading.{Gives, each, known};
+ghost use Rattle.wi_net.specs.Builder.{known};
+ghost use Rattle.wi_netjson.specs.Reading.{Gives, each};
 ghost use Rattle.wi_netjson.specs.Operations.{operation_at, operation_of, one_word, two_words, labelled};
 
 use crate::fault::{NetFault, Place};

@@ -433,6 +433,12 @@ fn long_lists(rt: HostRuntime) -> Result<(), Fail> {
             199997,
             "tables: over the limit 200000",
         ),
+        (
+            r#""label":"30","groups":[["#,
+            r#"{"out":"b","ops":[]},"#,
+            399997,
+            "tables[2].groups[0][399997]: over the limit 400000",
+        ),
     ];
     for (list, element, count, wanted) in cases {
         let more = element.repeat(rt.alloc(), count)?;
@@ -567,5 +573,88 @@ fn the_canonical_text_of_risk_groups(rt: HostRuntime) -> Result<(), Fail> {
     let alone = with_groups(alloc, "mpls-whatif-2", fiber, r#""note":1"#)?;
     let written = rewritten(alloc, alone.as_bytes())?;
     assert!(rt; written.as_slice() == CANONICAL.as_bytes());
+    Ok(())
+}
+
+// A text with parts of it replaced.
+fn varied(alloc: Global, text: &str, changes: &[(&str, &str)]) -> Result<String, AllocError> {
+    let mut varied = String::from_str(alloc, text)?;
+    for (old, new) in changes {
+        varied = varied.replace(alloc, *old, *new)?;
+    }
+    Ok(varied)
+}
+
+// Whether a text is read and written, and that again read and written is the same.
+fn is_stable(alloc: Global, text: &str) -> Result<bool, AllocError> {
+    let written = rewritten(alloc, text.as_bytes())?;
+    let again = rewritten(alloc, written.as_slice())?;
+    Ok(!written.is_empty() && again.as_slice() == written.as_slice())
+}
+
+// A router z, a link from b to it, and a second way out of b.
+const TO_Z: [(&str, &str); 3] = [
+    (r#""c","y"]"#, r#""c","y","z"]"#),
+    (
+        r#"}],"tables""#,
+        r#"},{"from":"b","out":"z","to":"z","in":"b","distance":1}],"tables""#,
+    ),
+    (
+        r#"[[{"out":"y","ops":[["pop"]]}]]}]}"#,
+        r#"[[{"out":"y","ops":[["pop"]]}],[{"out":"z","ops":[["pop"]]}]]}]}"#,
+    ),
+];
+
+// A label 31 and a way back from c to a.
+const BACK_TO_A: [(&str, &str); 3] = [
+    (r#"["30"]"#, r#"["30","31"]"#),
+    (
+        r#"}],"tables""#,
+        r#"},{"from":"c","out":"a2","to":"a","in":"c2","distance":1}],"tables""#,
+    ),
+    (
+        r#"[[{"out":"b","ops":[["pop"]]}]]}"#,
+        r#"[[{"out":"a2","ops":[["swap","31"]]}]]},{"at":"a","in":"c2","label":"31","groups":[[{"out":"b","ops":[["pop"]]}]]}"#,
+    ),
+];
+
+// The links from a to b and from b to y in one risk group.
+const FIBER: [(&str, &str); 3] = [
+    ("mpls-whatif-1", "mpls-whatif-2"),
+    (
+        r#""from":"a","out":"b""#,
+        r#""from":"a","out":"b","group":"fiber""#,
+    ),
+    (
+        r#""from":"b","out":"y""#,
+        r#""from":"b","out":"y","group":"fiber""#,
+    ),
+];
+
+#[test]
+fn networks_are_written_and_read_again(rt: HostRuntime) -> Result<(), Fail> {
+    let alloc = rt.alloc();
+    let own_link = [(
+        r#"[["push","s10"]]}],[{"out":"c","ops":[["push","s10"],["push","30"]]}]"#,
+        r#"[["swap","ip1"]]}],[{"out":"b","ops":[["push","s10"]]}]"#,
+    )];
+    let undefined = [(r#"[["push","s10"]]"#, r#"[["push","30"]]"#)];
+    let cases: [(&[(&str, &str)], &str); 4] = [
+        (&TO_Z, "6 links, 6 members"),
+        (&BACK_TO_A, "6 links, 6 members"),
+        (&own_link, "5 links, 5 members"),
+        (&undefined, "5 links, 5 members"),
+    ];
+    for (changes, wanted) in cases {
+        let text = varied(alloc, N1, changes)?;
+        let counts = judged(alloc, text.as_bytes())?;
+        assert_eq!(rt; counts.as_str(), wanted);
+        assert!(rt; is_stable(alloc, text.as_str())?);
+    }
+    let to_z = varied(alloc, N1, &TO_Z)?;
+    let text = varied(alloc, to_z.as_str(), &FIBER)?;
+    let counts = judged(alloc, text.as_bytes())?;
+    assert_eq!(rt; counts.as_str(), "6 links, 6 members");
+    assert!(rt; is_stable(alloc, text.as_str())?);
     Ok(())
 }

@@ -3,8 +3,8 @@ ghost use Rattle.std.specs.Prelude.{◌≡◌, ◌++◌, ◌∷◌, [], true, fa
 ghost use Rattle.std.specs.List.{list_all};
 ghost use Rattle.serde_json.specs.Data.{string, number, unsigned, object, member, no_members};
 ghost use Rattle.serde_json.specs.View.{view};
-ghost use Rattle.wi_net.specs.Network.{op_known, is_link_of, is_row_of};
-ghost use Rattle.wi_netjson.specs.Written.{AreLarger, has_larger, format_of, list_of, labels_in, labels_data, link_data, op_data, way_data, group_data, row_data, is_way_of, network_data, text_of, has_small_distance, AreInterfacesInOrder};
+ghost use Rattle.wi_net.specs.Network.{HasEnds, op_known, is_member_of, are_groups_of, is_row_of};
+ghost use Rattle.wi_netjson.specs.Written.{AreLarger, has_larger, format_of, list_of, labels_in, labels_data, link_data, op_data, way_data, group_data, row_data, network_data, text_of, has_small_distance};
 ghost use Rattle.wi_netjson.specs.File.{network_of};
 
 use serde_json::{Value, json};
@@ -13,10 +13,11 @@ use wi_base::NoMemory;
 use wi_labels::{Class, Label, Op};
 use wi_net::{Group, Link, LinkId, Member, Network, RouterId};
 
-/// The canonical text of a network: version 1 where each risk group has one link, else version 2.
+/// The canonical text of a network: version 1 where each risk group has one link, else version 2. It reads as the same
+/// network where it is within the file limit.
 pub fn write_network(alloc: Global, network: &Network) -> Result<Vec<u8>, NoMemory>
     ensures text { IfOk result (λ bytes. bytes.items ≡ text_of network.now) }
-    ensures reads_back { IfOk result (λ bytes. AreInterfacesInOrder network.now → length bytes.items ≤ 67108864 → network_of bytes.items ≡ Ok network.now) }
+    ensures reads_back { IfOk result (λ bytes. length bytes.items ≤ 67108864 → network_of bytes.items ≡ Ok network.now) }
 {
     network.keeps();
     let value = network_value(alloc, network)?;
@@ -156,7 +157,7 @@ fn link_value(
     link: &Link,
 ) -> Result<Value, NoMemory>
     requires larger { AreLarger network.now.links larger.now }
-    requires ends { is_link_of network.now link.now ≡ true }
+    requires ends { HasEnds network.now link.now }
     ensures value { IfOk result (λ v. view v ≡ link_data network.now link.now) }
     ensures small { OnOk result (has_small_distance link.now ≡ true) }
 {
@@ -266,7 +267,7 @@ fn row_object(
 }
 
 fn groups_value(alloc: Global, network: &Network, groups: &[Group]) -> Result<Value, NoMemory>
-    requires { list_all (λ g. list_all (is_way_of network.now) g) groups.now ≡ true }
+    requires { are_groups_of network.now groups.now ≡ true }
     ensures { IfOk result (λ v. view v ≡ list_of (group_data network.now) groups.now) }
 {
     let mut values = Vec::new(alloc);
@@ -277,7 +278,7 @@ fn groups_value(alloc: Global, network: &Network, groups: &[Group]) -> Result<Va
 }
 
 fn group_value(alloc: Global, network: &Network, group: &[Member]) -> Result<Value, NoMemory>
-    requires { list_all (is_way_of network.now) group.now ≡ true }
+    requires { list_all (is_member_of network.now) group.now ≡ true }
     ensures { IfOk result (λ v. view v ≡ group_data network.now group.now) }
 {
     let mut values = Vec::new(alloc);
@@ -288,7 +289,7 @@ fn group_value(alloc: Global, network: &Network, group: &[Member]) -> Result<Val
 }
 
 fn member_value(alloc: Global, network: &Network, member: &Member) -> Result<Value, NoMemory>
-    requires { is_way_of network.now member.now ≡ true }
+    requires { is_member_of network.now member.now ≡ true }
     ensures { IfOk result (λ v. view v ≡ way_data network.now member.now) }
 {
     network.keeps();

@@ -109,11 +109,11 @@ member_named net at step n = rw n.group_is (rw n.member_is refl)
 pub names_by_link : (net : Net) (at : Place) (step : Step) (p : LinkId → Bool) (n : Names net at step) → p n.member.link ≡ true → by_link net at step p ≡ true
 names_by_link net at step p n h = rw (member_named net at step n) h
 
-first_from : (o : Option ℕ) (j : ℕ) → option_map_or (λ i. nat_eq i j) o false ≡ true → o ≡ Some j
+pub first_from : (o : Option ℕ) (j : ℕ) → option_map_or (λ i. nat_eq i j) o false ≡ true → o ≡ Some j
 first_from None j h = cc
 first_from (Some i) j h = ap Some (eqb-true i j h)
 
-first_to : (o : Option ℕ) (j : ℕ) → o ≡ Some j → option_map_or (λ i. nat_eq i j) o false ≡ true
+pub first_to : (o : Option ℕ) (j : ℕ) → o ≡ Some j → option_map_or (λ i. nat_eq i j) o false ≡ true
 first_to o j e = rw e (eq-eqb j j refl)
 
 -- what a step needs is failed where the step is usable

@@ -1,5 +1,5 @@
 -- Small networks, and runs on them. Packets come from x to a, and go from a to b, or from a by c to b; from b they go to y.
-use Rattle.std.proofs.Common.{◌≡◌, ℕ, ◌*◌, true, nat_le, List, [], ◌∷◌, length, refl}
+use Rattle.std.proofs.Common.{◌≡◌, ℕ, ◌*◌, true, nat_le, List, [], ◌∷◌, length, take, Some, refl}
 use Rattle.std.specs.List.{list_all}
 use Rattle.std.proofs.lemmas.Bool.{leb-true}
 use Rattle.wi_labels.specs.declared.label.Label.{Label}
@@ -12,10 +12,11 @@ use Rattle.wi_net.specs.declared.parts.Link.{Link}
 use Rattle.wi_net.specs.declared.parts.Member.{Member}
 use Rattle.wi_net.specs.declared.parts.Row.{Row}
 use Rattle.wi_net.specs.declared.bounds.Bounds.{Bounds}
+use Rattle.wi_net.specs.Names.{are_names}
 use Rattle.wi_net.specs.Ends.{are_ends_apart}
 use Rattle.wi_net.specs.Tables.{are_rows_apart, row_members}
 use Rattle.wi_net.specs.Net.{Net, all_links}
-use Rattle.wi_net.specs.Network.{is_link_of, is_risk_named, is_row_of, IsNetwork}
+use Rattle.wi_net.specs.Network.{is_link_of, is_risk_named, is_row_of, named_after, IsNetwork}
 use Rattle.wi_world.specs.declared.run.Step.{Step}
 use Rattle.wi_world.specs.declared.run.Run.{Run}
 
@@ -45,9 +46,9 @@ push e = Push e.0 e.1
 abbrev pub swap : Entry → Op
 swap e = Swap e.0 e.1
 
--- a link between two routers, by interfaces that are named as the routers at its other end: a distance, a risk group
-abbrev pub link : ℕ → ℕ → ℕ → LinkId → Link
-link a b d r = record { from = record { 0 = a }; out_if = record { 0 = b }; to = record { 0 = b }; in_if = record { 0 = a }; distance = d; risk = r }
+-- link n between two routers, by interfaces of the name n at both: a distance, a risk group
+abbrev pub link : ℕ → ℕ → ℕ → ℕ → LinkId → Link
+link n a b d r = record { from = record { 0 = a }; out_if = record { 0 = n }; to = record { 0 = b }; in_if = record { 0 = n }; distance = d; risk = r }
 
 -- a member of a group: its link and its operations
 abbrev pub member : ℕ → List Op → Member
@@ -61,29 +62,30 @@ only e ops = member e ops ∷ []
 abbrev pub row : ℕ → Entry → List (List Member) → Row
 row e t groups = record { link = l e; label = t.0; groups = groups }
 
--- the routers are x, a, b, c, y, z and r, and so are the interfaces
+-- the routers are x, a, b, c, y, z and r
 abbrev routers : List (List ℕ)
 routers = (120 ∷ []) ∷ (97 ∷ []) ∷ (98 ∷ []) ∷ (99 ∷ []) ∷ (121 ∷ []) ∷ (122 ∷ []) ∷ (114 ∷ []) ∷ []
 
--- a network of these links and rows
+-- a network of these links and rows, with an interface for each link
 abbrev pub net_of : List Link → List Row → Net
 net_of links rows = record {
   routers = routers;
   labels = (51 ∷ 48 ∷ []) ∷ (51 ∷ 49 ∷ []) ∷ (115 ∷ 49 ∷ 48 ∷ []) ∷ (105 ∷ 112 ∷ 49 ∷ []) ∷ [];
   classes = Mpls ∷ Mpls ∷ Smpls ∷ Ip ∷ [];
-  interfaces = routers;
+  interfaces = take (length links) routers;
   links = links;
   rows = rows;
 }
 
 -- tests that compute make such a network one that the laws speak of
-pub sample_network : (links : List Link) (rows : List Row) → list_all (is_link_of (net_of links rows)) links ≡ true → are_ends_apart links ≡ true → list_all (is_risk_named (net_of links rows)) (all_links (net_of links rows)) ≡ true → list_all (is_row_of (net_of links rows)) rows ≡ true → are_rows_apart rows ≡ true → nat_le 7 (2 * length links) ≡ true → nat_le (length links) 20000 ≡ true → nat_le (length rows) 200000 ≡ true → nat_le (row_members rows) 400000 ≡ true → IsNetwork (net_of links rows)
-sample_network links rows between ends risks tables apart named few_links few_rows few_members = record {
+pub sample_network : (links : List Link) (rows : List Row) → are_names (take (length links) routers) ≡ true → named_after (Some 0) links ≡ Some (length (take (length links) routers)) → list_all (is_link_of (net_of links rows)) links ≡ true → are_ends_apart links ≡ true → list_all (is_risk_named (net_of links rows)) (all_links (net_of links rows)) ≡ true → list_all (is_row_of (net_of links rows)) rows ≡ true → are_rows_apart rows ≡ true → nat_le (length (take (length links) routers)) (2 * length links) ≡ true → nat_le (length links) 20000 ≡ true → nat_le (length rows) 200000 ≡ true → nat_le (row_members rows) 400000 ≡ true → IsNetwork (net_of links rows)
+sample_network links rows interfaces in_turn between ends risks tables apart named few_links few_rows few_members = record {
   routers = refl;
   labels = refl;
   classes = refl;
   in_order = refl;
-  interfaces = refl;
+  interfaces = interfaces;
+  in_turn = in_turn;
   links = between;
   ends = ends;
   risks = risks;
@@ -92,14 +94,14 @@ sample_network links rows between ends risks tables apart named few_links few_ro
   few_routers = leb-true 7 10000 refl;
   few_labels = leb-true 4 20000 refl;
   few_links = leb-true (length links) 20000 few_links;
-  few_interfaces = leb-true 7 (2 * length links) named;
+  few_interfaces = leb-true (length (take (length links) routers)) (2 * length links) named;
   few_rows = leb-true (length rows) 200000 few_rows;
   few_members = leb-true (row_members rows) 400000 few_members;
 }
 
 -- l0 x to a, l1 a to b, l2 a to c, l3 c to b, l4 b to y: the risk groups of l1, l2 and l4 vary
 abbrev pub five_links : LinkId → LinkId → LinkId → List Link
-five_links r1 r2 r4 = link 0 1 1 (l 0) ∷ link 1 2 1 r1 ∷ link 1 3 2 r2 ∷ link 3 2 2 (l 3) ∷ link 2 4 1 r4 ∷ []
+five_links r1 r2 r4 = link 0 0 1 1 (l 0) ∷ link 1 1 2 1 r1 ∷ link 2 1 3 2 r2 ∷ link 3 3 2 2 (l 3) ∷ link 4 2 4 1 r4 ∷ []
 
 -- from x there is a choice at a; from a to b it goes on to y; from a to c, and from there to b, there is a choice again
 abbrev pub tables : List (List Member) → List (List Member) → List (List Member) → List Row
@@ -121,91 +123,91 @@ abbrev pub base : Net
 base = net_of (five_links (l 1) (l 2) (l 4)) (tables to_b_or_c end_at_c end_at_b)
 
 pub base_network : IsNetwork base
-base_network = sample_network base.links base.rows refl refl refl refl refl refl refl refl refl
+base_network = sample_network base.links base.rows refl refl refl refl refl refl refl refl refl refl refl
 
 -- l1 and l4 are one risk group
 abbrev pub fiber : Net
 fiber = net_of (five_links (l 1) (l 2) (l 1)) base.rows
 
 pub fiber_network : IsNetwork fiber
-fiber_network = sample_network fiber.links fiber.rows refl refl refl refl refl refl refl refl refl
+fiber_network = sample_network fiber.links fiber.rows refl refl refl refl refl refl refl refl refl refl refl
 
 -- l1 and l2 are one risk group
 abbrev pub shared : Net
 shared = net_of (five_links (l 1) (l 1) (l 4)) base.rows
 
 pub shared_network : IsNetwork shared
-shared_network = sample_network shared.links shared.rows refl refl refl refl refl refl refl refl refl
+shared_network = sample_network shared.links shared.rows refl refl refl refl refl refl refl refl refl refl refl
 
 -- l0 and l1 are one risk group
 abbrev pub shared_first : Net
 shared_first = net_of (five_links (l 0) (l 2) (l 4)) base.rows
 
 pub shared_first_network : IsNetwork shared_first
-shared_first_network = sample_network shared_first.links shared_first.rows refl refl refl refl refl refl refl refl refl
+shared_first_network = sample_network shared_first.links shared_first.rows refl refl refl refl refl refl refl refl refl refl refl
 
 -- a sixth link, b to z, is the second choice of what came by c
 abbrev pub forked : LinkId → Net
 forked r4 =
-    net_of (link 0 1 1 (l 0) ∷ link 1 2 1 (l 1) ∷ link 1 3 2 (l 2) ∷ link 3 2 2 (l 3) ∷ link 2 4 1 r4 ∷ link 2 5 1 (l 5) ∷ [])
+    net_of (link 0 0 1 1 (l 0) ∷ link 1 1 2 1 (l 1) ∷ link 2 1 3 2 (l 2) ∷ link 3 3 2 2 (l 3) ∷ link 4 2 4 1 r4 ∷ link 5 2 5 1 (l 5) ∷ [])
     (tables to_b_or_c end_at_c (only 4 (Pop ∷ []) ∷ only 5 (Pop ∷ []) ∷ []))
 
 abbrev pub with_z : Net
 with_z = forked (l 4)
 
 pub with_z_network : IsNetwork with_z
-with_z_network = sample_network with_z.links with_z.rows refl refl refl refl refl refl refl refl refl
+with_z_network = sample_network with_z.links with_z.rows refl refl refl refl refl refl refl refl refl refl refl
 
 -- and l1 and l4 are one risk group
 abbrev pub fiber_with_z : Net
 fiber_with_z = forked (l 1)
 
 pub fiber_with_z_network : IsNetwork fiber_with_z
-fiber_with_z_network = sample_network fiber_with_z.links fiber_with_z.rows refl refl refl refl refl refl refl refl refl
+fiber_with_z_network = sample_network fiber_with_z.links fiber_with_z.rows refl refl refl refl refl refl refl refl refl refl refl
 
 -- a sixth link, c to a: what came to c goes back to a under the label 31, and from there to b
 abbrev pub returning : Net
 returning =
-    net_of (link 0 1 1 (l 0) ∷ link 1 2 1 (l 1) ∷ link 1 3 2 (l 2) ∷ link 3 2 2 (l 3) ∷ link 2 4 1 (l 4) ∷ link 3 1 1 (l 5) ∷ [])
+    net_of (link 0 0 1 1 (l 0) ∷ link 1 1 2 1 (l 1) ∷ link 2 1 3 2 (l 2) ∷ link 3 3 2 2 (l 3) ∷ link 4 2 4 1 (l 4) ∷ link 5 3 1 1 (l 5) ∷ [])
     (row 5 t31 (only 1 (Pop ∷ []) ∷ []) ∷ tables to_b_or_c (only 5 (swap t31 ∷ []) ∷ []) end_at_b)
 
 pub returning_network : IsNetwork returning
-returning_network = sample_network returning.links returning.rows refl refl refl refl refl refl refl refl refl
+returning_network = sample_network returning.links returning.rows refl refl refl refl refl refl refl refl refl refl refl
 
 -- both choices at a are l1: first with another ip label, else with an smpls label
 abbrev pub same_link_twice : Net
 same_link_twice = net_of base.links (tables (only 1 (swap ip1 ∷ []) ∷ only 1 (push s10 ∷ []) ∷ []) end_at_c end_at_b)
 
 pub same_link_twice_network : IsNetwork same_link_twice
-same_link_twice_network = sample_network same_link_twice.links same_link_twice.rows refl refl refl refl refl refl refl refl refl
+same_link_twice_network = sample_network same_link_twice.links same_link_twice.rows refl refl refl refl refl refl refl refl refl refl refl
 
 -- the first choice at a would push an mpls label on an ip label
 abbrev pub undefined_first : Net
 undefined_first = net_of base.links (tables (only 1 (push t30 ∷ []) ∷ only 2 (push s10 ∷ push t30 ∷ []) ∷ []) end_at_c end_at_b)
 
 pub undefined_first_network : IsNetwork undefined_first
-undefined_first_network = sample_network undefined_first.links undefined_first.rows refl refl refl refl refl refl refl refl refl
+undefined_first_network = sample_network undefined_first.links undefined_first.rows refl refl refl refl refl refl refl refl refl refl refl
 
 -- both ways from a are of one group
 abbrev pub balanced : Net
 balanced = net_of base.links (tables ((member 1 (push s10 ∷ []) ∷ member 2 (push s10 ∷ push t30 ∷ []) ∷ []) ∷ []) end_at_c end_at_b)
 
 pub balanced_network : IsNetwork balanced
-balanced_network = sample_network balanced.links balanced.rows refl refl refl refl refl refl refl refl refl
+balanced_network = sample_network balanced.links balanced.rows refl refl refl refl refl refl refl refl refl refl refl
 
 -- at c the label 30 is popped and 31 pushed, and at b two labels are popped
 abbrev pub relabelling : Net
 relabelling = net_of base.links (row 3 t31 (only 4 (Pop ∷ Pop ∷ []) ∷ []) ∷ tables to_b_or_c (only 3 (Pop ∷ push t31 ∷ []) ∷ []) end_at_b)
 
 pub relabelling_network : IsNetwork relabelling
-relabelling_network = sample_network relabelling.links relabelling.rows refl refl refl refl refl refl refl refl refl
+relabelling_network = sample_network relabelling.links relabelling.rows refl refl refl refl refl refl refl refl refl refl refl
 
 -- what comes from x goes to b with its header as it is
 abbrev pub untouched : Net
 untouched = net_of base.links (tables (only 1 [] ∷ []) end_at_c end_at_b)
 
 pub untouched_network : IsNetwork untouched
-untouched_network = sample_network untouched.links untouched.rows refl refl refl refl refl refl refl refl refl
+untouched_network = sample_network untouched.links untouched.rows refl refl refl refl refl refl refl refl refl refl refl
 
 -- one link from r to r: it takes 31 for two labels 30, and pops each of those
 abbrev pub looping : Net
@@ -214,7 +216,7 @@ looping = record {
   labels = base.labels;
   classes = base.classes;
   interfaces = (114 ∷ []) ∷ [];
-  links = link 0 0 7 (l 0) ∷ [];
+  links = link 0 0 0 7 (l 0) ∷ [];
   rows = row 0 t31 (only 0 (swap t30 ∷ push t30 ∷ []) ∷ []) ∷ row 0 t30 (only 0 (Pop ∷ []) ∷ []) ∷ [];
 }
 
@@ -225,6 +227,7 @@ looping_network = record {
   classes = refl;
   in_order = refl;
   interfaces = refl;
+  in_turn = refl;
   links = refl;
   ends = refl;
   risks = refl;

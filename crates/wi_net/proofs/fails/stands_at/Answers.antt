@@ -1,4 +1,4 @@
-use Rattle.std.proofs.Common.{◌≡◌, length, slice_get, Some, None, refl, sym}
+use Rattle.std.proofs.Common.{◌≡◌, length, slice_get, Some, None, refl}
 use Rattle.std.proofs.lemmas.Option.{slice_get_read, slice_get_past}
 use Rattle.wi_net.proofs.RisingLemmas.{has_at_place}
 use Rattle.wi_net.proofs.fails.stands_at.Goals as goal

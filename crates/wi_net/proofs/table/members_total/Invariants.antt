@@ -1,5 +1,4 @@
-use Rattle.std.proofs.Common.{◌≡◌, ◌+◌, ◌≤◌, drop, take}
-use Rattle.wi_net.specs.Tables.{group_members}
+use Rattle.std.proofs.Common.{◌≡◌, ◌+◌, ◌≤◌, drop}
 use Rattle.wi_net.specs.Builder.{members_rules}
 use Rattle.wi_net.proofs.table.members_total.Given as goal
 

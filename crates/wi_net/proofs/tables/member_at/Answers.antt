@@ -1,9 +1,10 @@
-use Rattle.std.proofs.Common.{◌≡◌, ◌∙◌, ◌≤◌, ◌<◌, ◌-◌, ◌+◌, ap, sym, subst, List, [], ◌∷◌, ℕ, zero, suc, nat_le, length, slice_get, get_or, Some, arith, rules}
+use Rattle.std.proofs.Common.{◌≡◌, ◌∙◌, ◌<◌, ◌-◌, ap, sym, subst, List, [], ◌∷◌, ℕ, zero, suc, nat_le, length, slice_get, get_or, Some, arith, rules}
 use Rattle.std.specs.List.Sorted.{IsPartitionedBy}
 use Rattle.wi_net.specs.declared.parts.Row.{Row}
 use Rattle.wi_net.specs.declared.parts.Member.{Member}
 use Rattle.wi_net.specs.Tables.{row_members, starts_from, begun, members_of, all_members, group_members}
-use Rattle.wi_net.proofs.MemberLemmas.{Located, located, starts_parted, get_within, get_or_some, starts_count}
+use Rattle.std.proofs.lemmas.Option.{slice_get_within}
+use Rattle.wi_net.proofs.MemberLemmas.{Located, located, starts_parted, get_or_some, starts_count}
 use Rattle.wi_net.proofs.tables.member_at.Goals as goal
 
 -- where the number falls
@@ -37,24 +38,24 @@ overflow_sub-place c =
 pub bounds-rows-place : goal.bounds-rows-place
 bounds-rows-place c =
     let at = found c.args.rows.now c.args.starts.now c.args.number c.begun-place.result c.requires.known c.requires.within c.begun-place.ensures in
-    get_within c.args.rows.now (c.begun-place.result - 1) at.row (row_at c.args.rows.now c.args.number c.begun-place.result at)
+    slice_get_within c.args.rows.now (c.begun-place.result - 1) at.row (row_at c.args.rows.now c.args.number c.begun-place.result at)
 
 pub offset_bounds-rows-place : goal.offset_bounds-rows-place
 offset_bounds-rows-place c =
     let at = found c.args.rows.now c.args.starts.now c.args.number c.begun-place.result c.requires.known c.requires.within c.begun-place.ensures in
-    let within : c.begun-place.result - 1 < length c.args.rows.now = get_within c.args.rows.now (c.begun-place.result - 1) at.row (row_at c.args.rows.now c.args.number c.begun-place.result at) in
+    let within : c.begun-place.result - 1 < length c.args.rows.now = slice_get_within c.args.rows.now (c.begun-place.result - 1) at.row (row_at c.args.rows.now c.args.number c.begun-place.result at) in
     search rules
 
 pub bounds-starts-place : goal.bounds-starts-place
 bounds-starts-place c =
     let at = found c.args.rows.now c.args.starts.now c.args.number c.begun-place.result c.requires.known c.requires.within c.begun-place.ensures in
-    let within : c.begun-place.result - 1 < length c.args.rows.now = get_within c.args.rows.now (c.begun-place.result - 1) at.row (row_at c.args.rows.now c.args.number c.begun-place.result at) in
+    let within : c.begun-place.result - 1 < length c.args.rows.now = slice_get_within c.args.rows.now (c.begun-place.result - 1) at.row (row_at c.args.rows.now c.args.number c.begun-place.result at) in
     omega (arith, ap length c.requires.known, starts_count 0 c.args.rows.now, within)
 
 pub offset_bounds-starts-place : goal.offset_bounds-starts-place
 offset_bounds-starts-place c =
     let at = found c.args.rows.now c.args.starts.now c.args.number c.begun-place.result c.requires.known c.requires.within c.begun-place.ensures in
-    let within : c.begun-place.result - 1 < length c.args.rows.now = get_within c.args.rows.now (c.begun-place.result - 1) at.row (row_at c.args.rows.now c.args.number c.begun-place.result at) in
+    let within : c.begun-place.result - 1 < length c.args.rows.now = slice_get_within c.args.rows.now (c.begun-place.result - 1) at.row (row_at c.args.rows.now c.args.number c.begun-place.result at) in
     let in_starts : c.begun-place.result - 1 < length c.args.starts.now = omega (arith, ap length c.requires.known, starts_count 0 c.args.rows.now, within) in
     search rules
 

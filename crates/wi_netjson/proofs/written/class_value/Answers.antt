@@ -1,6 +1,5 @@
-use Rattle.std.proofs.Common.{◌≡◌, ◌≤◌, ◌∙◌, true, false, length, ap, rules, arith}
+use Rattle.std.proofs.Common.{◌≡◌, ◌≤◌, true, false, length, rules, arith}
 use Rattle.wi_labels.specs.Header.{same_class}
-use Rattle.serde_json.specs.View.{view}
 use Rattle.wi_netjson.proofs.WrittenLemmas.{class_push, class_skip, class_all}
 use Rattle.wi_netjson.proofs.written.class_value.Goals as goal
 use Rattle.wi_netjson.proofs.written.class_value.Goals.{then-eq+in_ok-try_from_str+in_ok-push, else-eq}

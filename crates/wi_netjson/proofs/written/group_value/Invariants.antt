@@ -1,7 +1,6 @@
 use Rattle.std.proofs.Common.{◌≡◌, map, take}
-use Rattle.serde_json.specs.Data.{string}
 use Rattle.serde_json.specs.View.{view}
-use Rattle.wi_netjson.specs.Written.{link_data, row_data, group_data, way_data, op_data}
+use Rattle.wi_netjson.specs.Written.{way_data}
 use Rattle.wi_netjson.proofs.written.group_value.Given as goal
 
 abbrev pub invariant-loop-member : goal.invariant-loop-member

@@ -1,10 +1,7 @@
 use Rattle.std.proofs.Common.{◌≤◌, length, arith}
 use Rattle.wi_netjson.specs.Written.{link_data, has_small_distance}
-use Rattle.wi_netjson.proofs.WrittenLemmas.{made_more, made_all, link_in, all_more, all_taken}
+use Rattle.wi_netjson.proofs.WrittenLemmas.{made_more, made_all, all_more, all_taken}
 use Rattle.wi_netjson.proofs.written.links_value.Goals as goal
-
-pub link_value-requires-clause-ends : goal.link_value-requires-clause-ends
-link_value-requires-clause-ends c = link_in c.args.network.now c.loop-e.e c.link.result.now c.keeps.ensures c.link.ensures.value
 
 pub loop-e-preserved : goal.loop-e-preserved
 loop-e-preserved c = record {

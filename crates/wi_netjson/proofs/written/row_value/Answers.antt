@@ -1,15 +1,10 @@
 use Rattle.serde_json.specs.View.{view}
-use Rattle.wi_netjson.proofs.WrittenLemmas.{has_ends, row_of, row_ways, row_written}
+use Rattle.wi_net.proofs.GroupLemmas.{row_groups}
+use Rattle.wi_netjson.proofs.WrittenLemmas.{row_of, row_written}
 use Rattle.wi_netjson.proofs.written.row_value.Goals as goal
 
-pub router_name-at-requires : goal.router_name-at-requires
-router_name-at-requires c = (has_ends c.args.network.now c.args.link.0 c.link-found.result.now c.keeps.ensures c.link-found.ensures.value).to
-
-pub interface_name-in_if-requires : goal.interface_name-in_if-requires
-interface_name-in_if-requires c = (has_ends c.args.network.now c.args.link.0 c.link-found.result.now c.keeps.ensures c.link-found.ensures.value).into
-
 pub groups_value-requires : goal.groups_value-requires
-groups_value-requires c = row_ways c.args.network.now (row_of c.args.link c.args.label c.args.groups.now) c.requires
+groups_value-requires c = row_groups c.args.network.now (row_of c.args.link c.args.label c.args.groups.now) c.requires
 
 pub returns : goal.returns
 returns c =

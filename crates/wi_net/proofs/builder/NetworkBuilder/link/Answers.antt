@@ -1,4 +1,4 @@
-use Rattle.std.proofs.Common.{◌≡◌, ◌∙◌, Ok, Some, option_map, subst, sym, refl}
+use Rattle.std.proofs.Common.{◌≡◌, Ok, option_map, subst, sym}
 use Rattle.wi_net.specs.Builder.{Draft, link_ends}
 use Rattle.wi_net.proofs.DraftLemmas.{out_done, in_done, link_done}
 use Rattle.wi_net.proofs.builder.NetworkBuilder.link.Goals as goal

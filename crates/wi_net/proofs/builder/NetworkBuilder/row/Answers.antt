@@ -1,6 +1,5 @@
-use Rattle.std.proofs.Common.{◌≡◌, ◌++◌, ◌∷◌, [], List, Ok, sym, subst}
-use Rattle.wi_net.specs.declared.parts.Row.{Row}
-use Rattle.wi_net.specs.Builder.{Draft, IsDraft, add_table, with_row}
+use Rattle.std.proofs.Common.{◌≡◌, Ok, sym, subst}
+use Rattle.wi_net.specs.Builder.{Draft, add_table, with_row}
 use Rattle.wi_net.proofs.KeptLemmas.{row_kept, row_counted}
 use Rattle.wi_net.proofs.builder.NetworkBuilder.row.Goals as goal
 

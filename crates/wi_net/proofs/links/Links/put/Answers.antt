@@ -1,4 +1,4 @@
-use Rattle.std.proofs.Common.{◌≡◌, ◌∙◌, ap, None, position, rules, List, ℕ, Bool, ◌++◌, []}
+use Rattle.std.proofs.Common.{◌≡◌, ap, None, position, List, ℕ}
 use Rattle.std.specs.Prelude.{◌&&◌, ◌==◌}
 use Rattle.std.proofs.lemmas.Result.{IfOk-at_ok}
 use Rattle.indexmap.specs.IndexSet.{insert_key}

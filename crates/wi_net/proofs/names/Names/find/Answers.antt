@@ -1,6 +1,5 @@
 use Rattle.std.proofs.Common.{◌∙◌, sym, ap, string_bytes, List, ℕ}
 use Rattle.std.specs.Str.{bytes_eq}
-use Rattle.wi_net.specs.Names.{place}
 use Rattle.wi_net.proofs.FindingLemmas.{position-map}
 use Rattle.wi_net.proofs.names.Names.find.Goals as goal
 

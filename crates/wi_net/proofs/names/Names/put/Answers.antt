@@ -1,6 +1,5 @@
-use Rattle.std.proofs.Common.{◌≡◌, ◌∙◌, ap, List, ℕ, map, string_bytes}
+use Rattle.std.proofs.Common.{◌∙◌, ap, List, ℕ}
 use Rattle.std.proofs.lemmas.Result.{IfOk-at_ok}
-use Rattle.wi_net.specs.Names.{with_name, number_of}
 use Rattle.wi_net.proofs.FindingLemmas.{names_put, number_put}
 use Rattle.wi_net.proofs.names.Names.put.Goals as goal
 

@@ -1,4 +1,4 @@
-use Rattle.std.proofs.Common.{◌≤◌, arith}
+use Rattle.std.proofs.Common.{arith}
 use Rattle.wi_net.proofs.MemberLemmas.{before_most}
 use Rattle.wi_net.proofs.network.Network.first_member.Goals as goal
 

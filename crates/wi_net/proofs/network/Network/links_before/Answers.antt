@@ -5,7 +5,6 @@ use Rattle.wi_net.specs.declared.parts.LinkId.{LinkId}
 use Rattle.wi_net.specs.declared.parts.Member.{Member}
 use Rattle.wi_net.specs.LinkSet.{numbers_where, same_risk_in}
 use Rattle.wi_net.specs.Net.{Net, before}
-use Rattle.wi_net.specs.Network.{groups_of}
 use Rattle.wi_net.proofs.KeptLemmas.{risks_within}
 use Rattle.wi_net.proofs.network.Network.links_before.Goals as goal
 

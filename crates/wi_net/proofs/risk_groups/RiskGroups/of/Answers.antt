@@ -1,4 +1,4 @@
-use Rattle.std.proofs.Common.{◌≡◌, ◌∙◌, ap, refl, sym, List, length, slice_set, ◌<◌, arith, ℕ}
+use Rattle.std.proofs.Common.{◌≡◌, ◌∙◌, ap, refl, sym, List, length, slice_set, ◌<◌, arith}
 use Rattle.wi_net.specs.declared.parts.LinkId.{LinkId}
 use Rattle.wi_net.specs.LinkSet.{with_link}
 use Rattle.wi_net.specs.RiskGroups.{named_by}

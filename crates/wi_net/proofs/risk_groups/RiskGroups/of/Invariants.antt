@@ -1,5 +1,4 @@
-use Rattle.std.proofs.Common.{◌≡◌, length, map}
-use Rattle.wi_net.specs.LinkSet.{links_from}
+use Rattle.std.proofs.Common.{◌≡◌, length}
 use Rattle.wi_net.proofs.IndexLemmas.{shared_among}
 use Rattle.wi_net.proofs.risk_groups.RiskGroups.of.Given as goal
 

@@ -1,4 +1,4 @@
-use Rattle.std.proofs.Common.{◌≡◌, ◌∙◌, ap, sym, refl, List, position, Some, None, ◌≤◌, length}
+use Rattle.std.proofs.Common.{◌∙◌, ap, sym, List, position}
 use Rattle.wi_net.specs.declared.parts.Row.{Row}
 use Rattle.wi_net.specs.Tables.{is_row, groups_in}
 use Rattle.wi_net.proofs.MemberLemmas.{row_groups, groups_none, position_missing}

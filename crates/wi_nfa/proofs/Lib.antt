@@ -1,0 +1,11 @@
+pub mod Ranges
+pub mod Glushkov
+pub mod Walks
+pub mod Marking
+pub mod EndsLemmas
+pub mod FollowsLemmas
+pub mod Listing
+pub mod Building
+pub mod Reading
+pub mod Words
+pub mod RisingLists

@@ -1,0 +1,9 @@
+pub mod Positions
+pub mod Automata
+pub mod Marks
+pub mod Ends
+pub mod Atoms
+pub mod Rows
+pub mod Refusals
+pub mod Left
+pub mod Sets

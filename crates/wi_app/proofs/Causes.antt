@@ -1,20 +1,16 @@
 -- What is a cause of a refusal.
-use Rattle.std.proofs.Common.{◌≡◌, ◌⊎◌, inl, inr, ℕ, ◌<◌, ◌≤◌, Bool, true, false, List, length, Option, Some, None, Result, Ok, Err, IfErr, refl, sym, subst, arith}
+use Rattle.std.proofs.Common.{◌≡◌, ℕ, ◌<◌, Bool, true, false, List, length, Option, Some, None, Result, Err, refl, subst, arith}
 use Rattle.std.specs.Prelude.{nat_le}
 use Rattle.std.proofs.lemmas.Bool.{leb-true}
-use Rattle.std.proofs.lemmas.Result.{IfErr-weaker}
 use Rattle.wi_base.specs.declared.shelf.CallKind.{CallKind}
 use Rattle.wi_base.specs.declared.shelf.FetchRefused.{FetchRefused}
 use Rattle.wi_base.specs.declared.shelf.FetchRefused.TheVariants.{TooBig}
 use Rattle.wi_base.specs.Shelf.{IsLonger, after_fetch}
-use Rattle.wi_net.specs.Net.{Net}
-use Rattle.wi_netjson.specs.declared.fault.NetFault.{NetFault}
 use Rattle.wi_netjson.specs.declared.fault.Place.TheVariants.{File}
 use Rattle.wi_netjson.specs.declared.fault.NetFault.TheVariants.{OverLimit}
 use Rattle.wi_netjson.specs.File.{network_of}
-use Rattle.wi_app.specs.declared.refusal.Refusal.{Refusal}
-use Rattle.wi_app.specs.declared.refusal.Refusal.TheVariants.{Network, NotLiteral, Memory}
-use Rattle.wi_app.specs.Run.{FromFile, FromBytes}
+use Rattle.wi_app.specs.declared.refusal.Refusal.TheVariants.{Network}
+use Rattle.wi_app.specs.Run.{FromFile}
 
 not_within : (n m : ℕ) → m < n → nat_le n m ≡ false
 not_within n m less = go (nat_le n m) refl
@@ -24,10 +20,10 @@ not_within n m less = go (nat_le n m) refl
     go true e = let within = leb-true n m e in let bad : ⊥ = omega (arith, within, less) in elim bad [ ]
 
 -- a file of too many bytes is a network file with that fault
-pub too_long : (file : Option (List ℕ)) → IsLonger file 67108864 → FromFile file (Network (OverLimit File 67108864))
+pub too_long : (file : Option (List ℕ)) → IsLonger file 67108864 → (query : List ℕ) → FromFile file query (Network (OverLimit File 67108864))
 unfolding network_of
-too_long None longer = elim longer [ ]
-too_long (Some bytes) longer = rw (network_of, not_within (length bytes) 67108864 longer) refl
+too_long None longer query = elim longer [ ]
+too_long (Some bytes) longer query = rw (network_of, not_within (length bytes) 67108864 longer) refl
 
 -- a fetch of a file that is too long is no failed call
 pub too_big_calls : {T : Type 0} (answer : Result T FetchRefused) (why : FetchRefused) (name : List ℕ) (before after : List (CallKind × List ℕ)) → answer ≡ Err why → why ≡ TooBig → after ≡ after_fetch answer name before → after ≡ before
@@ -39,12 +35,3 @@ too_big_calls {T} answer why name before after e is calls =
 -- which refusal it is
 pub too_big : {T : Type 0} (answer : Result T FetchRefused) (why : FetchRefused) → answer ≡ Err why → why ≡ TooBig → answer ≡ Err TooBig
 too_big answer why e is = rw (e, is) refl
-
--- a query that isn't literal is one over the network that the bytes mean
-pub from_query : {T : Type 0} (answer : Result T Refusal) (bytes : List ℕ) (net : Net) → network_of bytes ≡ Ok net
-    → IfErr answer (λ refusal. (refusal ≡ NotLiteral) ⊎ (refusal ≡ Memory)) → IfErr answer (λ refusal. FromBytes bytes refusal)
-from_query answer bytes net e h = IfErr-weaker answer (λ refusal. (refusal ≡ NotLiteral) ⊎ (refusal ≡ Memory)) (λ refusal. FromBytes bytes refusal) each h
-  where
-    each : (refusal : Refusal) → (refusal ≡ NotLiteral) ⊎ (refusal ≡ Memory) → FromBytes bytes refusal
-    each refusal (inl is) = rw is (net, e)
-    each refusal (inr is) = rw is tt

@@ -1,38 +1,24 @@
 -- Links and labels that are a network's.
-use Rattle.std.proofs.Common.{◌≡◌, ℕ, zero, suc, ◌+◌, ◌<◌, Bool, true, false, nat_eq, nat_lt, List, [], ◌∷◌, ◌++◌, length, get_or, slice_get, Option, Some, None, Result, Ok, Err, refl, sym, ap, subst, ◌∙◌, arith}
-use Rattle.std.specs.Prelude.{◌&&◌, nat_le}
+use Rattle.std.proofs.Common.{◌≡◌, ℕ, ◌+◌, ◌<◌, Bool, true, false, List, [], ◌∷◌, length, slice_get, Option, Some, None, Result, Ok, Err, refl, subst, arith}
+use Rattle.std.specs.Prelude.{◌&&◌}
 use Rattle.std.specs.List.{list_all}
-use Rattle.std.specs.Option.{option_map_or}
-use Rattle.std.proofs.lemmas.Bool.{ltb-true, lt-ltb, and_parts, and_from}
-use Rattle.wi_labels.specs.declared.label.Label.{Label}
+use Rattle.std.specs.Option.{option_map, option_and_then}
+use Rattle.std.specs.Result.{result_ok}
+use Rattle.std.proofs.lemmas.Bool.{and_parts, and_from}
+use Rattle.std.proofs.lemmas.Option.{slice_get_within}
 use Rattle.wi_labels.specs.declared.label.Class.{Class}
-use Rattle.wi_labels.specs.declared.label.Class.TheVariants.{Mpls, Smpls, Ip}
 use Rattle.wi_labels.specs.declared.ops.Op.{Op}
 use Rattle.wi_labels.specs.declared.ops.Op.TheVariants.{Swap, Push, Pop}
-use Rattle.wi_labels.specs.declared.header.Applied.{Applied}
-use Rattle.wi_labels.specs.declared.header.Applied.TheVariants.{Done}
-use Rattle.wi_labels.specs.Header.{Entry, same_class, after_op, outcome, allowed, effect, Applies}
+use Rattle.wi_labels.specs.Header.{Entry, after_op, outcome, allowed, effect}
 use Rattle.wi_net.specs.declared.parts.LinkId.{LinkId}
 use Rattle.wi_net.specs.declared.parts.Member.{Member}
-use Rattle.wi_net.specs.declared.parts.Row.{Row}
-use Rattle.wi_net.specs.declared.parts.Link.{Link}
-use Rattle.wi_net.specs.declared.parts.RouterId.{RouterId}
+use Rattle.wi_labels.specs.declared.label.Label.{Label}
 use Rattle.wi_net.specs.Net.{Net, is_link, label_known, labels_known, entry}
-use Rattle.wi_net.specs.Tables.{is_row, groups_in}
 use Rattle.wi_net.specs.Network.{IsNetwork, op_known, is_member_of}
-use Rattle.wi_app.specs.Known.{members_known}
 use Rattle.wi_net.proofs.KeptLists.{all_get}
-use Rattle.wi_net.proofs.GroupLemmas.{entry_groups, members_links}
-use Rattle.std.proofs.lemmas.Option.{slice_get_within}
-
-class_self : (c : Class) → same_class c c ≡ true
-class_self Mpls = refl
-class_self Smpls = refl
-class_self Ip = refl
-
--- a label with the class that the network has for it
-pub label_has_class : (classes : List Class) (l : Label) (c : Class) → slice_get classes l.0 ≡ Some c → label_known classes (l, c) ≡ true
-label_has_class classes l c e = rw e (class_self c)
+use Rattle.wi_net.proofs.GroupLemmas.{entry_groups}
+use Rattle.wi_world.specs.declared.run.Step.{Step}
+use Rattle.wi_world.specs.Moves.{Place, through, moved}
 
 -- a label of a header that the network knows has a name
 pub known_label : (net : Net) (h : List Entry) (i : ℕ) (l : Entry) → IsNetwork net → labels_known net h ≡ true → slice_get h i ≡ Some l → l.0.0 < length net.labels
@@ -45,11 +31,7 @@ known_label net h i l k known e = go (slice_get net.classes l.0.0) refl
     go None eo = let none : false ≡ true = rw eo at here in cc
     go (Some c) eo = let within = slice_get_within net.classes l.0.0 c eo in omega (arith, within, k.classes)
 
--- the members of a group of an entry have links of the network
-pub group_links : (net : Net) (e : LinkId) (l : Label) (j : ℕ) (g : List Member) → IsNetwork net → slice_get (entry net e l) j ≡ Some g → members_known net g ≡ true
-group_links net e l j g k at = members_links net g (all_get (λ x. list_all (is_member_of net) x) (entry net e l) j g (entry_groups net e l k) at)
-
--- and so has a member, and its operations have labels of the network
+-- a member of a group of an entry has a link of the network, and its operations have labels of it
 pub member_kept_at : (net : Net) (e : LinkId) (l : Label) (j i : ℕ) (g : List Member) (m : Member) → IsNetwork net → slice_get (entry net e l) j ≡ Some g → slice_get g i ≡ Some m → (is_link net m.link ≡ true) × (list_all (op_known net) m.ops ≡ true)
 member_kept_at net e l j i g m k at here =
     let kept : list_all (is_member_of net) g ≡ true = all_get (λ x. list_all (is_member_of net) x) (entry net e l) j g (entry_groups net e l k) at in
@@ -83,18 +65,28 @@ ops_keep net at (op ∷ ops) h next o k e = go (after_op op h) refl (λ mid. ops
     go None em ih = let bad : Err at ≡ Ok next = rw (em, outcome) at e in cc
     go (Some mid) em ih = ih mid (op_keeps net op h mid parts.0 k em) (rw (em, outcome) at e)
 
--- a hop along a member leaves a known header known
-pub done_keeps : (net : Net) (e : LinkId) (l : Label) (j i : ℕ) (groups : List (List Member)) (g members : List Member) (m : Member) (ops : List Op) (h next : List Entry) (answer : Applied) → IsNetwork net
-    → groups ≡ entry net e l → slice_get groups j ≡ Some g → members ≡ g → slice_get members i ≡ Some m → ops ≡ m.ops → labels_known net h ≡ true → answer ≡ Done → Applies ops h answer next → labels_known net next ≡ true
-done_keeps net e l j i groups g members m ops h next answer k groups_are at members_are here ops_are known is applied =
-    let P : List (List Member) → Type 0 = λ x. slice_get x j ≡ Some g in
-    let Q : List Member → Type 0 = λ x. slice_get x i ≡ Some m in
-    let R : List Op → Type 0 = λ x. Applies x h answer next in
-    let S : Applied → Type 0 = λ x. Applies m.ops h x next in
-    ops_keep net 0 m.ops h next ((member_kept_at net e l j i g m k (subst P groups_are at) (subst Q members_are here)).1) known (subst S is (subst R ops_are applied))
+-- a place whose link and labels are the network's
+abbrev pub IsKnownPlace : Net → Place → Type 0
+IsKnownPlace net at = (is_link net at.0 ≡ true) × (labels_known net at.1 ≡ true)
 
--- the first group of an entry is one of its groups
-pub first_links : (net : Net) (e : LinkId) (l : Label) (groups : List (List Member)) (g members : List Member) → IsNetwork net → groups ≡ entry net e l → slice_get groups 0 ≡ Some g → members ≡ g → members_known net members ≡ true
-first_links net e l groups g members k groups_are at members_are =
-    let P : List (List Member) → Type 0 = λ x. slice_get x 0 ≡ Some g in
-    rw members_are (group_links net e l 0 g k (subst P groups_are at))
+-- a step leads from known labels to such a place
+pub moved_known : (net : Net) (e : LinkId) (h : List Entry) (step : Step) (next : Place) → IsNetwork net → labels_known net h ≡ true → moved net (e, h) step ≡ Some next → IsKnownPlace net next
+moved_known net e [] step next k known is = let none : ◌≡◌ {A = Option Place} None (Some next) = is in cc
+moved_known net e (top ∷ below) step next k known is = in_group (slice_get (entry net e top.0) step.group) refl is
+  where
+    by_member : (g : List Member) (m : Member) → slice_get (entry net e top.0) step.group ≡ Some g → slice_get g step.member ≡ Some m → (o : Result (List Entry) ℕ) → outcome 0 m.ops (top ∷ below) ≡ o
+        → option_map {U = Place} (λ (h : List Entry). (m.link, h)) (result_ok o) ≡ Some next → IsKnownPlace net next
+    by_member g m group here (Err i) did some = cc
+    by_member g m group here (Ok h) did some =
+        let kept : (is_link net m.link ≡ true) × (list_all (op_known net) m.ops ≡ true) = member_kept_at net e top.0 step.group step.member g m k group here in
+        let same : ◌≡◌ {A = Place} (m.link, h) next = cc in
+        subst (IsKnownPlace net) same (kept.0, ops_keep net 0 m.ops (top ∷ below) h kept.1 known did)
+
+    in_group : (o : Option (List Member)) → slice_get (entry net e top.0) step.group ≡ o
+        → option_and_then (λ (m : Member). through (top ∷ below) m) (option_and_then (λ (g : List Member). slice_get g step.member) o) ≡ Some next → IsKnownPlace net next
+    in_group None group some = cc
+    in_group (Some g) group some = of_group (slice_get g step.member) refl some
+      where
+        of_group : (o : Option Member) → slice_get g step.member ≡ o → option_and_then (λ (m : Member). through (top ∷ below) m) o ≡ Some next → IsKnownPlace net next
+        of_group None here some = cc
+        of_group (Some m) here some = by_member g m group here (outcome 0 m.ops (top ∷ below)) refl some

@@ -1,7 +1,17 @@
--- What was put on a sink.
-use Rattle.std.specs.Prelude.{◌≡◌, ◌⊎◌, ℕ, ◌<◌, ◌==◌, Bool, true, if◌then◌else◌, List, ◌++◌, take, codes}
+-- What a shelf holds, and what was put on a sink.
+use Rattle.std.specs.Prelude.{◌≡◌, ◌⊎◌, ℕ, ◌<◌, ◌==◌, Bool, true, if◌then◌else◌, Option, List, ◌++◌, take, codes}
+use Rattle.wi_base.specs.declared.shelf.CallKind.{CallKind}
 use Rattle.wi_app.specs.declared.refusal.Refusal.{Refusal}
 use Rattle.wi_app.specs.Texts.{text_of, status_of}
+
+-- a shelf at a moment: whether it tells, its files by their names, and its failed calls
+pub record ShelfSeen : Type 0 where
+  pub told : Bool
+  pub file : List ℕ → Option (List ℕ)
+  pub failed : List (CallKind × List ℕ)
+
+abbrev pub shelf_seen : {S : Type 0} → (S → Bool) → (S → List ℕ → Option (List ℕ)) → (S → List (CallKind × List ℕ)) → S → ShelfSeen
+shelf_seen told file failed s = record { told = told s; file = file s; failed = failed s }
 
 -- a sink at a moment: whether it tells, what was written so far, and how many calls failed
 pub record Seen : Type 0 where

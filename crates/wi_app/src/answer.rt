@@ -1,9 +1,11 @@
 //! From the words to the report.
-ghost use Rattle.std.specs.Prelude.{◌≡◌, ◌⊎◌, true, ℕ, List, Option, Some, map, string_bytes, IfOk, IfErr};
-ghost use Rattle.wi_net.specs.Net.{labels_known};
+ghost use Rattle.std.specs.Prelude.{◌≡◌, true, Ok, ℕ, List, Option, Some, map, string_bytes, IfOk, IfErr};
+ghost use Rattle.wi_net.specs.Net.{Net};
+ghost use Rattle.wi_netjson.specs.File.{network_of};
 ghost use Rattle.wi_app.specs.Words.{verify_of};
-ghost use Rattle.wi_app.specs.Run.{FromBytes, FromShelf, FromWords, IsAsked, IsNetworkFile, IsReport};
-ghost use Rattle.wi_app.specs.declared.refusal.Refusal.{Refusal};
+ghost use Rattle.wi_app.specs.Literal.{asked_of};
+ghost use Rattle.wi_app.specs.Found.{IsReadable};
+ghost use Rattle.wi_app.specs.Run.{FromBytes, FromQuery, FromShelf, FromWords, IsAnswer, IsAnswered, Reports};
 
 use crate::literal::{Literal, LiteralRefused, read_literal};
 use crate::refusal::Refusal;
@@ -34,8 +36,7 @@ pub fn answer_of<'a, S: Shelf>(
 ) -> Result<Printed, Refusal<'a>>
     ensures files { (other : List ℕ) → S.file shelf.new other ≡ S.file shelf.old other }
     ensures calm { IfOk result (λ _. S.failed shelf.new ≡ S.failed shelf.old) }
-    ensures asked { IfOk result (λ _. IsAsked (S.told shelf.old) (S.file shelf.old) (verify_of (map string_bytes words.now))) }
-    ensures report { IfOk result (λ printed. IsReport printed.status printed.text) }
+    ensures answered { IfOk result (λ printed. IsAnswered (S.told shelf.old) (S.file shelf.old) (verify_of (map string_bytes words.now)) printed.status printed.text) }
     ensures refused { IfErr result (λ refusal. FromWords (S.told shelf.old) (S.file shelf.old) (verify_of (map string_bytes words.now)) (S.failed shelf.old) (S.failed shelf.new) refusal) }
 {
     let Some(verify) = command_of(words) else {
@@ -52,24 +53,23 @@ fn answer_to<'a, S: Shelf>(
 ) -> Result<Printed, Refusal<'a>>
     ensures files { (other : List ℕ) → S.file shelf.new other ≡ S.file shelf.old other }
     ensures calm { IfOk result (λ _. S.failed shelf.new ≡ S.failed shelf.old) }
-    ensures asked { IfOk result (λ _. IsAsked (S.told shelf.old) (S.file shelf.old) (Some (verify.entry.network.now, verify.entry.query.now))) }
-    ensures report { IfOk result (λ printed. IsReport printed.status printed.text) }
-    ensures refused { IfErr result (λ refusal. FromShelf (S.told shelf.old) (S.file shelf.old verify.entry.network.now) verify.entry.network.now (S.failed shelf.old) (S.failed shelf.new) refusal) }
+    ensures answered { IfOk result (λ printed. IsAnswered (S.told shelf.old) (S.file shelf.old) (Some (verify.entry.network.now, verify.entry.query.now)) printed.status printed.text) }
+    ensures refused { IfErr result (λ refusal. FromShelf (S.told shelf.old) (S.file shelf.old verify.entry.network.now) verify.entry.network.now verify.entry.query.now (S.failed shelf.old) (S.failed shelf.new) refusal) }
 {
-    let bytes = fetch(verify.network, shelf)?;
+    let bytes = fetch(verify, shelf)?;
     answer(alloc, bytes.as_slice(), verify.query)
 }
 
 // The bytes of the network file.
-fn fetch<'a, S: Shelf>(name: &'a str, shelf: &mut S) -> Result<Vec<u8>, Refusal<'a>>
+fn fetch<'a, S: Shelf>(verify: Verify<'a>, shelf: &mut S) -> Result<Vec<u8>, Refusal<'a>>
     ensures files { (other : List ℕ) → S.file shelf.new other ≡ S.file shelf.old other }
     ensures calm { IfOk result (λ _. S.failed shelf.new ≡ S.failed shelf.old) }
-    ensures found { S.told shelf.old ≡ true → IfOk result (λ bytes. S.file shelf.old name.now ≡ Some bytes.items) }
-    ensures refused { IfErr result (λ refusal. FromShelf (S.told shelf.old) (S.file shelf.old name.now) name.now (S.failed shelf.old) (S.failed shelf.new) refusal) }
+    ensures found { S.told shelf.old ≡ true → IfOk result (λ bytes. S.file shelf.old verify.entry.network.now ≡ Some bytes.items) }
+    ensures refused { IfErr result (λ refusal. FromShelf (S.told shelf.old) (S.file shelf.old verify.entry.network.now) verify.entry.network.now verify.entry.query.now (S.failed shelf.old) (S.failed shelf.new) refusal) }
 {
-    match shelf.fetch(name, NETWORK_LIMIT as u64) {
+    match shelf.fetch(verify.network, NETWORK_LIMIT as u64) {
         Ok(bytes) => Ok(bytes),
-        Err(FetchRefused::Failed) => Err(Refusal::CannotRead(name)),
+        Err(FetchRefused::Failed) => Err(Refusal::CannotRead(verify.network)),
         Err(FetchRefused::TooBig) => Err(Refusal::Network(NetFault::OverLimit(
             Place::File,
             NETWORK_LIMIT,
@@ -80,9 +80,8 @@ fn fetch<'a, S: Shelf>(name: &'a str, shelf: &mut S) -> Result<Vec<u8>, Refusal<
 
 // The answer for the bytes of a network file.
 fn answer<'a>(alloc: Global, bytes: &[u8], query: &str) -> Result<Printed, Refusal<'a>>
-    ensures network { IfOk result (λ _. IsNetworkFile bytes.now) }
-    ensures report { IfOk result (λ printed. IsReport printed.status printed.text) }
-    ensures refused { IfErr result (λ refusal. FromBytes bytes.now refusal) }
+    ensures answered { IfOk result (λ printed. (net : Net) × (network_of bytes.now ≡ Ok net) × IsAnswer net query.now printed.status printed.text) }
+    ensures refused { IfErr result (λ refusal. FromBytes bytes.now query.now refusal) }
 {
     match read_network(alloc, bytes) {
         Ok(net) => verify(alloc, &net, query),
@@ -92,9 +91,10 @@ fn answer<'a>(alloc: Global, bytes: &[u8], query: &str) -> Result<Printed, Refus
 
 // The answer for a network.
 fn verify<'a>(alloc: Global, net: &Network, query: &str) -> Result<Printed, Refusal<'a>>
-    ensures report { IfOk result (λ printed. IsReport printed.status printed.text) }
-    ensures refused { IfErr result (λ refusal. (refusal ≡ Refusal.NotLiteral) ⊎ (refusal ≡ Refusal.Memory)) }
+    ensures answered { IfOk result (λ printed. IsAnswer net.now query.now printed.status printed.text) }
+    ensures refused { IfErr result (λ refusal. FromQuery net.now query.now refusal) }
 {
+    net.keeps();
     let query = match read_literal(alloc, net, query) {
         Ok(query) => query,
         Err(LiteralRefused::NotLiteral) => return Err(Refusal::NotLiteral),
@@ -108,9 +108,10 @@ fn verify<'a>(alloc: Global, net: &Network, query: &str) -> Result<Printed, Refu
 
 // The report on a query.
 fn decided(alloc: Global, net: &Network, query: &Literal) -> Result<Printed, NoMemory>
-    requires { labels_known net.now query.now.first.items ≡ true }
-    ensures { IfOk result (λ printed. IsReport printed.status printed.text) }
+    requires { IsReadable net.now (asked_of query.now) }
+    ensures { IfOk result (λ printed. Reports net.now (asked_of query.now) printed.status printed.text) }
 {
+    net.keeps();
     match least_run(alloc, net, query)? {
         Some(found) => {
             let text = yes_report(alloc, net, &found)?;

@@ -1,9 +1,7 @@
 //! The program.
-ghost use Rattle.std.specs.Prelude.{◌≡◌, ◌⊎◌, ◌<◌, ◌-◌, ◌^◌, ℕ, List, map, string_bytes};
-ghost use Rattle.wi_app.specs.declared.refusal.Refusal.{Refusal};
-ghost use Rattle.wi_app.specs.Words.{verify_of};
-ghost use Rattle.wi_app.specs.Edges.{seen, Untouched, SaysWhy};
-ghost use Rattle.wi_app.specs.Run.{FromWords, IsAsked, IsReport, Prints};
+ghost use Rattle.std.specs.Prelude.{◌≡◌, ◌<◌, ◌-◌, ◌^◌, ℕ, List, map, string_bytes};
+ghost use Rattle.wi_app.specs.Edges.{seen, shelf_seen};
+ghost use Rattle.wi_app.specs.Run.{Completes, Does, Prints};
 
 use crate::answer::{Printed, answer_of};
 use crate::refusal::{Refusal, say};
@@ -22,10 +20,8 @@ pub fn run<S: Shelf, O: Sink, E: Sink>(
     requires out { O.faults out.old < 2 ^ 64 - 1 }
     requires err { E.faults err.old < 2 ^ 64 - 1 }
     ensures files { (name : List ℕ) → S.file shelf.new name ≡ S.file shelf.old name }
-    ensures outcome { (IsAsked (S.told shelf.old) (S.file shelf.old) (verify_of (map string_bytes words.now)) × (S.failed shelf.new ≡ S.failed shelf.old)
-        × ((status : ℕ) × (text : List ℕ) × IsReport status text × Prints status text (seen O.told O.written O.faults out.old) (seen O.told O.written O.faults out.new) (seen E.told E.written E.faults err.old) (seen E.told E.written E.faults err.new) result))
-        ⊎ ((refusal : Refusal) × FromWords (S.told shelf.old) (S.file shelf.old) (verify_of (map string_bytes words.now)) (S.failed shelf.old) (S.failed shelf.new) refusal
-        × Untouched (seen O.told O.written O.faults out.old) (seen O.told O.written O.faults out.new) × SaysWhy refusal (seen E.told E.written E.faults err.old) (seen E.told E.written E.faults err.new) result) }
+    ensures does { Does (map string_bytes words.now) (shelf_seen S.told S.file S.failed shelf.old) (shelf_seen S.told S.file S.failed shelf.new) (seen O.told O.written O.faults out.old) (seen O.told O.written O.faults out.new) (seen E.told E.written E.faults err.old) (seen E.told E.written E.faults err.new) result }
+    ensures completes { Completes (map string_bytes words.now) (shelf_seen S.told S.file S.failed shelf.old) (shelf_seen S.told S.file S.failed shelf.new) (seen O.told O.written O.faults out.old) (seen O.told O.written O.faults out.new) (seen E.told E.written E.faults err.old) (seen E.told E.written E.faults err.new) result }
 {
     match answer_of(alloc, words, shelf) {
         Ok(printed) => print(alloc, &printed, out, err),

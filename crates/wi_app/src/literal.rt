@@ -1,10 +1,18 @@
 //! Literal queries: a first header, a path and a last header that are written out, with no failures.
-ghost use Rattle.std.specs.Prelude.{◌≡◌, true, IfOk, OnOk};
-ghost use Rattle.wi_net.specs.Net.{label_known, labels_known};
+ghost use Rattle.std.specs.Prelude.{◌≡◌, true, Err, IfOk, List, option_map};
+ghost use Rattle.wi_app.specs.Literal.{Asked, IsLiteral, asked_of, label_of, router_of};
+ghost use Rattle.wi_app.specs.Lexing.{lexeme_of, lexemes};
+ghost use Rattle.wi_app.specs.Parsing.{Gives, items_and_rest, labels_in, label_in, header_in, pairs_in, pair_in, router_in, path_in, literal_in, is_zero};
+ghost use Rattle.wi_app.specs.Tokens.{Lexeme};
+ghost use Rattle.wi_labels.specs.Header.{Entry};
+ghost use Rattle.wi_net.specs.declared.parts.RouterId.{RouterId};
+ghost use Rattle.wi_app.specs.declared.literal.Pair.{Pair};
+ghost use Rattle.wi_app.specs.declared.literal.LiteralRefused.{LiteralRefused};
 
-use crate::tokens::{Token, TokensRefused, tokens_of};
-use std::alloc::{AllocFailed, Global};
-use wi_labels::{Class, Header, Label};
+use crate::tokens::{Mark, Token, TokensRefused, is_class_word, past, tokens_of};
+use std::alloc::Global;
+use wi_base::NoMemory;
+use wi_labels::{Class, Label};
 use wi_net::{Network, RouterId};
 
 /// The most bytes of a query's text.
@@ -37,13 +45,23 @@ pub enum LiteralRefused {
     Memory,
 }
 
-impl<T: Drop> From<AllocFailed<T>> for LiteralRefused {
-    fn from(_error: AllocFailed<T>) -> Self {
+impl From<NoMemory> for LiteralRefused {
+    ghost use Rattle.std.specs.Prelude.{◌≡◌};
+    ghost use Rattle.wi_app.specs.declared.literal.LiteralRefused.{LiteralRefused};
+
+    ghost from_gives = { λ _ r. r ≡ LiteralRefused.Memory };
+
+    fn from(_error: NoMemory) -> Self {
         LiteralRefused::Memory
     }
 }
 
 impl From<TokensRefused> for LiteralRefused {
+    ghost use Rattle.std.specs.Prelude.{◌≡◌};
+    ghost use Rattle.wi_app.specs.Parsing.{refused_as};
+
+    ghost from_gives = { λ t r. r ≡ refused_as t };
+
     fn from(error: TokensRefused) -> Self {
         match error {
             TokensRefused::NoToken => LiteralRefused::NotLiteral,
@@ -55,13 +73,22 @@ impl From<TokensRefused> for LiteralRefused {
 /// The literal query that a text is over a network: `< LABEL .. > [A#B] .. < LABEL .. > 0`, with one label or more in
 /// each header and one pair or more.
 pub fn read_literal(alloc: Global, net: &Network, text: &str) -> Result<Literal, LiteralRefused>
-    ensures { IfOk result (λ query. labels_known net.now query.first.items ≡ true) }
+    ensures read { IfOk result (λ query. IsLiteral net.now text.now (asked_of query)) }
+    ensures refused { result ≡ Err LiteralRefused.NotLiteral → (asked : Asked) → IsLiteral net.now text.now asked → ⊥ }
 {
     if text.len() > TEXT_LIMIT {
         return Err(LiteralRefused::NotLiteral);
     }
     let tokens = tokens_of(alloc, text)?;
-    let (first, rest) = header(alloc, net, tokens.as_slice())?;
+    literal_of(alloc, net, tokens.as_slice())
+}
+
+// The literal query that tokens are.
+#[tactic(auto, unfolding(crate::specs::Parsing::literal_in))]
+fn literal_of(alloc: Global, net: &Network, tokens: &[Token]) -> Result<Literal, LiteralRefused>
+    ensures { Gives asked_of result (literal_in net.now (lexemes tokens.now)) }
+{
+    let (first, rest) = header(alloc, net, tokens)?;
     let (path, rest) = path(alloc, net, rest)?;
     let (last, rest) = header(alloc, net, rest)?;
     if !is_zero(rest) {
@@ -71,112 +98,130 @@ pub fn read_literal(alloc: Global, net: &Network, text: &str) -> Result<Literal,
 }
 
 // The labels between `<` and `>`, and what follows.
+#[tactic(auto, unfolding(crate::specs::Parsing::header_in))]
 fn header<'a>(
     alloc: Global,
     net: &Network,
     tokens: &'a [Token],
 ) -> Result<(Vec<(Label, Class)>, &'a [Token]), LiteralRefused>
-    ensures { IfOk result (λ read. labels_known net.now read.0.items ≡ true) }
+    ensures { Gives items_and_rest result (header_in net.now (lexemes tokens.now)) }
 {
-    let [Token::Mark('<'), rest @ ..] = tokens else {
+    let rest = past(Mark::Less, tokens).ok_or(LiteralRefused::NotLiteral)?;
+    let (labels, rest) = labels(alloc, net, rest)?;
+    let rest = past(Mark::Greater, rest).ok_or(LiteralRefused::NotLiteral)?;
+    if labels.is_empty() || labels.len() > LABEL_LIMIT {
         return Err(LiteralRefused::NotLiteral);
-    };
-    let mut labels = Vec::new(alloc);
-    for (i, token) in rest.iter().enumerate() {
-        if let Token::Mark('>') = token {
-            if labels.is_empty() {
-                return Err(LiteralRefused::NotLiteral);
-            }
-            return Ok((labels, &rest[i + 1..]));
-        }
-        add(net, token, &mut labels)?;
     }
-    Err(LiteralRefused::NotLiteral)
+    Ok((labels, rest))
 }
 
-// Adds the label that a token names.
-fn add(net: &Network, token: &Token, labels: &mut Vec<(Label, Class)>) -> Result<(), LiteralRefused>
-    requires { labels_known net.now labels.old.items ≡ true }
-    ensures { OnOk result (labels_known net.now labels.new.items ≡ true) }
+// The labels that tokens begin with, and what follows.
+fn labels<'a>(
+    alloc: Global,
+    net: &Network,
+    tokens: &'a [Token],
+) -> Result<(Vec<(Label, Class)>, &'a [Token]), NoMemory>
+    ensures { IfOk result (λ read. items_and_rest read ≡ labels_in net.now (lexemes tokens.now)) }
 {
-    if labels.len() == LABEL_LIMIT {
-        return Err(LiteralRefused::NotLiteral);
+    let mut labels = Vec::new(alloc);
+    let mut left = tokens;
+    while let Some((label, rest)) = next_label(net, left) {
+        labels.push(label)?;
+        left = rest;
     }
-    labels.push(label(net, token)?)?;
-    Ok(())
+    Ok((labels, left))
+}
+
+// The label that tokens begin with, and what follows.
+fn next_label<'a>(net: &Network, tokens: &'a [Token]) -> Option<((Label, Class), &'a [Token])>
+    ensures { option_map {U = Entry × List Lexeme} (λ read. (read.0, lexemes read.1.now)) result ≡ label_in net.now (lexemes tokens.now) }
+{
+    let (token, rest) = tokens.split_first()?;
+    Some((label(net, token)?, rest))
 }
 
 // The label that a token names. The words of the classes name none.
-#[tactic(auto, using(crate::proofs::Known::label_has_class))]
-fn label(net: &Network, token: &Token) -> Result<(Label, Class), LiteralRefused>
-    ensures { IfOk result (λ label. label_known net.now.classes label ≡ true) }
+fn label(net: &Network, token: &Token) -> Option<(Label, Class)>
+    ensures { result ≡ label_of net.now (lexeme_of token.now) }
 {
     let name = match token {
-        Token::Plain(name) => {
-            if is_class(name.as_str()) {
-                return Err(LiteralRefused::NotLiteral);
-            }
-            name
-        }
+        Token::Plain(name) if !is_class_word(name.as_str()) => name,
         Token::Quoted(name) => name,
-        Token::Mark(_) => return Err(LiteralRefused::NotLiteral),
+        _ => return None,
     };
-    match net.find_label(name.as_str()) {
-        Some(label) => Ok((label, net.class(label))),
-        None => Err(LiteralRefused::NotLiteral),
-    }
-}
-
-fn is_class(name: &str) -> bool {
-    name == "ip" || name == "mpls" || name == "smpls"
+    let label = net.find_label(name.as_str())?;
+    Some((label, net.class(label)))
 }
 
 // The pairs of a path, and what follows.
+#[tactic(auto, unfolding(crate::specs::Parsing::path_in))]
 fn path<'a>(
     alloc: Global,
     net: &Network,
     tokens: &'a [Token],
-) -> Result<(Vec<Pair>, &'a [Token]), LiteralRefused> {
+) -> Result<(Vec<Pair>, &'a [Token]), LiteralRefused>
+    ensures { Gives items_and_rest result (path_in net.now (lexemes tokens.now)) }
+{
+    let (pairs, rest) = pairs(alloc, net, tokens)?;
+    if pairs.is_empty() || pairs.len() > PATH_LIMIT {
+        return Err(LiteralRefused::NotLiteral);
+    }
+    Ok((pairs, rest))
+}
+
+// The pairs that tokens begin with, and what follows.
+fn pairs<'a>(
+    alloc: Global,
+    net: &Network,
+    tokens: &'a [Token],
+) -> Result<(Vec<Pair>, &'a [Token]), NoMemory>
+    ensures { IfOk result (λ read. items_and_rest read ≡ pairs_in net.now (lexemes tokens.now)) }
+{
     let mut pairs = Vec::new(alloc);
     let mut left = tokens;
-    while let [
-        Token::Mark('['),
-        from,
-        Token::Mark('#'),
-        to,
-        Token::Mark(']'),
-        rest @ ..,
-    ] = left
-    {
-        if pairs.len() == PATH_LIMIT {
-            return Err(LiteralRefused::NotLiteral);
-        }
-        let from = router(net, from)?;
-        let to = router(net, to)?;
-        pairs.push(Pair { from, to })?;
+    while let Some((pair, rest)) = next_pair(net, left) {
+        pairs.push(pair)?;
         left = rest;
-    }
-    if pairs.is_empty() {
-        return Err(LiteralRefused::NotLiteral);
     }
     Ok((pairs, left))
 }
 
+// The pair that tokens begin with, and what follows.
+#[tactic(auto, unfolding(crate::specs::Parsing::pair_in))]
+fn next_pair<'a>(net: &Network, tokens: &'a [Token]) -> Option<(Pair, &'a [Token])>
+    ensures { option_map {U = Pair × List Lexeme} (λ read. (read.0, lexemes read.1.now)) result ≡ pair_in net.now (lexemes tokens.now) }
+{
+    let rest = past(Mark::Open, tokens)?;
+    let (from, rest) = next_router(net, rest)?;
+    let rest = past(Mark::Hash, rest)?;
+    let (to, rest) = next_router(net, rest)?;
+    let rest = past(Mark::Close, rest)?;
+    Some((Pair { from, to }, rest))
+}
+
+// The router that tokens begin with, and what follows.
+fn next_router<'a>(net: &Network, tokens: &'a [Token]) -> Option<(RouterId, &'a [Token])>
+    ensures { option_map {U = RouterId × List Lexeme} (λ read. (read.0, lexemes read.1.now)) result ≡ router_in net.now (lexemes tokens.now) }
+{
+    let (token, rest) = tokens.split_first()?;
+    Some((router(net, token)?, rest))
+}
+
 // The router that a token names.
-fn router(net: &Network, token: &Token) -> Result<RouterId, LiteralRefused> {
-    let name = match token {
-        Token::Plain(name) => name,
-        Token::Quoted(name) => name,
-        Token::Mark(_) => return Err(LiteralRefused::NotLiteral),
-    };
-    match net.find_router(name.as_str()) {
-        Some(router) => Ok(router),
-        None => Err(LiteralRefused::NotLiteral),
+fn router(net: &Network, token: &Token) -> Option<RouterId>
+    ensures { result ≡ router_of net.now (lexeme_of token.now) }
+{
+    match token {
+        Token::Plain(name) => net.find_router(name.as_str()),
+        Token::Quoted(name) => net.find_router(name.as_str()),
+        Token::Mark(_) => None,
     }
 }
 
 // Whether the number 0 is all that is left.
-fn is_zero(tokens: &[Token]) -> bool {
+fn is_zero(tokens: &[Token]) -> bool
+    ensures { result ≡ is_zero (lexemes tokens.now) }
+{
     match tokens {
         [Token::Plain(number)] => number.as_str() == "0",
         _ => false,

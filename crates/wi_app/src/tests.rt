@@ -128,9 +128,9 @@ fn a_least_run_is_shown(rt: HostRuntime) -> Result<(), Fail> {
 
 #[test]
 fn one_link_is_a_path(rt: HostRuntime) -> Result<(), Fail> {
-    let said = verified(rt.alloc(), n1().as_bytes(), "<s10 ip1>[a#c]<s10 ip1>0")?;
+    let said = verified(rt.alloc(), n1().as_bytes(), "<s10 ip1>[a#b]<s10 ip1>0")?;
     let wanted =
-        "0<answer: yes\nweight: none\neffort: 8\nfailed: none\nmoving: yes\nlinks: 1\na.c#c.a | s10 ip1\n><>";
+        "0<answer: yes\nweight: none\neffort: 8\nfailed: none\nmoving: yes\nlinks: 1\na.b#b.a | s10 ip1\n><>";
     assert_eq!(rt; said.as_str(), wanted);
     Ok(())
 }

@@ -38,14 +38,6 @@ impl Text {
         Ok(())
     }
 
-    /// Adds another text.
-    pub fn add(&mut self, other: &Text) -> Result<(), NoMemory>
-        ensures { OnOk result (self.new ≡ self.old ++ other.now) }
-    {
-        self.bytes.extend_from_slice(other.as_bytes())?;
-        Ok(())
-    }
-
     /// Adds a number in decimal.
     pub fn put_number(&mut self, number: u64) -> Result<(), NoMemory>
         ensures { OnOk result (self.new ≡ self.old ++ decimal number) }

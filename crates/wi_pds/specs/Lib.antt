@@ -1,0 +1,4 @@
+pub mod Pairs
+pub mod Rules
+pub mod Runs
+pub mod Closed

@@ -1,0 +1,24 @@
+//! What a pushdown system is.
+ghost use Rattle.std.specs.Prelude.{◌≡◌, ℕ, List, IfOk};
+ghost use Rattle.wi_pds.specs.declared.rule.Rule.{Rule};
+
+use crate::rule::Rule;
+use std::alloc::Global;
+use wi_base::NoMemory;
+
+/// A pushdown system: the head that it starts at, and a list of rules for each head, a state and a symbol.
+pub trait System<W: Copy> {
+    /// The state and the symbol that runs start with.
+    ghost start_head: { Self → ℕ × ℕ };
+
+    /// The rules of a head, in order.
+    ghost rules: { Self → ℕ → ℕ → List (Rule W) };
+
+    /// The head that runs start at. It takes no memory.
+    fn start(&self) -> (u64, u32)
+        ensures { result ≡ start_head self.now };
+
+    /// The rules of the head (p, g), in order. It has none where the system knows nothing of the head.
+    fn rules_of(&self, alloc: Global, p: u64, g: u32) -> Result<Vec<Rule<W>>, NoMemory>
+        ensures { IfOk result (λ list. list.items ≡ rules self.now p g) };
+}

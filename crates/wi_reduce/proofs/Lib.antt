@@ -1,0 +1,6 @@
+mod Adding
+mod Ends
+mod Following
+mod Keys
+mod Seconds
+mod Steps

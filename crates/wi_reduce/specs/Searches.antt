@@ -1,0 +1,35 @@
+-- What a search is after one thing that was found was followed.
+use Rattle.std.specs.Prelude.{ℕ, List, [], ◌∷◌, map}
+use Rattle.wi_pds.specs.declared.rule.Rule.{Rule}
+use Rattle.wi_pds.specs.declared.rule.Word2.{Word2}
+use Rattle.wi_pds.specs.declared.rule.Word2.TheVariants.{Empty, One, Two}
+use Rattle.wi_pds.specs.Pairs.{pair_cmp}
+use Rattle.wi_reduce.specs.declared.search.Search.{Search}
+use Rattle.wi_reduce.specs.Worklists.{added, added_all, seconds}
+
+-- a rule over g that goes to a state and writes a word
+abbrev pub noted : Search → ℕ → ℕ → Word2 → Search
+noted s g to Empty = record s { pops = added pair_cmp s.pops (g, to) }
+noted s g to (One u) = record s { heads = added pair_cmp s.heads (to, u); swaps = added pair_cmp s.swaps (g, u) }
+noted s g to (Two u v) =
+    record s { heads = added pair_cmp s.heads (to, u); pairs = added pair_cmp s.pairs (u, v); swaps = added pair_cmp s.swaps (g, v) }
+
+-- each of some rules over g
+abbrev pub noted_all : {W : Type 0} → Search → ℕ → List (Rule W) → Search
+noted_all s g [] = s
+noted_all s g (r ∷ rs) = noted_all (noted s g r.to r.word) g rs
+
+-- the pair of g and x
+abbrev pub pair_followed : Search → ℕ → ℕ → Search
+pair_followed s g x = record s {
+  heads = added_all pair_cmp s.heads (map (λ to. (to, x)) (seconds g s.pops.0));
+  pairs = added_all pair_cmp s.pairs (map (λ v. (v, x)) (seconds g s.swaps.0));
+}
+
+-- a pop of g to a state
+abbrev pub pop_followed : Search → ℕ → ℕ → Search
+pop_followed s g to = record s { heads = added_all pair_cmp s.heads (map (λ x. (to, x)) (seconds g s.pairs.0)) }
+
+-- v in the place of g
+abbrev pub swap_followed : Search → ℕ → ℕ → Search
+swap_followed s g v = record s { pairs = added_all pair_cmp s.pairs (map (λ x. (v, x)) (seconds g s.pairs.0)) }

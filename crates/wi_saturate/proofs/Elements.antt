@@ -1,0 +1,95 @@
+-- Elements of lists by their places.
+use Rattle.std.specs.Prelude.{◌≡◌, ℕ, zero, suc, ◌+◌, ◌<◌, ◌≤◌, ◌⊎◌, List, [], ◌∷◌, ◌++◌, Option, Some, None, take, length, slice_get, get_or, refl}
+use Rattle.std.specs.List.{Contains}
+use Rattle.std.proofs.Common.{option_map, IsTrue, true, false, ◌↔◌, sym, ap, ◌∙◌, subst, inl, inr, arith}
+use Rattle.std.proofs.lemmas.Option.{slice_get_within, slice_get-get_or, get_or_from_slice_get, slice_get-map, slice_get_read}
+use Rattle.std.proofs.lemmas.List.{take-append-le}
+use Rattle.std.proofs.Math.Seq.{take-append_seam}
+use Rattle.wi_pds.specs.Closed.{Summary, Listed}
+use Rattle.wi_saturate.specs.declared.row.Row.{Row}
+use Rattle.wi_saturate.specs.Rows.{summary, summaries, IsFor, RowAt, EachAfter}
+
+pub same_some : {X : Type 0} {x y : X} → Some x ≡ Some y → x ≡ y
+same_some h = cc
+
+earlier_or_here : (i n : ℕ) → i < n + 1 → (i < n) ⊎ (i ≡ n)
+earlier_or_here i n h = grind arith
+
+-- one place more
+pub before_more : {X : Type 0} (P : ℕ → X → Type 0) (xs : List X) (n : ℕ) (y : X) → n < length xs → y ≡ get_or xs n y
+    → ((i : ℕ) (x : X) → i < n → slice_get xs i ≡ Some x → P i x) → P n y
+    → (i : ℕ) (x : X) → i < n + 1 → slice_get xs i ≡ Some x → P i x
+before_more P xs n y within read before here i x h e = elim (earlier_or_here i n h) [
+  | inl less ↦ before i x less e
+  | inr same ↦
+      let at_n : slice_get xs n ≡ Some x = subst (λ k. slice_get xs k ≡ Some x) same e in
+      let alike : y ≡ x = same_some (sym (slice_get_read xs _ n y refl within read) ∙ at_n) in
+      subst (λ k. P k x) (sym same) (subst (λ z. P n z) alike here)
+]
+
+pub contains_from_get : {X : Type 0} (xs : List X) (i : ℕ) (x : X) → slice_get xs i ≡ Some x → Contains xs x
+contains_from_get xs i x h = (i, slice_get_within xs i x h, get_or_from_slice_get xs i x x h)
+
+pub get_from_contains : {X : Type 0} (xs : List X) (x : X) → Contains xs x → (i : ℕ) × (slice_get xs i ≡ Some x)
+get_from_contains xs x h = (h.0, slice_get-get_or xs h.0 x h.1 ∙ ap (λ y. Some y) h.2)
+
+some_mapped : {X Y : Type 0} (f : X → Y) (o : Option X) (y : Y) → option_map f o ≡ Some y → (x : X) × (o ≡ Some x) × (f x ≡ y)
+some_mapped f None y h = cc
+some_mapped f (Some x) y h = (x, refl, same_some h)
+
+module _ {W : Type 0} (c : W → List ℕ) where
+  pub listed_from_get : (rows : List (Row W)) (i p g q : ℕ) (w : List ℕ) → RowAt c rows i p g q w → Listed (summaries c rows) p g q w
+  listed_from_get rows i p g q w h =
+      let here : summary c h.0 ≡ record { p = p; g = g; q = q; weight = w } = same_summary h.0 p g q w h.2 h.3 in
+      contains_from_get _ i _ (slice_get-map (summary c) rows i ∙ (ap (option_map (summary c)) h.1 ∙ ap (λ y. Some y) here))
+    where
+      same_summary : (r : Row W) (p g q : ℕ) (w : List ℕ) → IsFor p g q r → c r.weight ≡ w → summary c r ≡ record { p = p; g = g; q = q; weight = w }
+      same_summary r p g q w k e =
+          let make : ℕ → ℕ → ℕ → List ℕ → Summary = λ a b d x. record { p = a; g = b; q = d; weight = x } in
+          ap (λ x. make x r.g r.q (c r.weight)) k.0 ∙ ap (λ x. make p x r.q (c r.weight)) k.1 ∙ ap (λ x. make p g x (c r.weight)) k.2 ∙ ap (λ x. make p g q x) e
+
+  pub get_from_listed : (rows : List (Row W)) (p g q : ℕ) (w : List ℕ) → Listed (summaries c rows) p g q w → (i : ℕ) × RowAt c rows i p g q w
+  get_from_listed rows p g q w h =
+      let at = get_from_contains _ _ h in
+      let made = some_mapped (summary c) (slice_get rows at.0) _ (sym (slice_get-map (summary c) rows at.0) ∙ at.1) in
+      (at.0, (made.0, made.1, (ap (λ s. s.p) made.2, ap (λ s. s.g) made.2, ap (λ s. s.q) made.2), ap (λ s. s.weight) made.2))
+
+pub true_when : {P : Type 0} → P → IsTrue true ↔ P
+true_when h = (λ _. h, λ _. refl)
+
+pub false_when : {P : Type 0} → (P → ⊥) → IsTrue false ↔ P
+false_when h = (λ e. cc, λ p. absurd (h p))
+
+pub contains_pair : (heads : List (ℕ × ℕ)) (h : ℕ × ℕ) (p g : ℕ) → Contains heads h → p ≡ h.0 → g ≡ h.1 → Contains heads (p, g)
+contains_pair heads h p g at e f = subst (λ x. Contains heads (x, g)) (sym e) (subst (λ x. Contains heads (h.0, x)) (sym f) at)
+
+-- an element of a list with one more: it is of the list, or the last
+pub get_push : {X : Type 0} (xs : List X) (y : X) (i : ℕ) (x : X) → slice_get (xs ++ y ∷ []) i ≡ Some x → ((i < length xs) × (slice_get xs i ≡ Some x)) ⊎ ((i ≡ length xs) × (y ≡ x))
+get_push [] y zero x h = inr (refl, same_some h)
+get_push [] y (suc i) x h = cc
+get_push (z ∷ xs) y zero x h = inl (omega arith, h)
+get_push (z ∷ xs) y (suc i) x h = elim (get_push xs y i x h) [
+  | inl k ↦ let less : i < length xs = k.0 in inl (omega arith, k.1)
+  | inr k ↦ let same : i ≡ length xs = k.0 in inr (omega arith, k.1)
+]
+
+pub get_before : {X : Type 0} (xs : List X) (y : X) (i : ℕ) (x : X) → slice_get xs i ≡ Some x → slice_get (xs ++ y ∷ []) i ≡ Some x
+get_before [] y i x h = cc
+get_before (z ∷ xs) y zero x h = h
+get_before (z ∷ xs) y (suc i) x h = get_before xs y i x h
+
+pub get_last : {X : Type 0} (xs : List X) (y : X) → slice_get (xs ++ y ∷ []) (length xs) ≡ Some y
+get_last [] y = refl
+get_last (z ∷ xs) y = get_last xs y
+
+pub get_taken : {X : Type 0} (n : ℕ) (xs : List X) (i : ℕ) (x : X) → slice_get (take n xs) i ≡ Some x → slice_get xs i ≡ Some x
+get_taken zero xs i x h = cc
+get_taken (suc n) [] i x h = h
+get_taken (suc n) (z ∷ xs) zero x h = h
+get_taken (suc n) (z ∷ xs) (suc i) x h = get_taken n xs i x h
+
+pub each_after_push : {X : Type 0} (P : List X → X → Type 0) (xs : List X) (y : X) → EachAfter P xs → P xs y → EachAfter P (xs ++ y ∷ [])
+each_after_push P xs y each here i x h = elim (get_push xs y i x h) [
+  | inl k ↦ let less : i ≤ length xs = omega (arith, k.0) in subst (λ zs. P zs x) (sym (take-append-le i xs (y ∷ []) less)) (each i x k.1)
+  | inr k ↦ subst (λ j. P (take j (xs ++ y ∷ [])) x) (sym k.0) (subst (λ zs. P zs x) (sym (take-append_seam xs (y ∷ []))) (subst (λ z. P xs z) k.1 here))
+]

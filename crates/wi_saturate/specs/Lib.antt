@@ -1,0 +1,4 @@
+pub mod Rows
+pub mod Candidates
+pub mod LeastTables
+pub mod Refusals

@@ -1,0 +1,91 @@
+//! Saturation.
+ghost use Rattle.std.specs.Prelude.{◌≡◌, ◌+◌, true, false, IsSomeAnd, IfOk, IfErr, option_map, length};
+ghost use Rattle.wi_weight.specs.Weights.{AtMost};
+ghost use Rattle.wi_pds.specs.Closed.{AreClosed, Within};
+ghost use Rattle.wi_saturate.specs.Rows.{IsFor};
+ghost use Rattle.wi_saturate.specs.LeastTables.{AreReady, IsLeastTable};
+ghost use Rattle.wi_saturate.specs.Refusals.{IsRefusal};
+
+use crate::candidates::next_row;
+use crate::refused::LeastRefused;
+use crate::row::Row;
+use crate::steps::Steps;
+use crate::table::Table;
+use std::alloc::Global;
+use std::cmp::Ordering;
+use std::sync::ledger::Ledger;
+use wi_pds::{Heads, System};
+use wi_weight::Domain;
+
+// Whether the weight is not below the cut.
+fn is_cut<W: Domain>(cut: Option<W>, weight: W) -> bool
+    ensures below { result ≡ false → Within W.scale (option_map W.components cut) (W.components weight) }
+    ensures above { result ≡ true → IsSomeAnd cut (λ k. AtMost W.scale (W.components k) (W.components weight)) }
+{
+    match cut {
+        None => false,
+        Some(cut) => match weight.compare(&cut) {
+            Ordering::Less => false,
+            _ => true,
+        },
+    }
+}
+
+// Whether the row is for the summary.
+fn is_for<W>(row: &Row<W>, goal: (u64, u32, u64)) -> bool
+    ensures is { result ≡ true → IsFor goal.0 goal.1 goal.2 row.now }
+    ensures other { result ≡ false → IsFor goal.0 goal.1 goal.2 row.now → ⊥ }
+{
+    row.p == goal.0 && row.g == goal.1 && row.q == goal.2
+}
+
+/// The least summaries of listed heads that are lighter than the goal and below the cut, and, where the goal is below the cut,
+/// the goal's row as the last. Rows that weigh as much as the goal may stand before it. The goal is a state, a symbol and a
+/// state.
+///
+/// Each turn settles a lightest row that a rule and settled rows make, and adds one to `steps`; which of several lightest rows
+/// comes first is not said. A turn goes through all rules of all heads, and for a rule that writes two symbols through all
+/// pairs of rows.
+///
+/// `Overflow` tells the lightest summary that doesn't fit and would have been settled. It may come where the goal's own
+/// weight would fit. Where the call is refused, `steps` may have risen.
+pub fn least<W: Domain, S: System<W>, L: Ledger>(
+    alloc: Global,
+    sys: &S,
+    heads: &Heads,
+    goal: (u64, u32, u64),
+    cut: Option<W>,
+    steps: &mut Steps<L>,
+) -> Result<Table<W>, LeastRefused<W>>
+    requires closed { AreClosed (S.rules sys.now) (S.start_head sys.now) heads.now.heads heads.now.pairs }
+    requires ready { AreReady W.components (S.rules sys.now) heads.now.heads }
+    requires start { S.start_head sys.now ≡ (goal.0, goal.1) }
+    ensures table { IfOk result (λ t. IsLeastTable W.scale W.components (S.rules sys.now) heads.now.heads goal (option_map W.components cut) t.rows (option_map W.components t.best)) }
+    ensures steps { IfOk result (λ t. steps.new ≡ steps.old + length t.rows) }
+    ensures refusal { IfErr result (IsRefusal W.scale W.components (S.rules sys.now) heads.now.heads goal (option_map W.components cut)) }
+{
+    let mut rows: Vec<Row<W>> = Vec::new(alloc);
+    'turns: loop {
+        let Some(next) = next_row(alloc, sys, heads.heads.as_slice(), &rows)? else {
+            return Ok(Table { rows, best: None });
+        };
+        if is_cut(cut, next.weight) {
+            return Ok(Table { rows, best: None });
+        }
+        if !next.weight.fits() {
+            return Err(LeastRefused::Overflow {
+                head: (next.p, next.g),
+                target: next.q,
+                weight: next.weight,
+            });
+        }
+        rows.push(next)?;
+        steps.tick();
+        if is_for(&next, goal) {
+            return Ok(Table {
+                rows,
+                best: Some(next.weight),
+            });
+        }
+    }
+}

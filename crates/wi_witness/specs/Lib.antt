@@ -1,0 +1,3 @@
+pub mod GoalRuns
+pub mod Derivations
+pub mod Refusals

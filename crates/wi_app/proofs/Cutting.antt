@@ -16,7 +16,7 @@ use Rattle.wi_app.specs.declared.tokens.Begun.TheVariants as begun
 use Rattle.wi_app.specs.declared.tokens.TokensRefused.{TokensRefused}
 use Rattle.wi_app.specs.declared.tokens.TokensRefused.TheVariants.{NoToken, Memory}
 use Rattle.wi_app.specs.Tokens.{Lexeme, Plain, Quoted, goes_on, is_space, is_plain}
-use Rattle.wi_app.specs.Lexing.{Place, place_of, Between, InPlain, InQuoted, lexeme_of, lexemes, mark_of, begin, after, cut, behind, Advances}
+use Rattle.wi_app.specs.Lexing.{Reading, reading_of, Between, InPlain, InQuoted, lexeme_of, lexemes, mark_of, begin, after, cut, behind, Advances}
 
 -- ---- one byte more
 
@@ -33,16 +33,16 @@ one_first t None = refl
 one_first t (Some ts) = refl
 
 -- where a byte ends no token
-goes_to : (p q : Place) (b : ℕ) (rest : List ℕ) → after p b ≡ Some ([], q) → cut p (b ∷ rest) ≡ cut q rest
+goes_to : (p q : Reading) (b : ℕ) (rest : List ℕ) → after p b ≡ Some ([], q) → cut p (b ∷ rest) ≡ cut q rest
 unfolding cut
 goes_to p q b rest e = rw e (none_first (cut q rest))
 
 -- where it ends one
-ends_at : (p q : Place) (t : Lexeme) (b : ℕ) (rest : List ℕ) → after p b ≡ Some (t ∷ [], q) → cut p (b ∷ rest) ≡ onto t (cut q rest)
+ends_at : (p q : Reading) (t : Lexeme) (b : ℕ) (rest : List ℕ) → after p b ≡ Some (t ∷ [], q) → cut p (b ∷ rest) ≡ onto t (cut q rest)
 unfolding cut
 ends_at p q t b rest e = rw e (one_first t (cut q rest))
 
-stops_at : (p : Place) (b : ℕ) (rest : List ℕ) → after p b ≡ None → cut p (b ∷ rest) ≡ None
+stops_at : (p : Reading) (b : ℕ) (rest : List ℕ) → after p b ≡ None → cut p (b ∷ rest) ≡ None
 unfolding cut
 stops_at p b rest e = rw e refl
 
@@ -66,7 +66,7 @@ plain_ends s (b ∷ rest) e =
     step ts None = refl
     step ts (Some us) = refl
 
-    go : (o : Option (List Lexeme × Place)) → option_and_then (λ p. option_map (λ ts. p.0 ++ ts) (cut p.1 rest)) (option_map {U = List Lexeme × Place} (λ p. (Plain s ∷ p.0, p.1)) o) ≡ onto (Plain s) (option_and_then (λ p. option_map (λ ts. p.0 ++ ts) (cut p.1 rest)) o)
+    go : (o : Option (List Lexeme × Reading)) → option_and_then (λ p. option_map (λ ts. p.0 ++ ts) (cut p.1 rest)) (option_map {U = List Lexeme × Reading} (λ p. (Plain s ∷ p.0, p.1)) o) ≡ onto (Plain s) (option_and_then (λ p. option_map (λ ts. p.0 ++ ts) (cut p.1 rest)) o)
     go None = refl
     go (Some p) = step p.0 (cut p.1 rest)
 
@@ -249,18 +249,18 @@ some_bytes s e = λ none. eqb-false (string_len s) 0 e (s.bytes.ok.0 ∙ ap leng
 
 -- ---- where nothing is left
 
-ends_with : (tokens : List Token) (place : Place) (rest : List ℕ) (whole : Option (List Lexeme)) → behind tokens (cut place rest) ≡ whole → length rest ≡ 0 → whole ≡ behind tokens (cut place [])
-ends_with tokens place rest whole e none = sym e ∙ ap (λ x. behind tokens (cut place x)) (nil_from_length rest none)
+ends_with : (tokens : List Token) (reading : Reading) (rest : List ℕ) (whole : Option (List Lexeme)) → behind tokens (cut reading rest) ≡ whole → length rest ≡ 0 → whole ≡ behind tokens (cut reading [])
+ends_with tokens reading rest whole e none = sym e ∙ ap (λ x. behind tokens (cut reading x)) (nil_from_length rest none)
 
-pub nothing_left : (tokens : List Token) (last : Begun) (rest : List ℕ) (whole : Option (List Lexeme)) → behind tokens (cut (place_of last) rest) ≡ whole → length rest ≡ 0 → last ≡ begun.Nothing → whole ≡ Some (lexemes tokens)
+pub nothing_left : (tokens : List Token) (last : Begun) (rest : List ℕ) (whole : Option (List Lexeme)) → behind tokens (cut (reading_of last) rest) ≡ whole → length rest ≡ 0 → last ≡ begun.Nothing → whole ≡ Some (lexemes tokens)
 unfolding cut
-nothing_left tokens last rest whole e none is = ends_with tokens (place_of last) rest whole e none ∙ ap (λ b. behind tokens (cut (place_of b) [])) is ∙ ap Some (append-nil (lexemes tokens))
+nothing_left tokens last rest whole e none is = ends_with tokens (reading_of last) rest whole e none ∙ ap (λ b. behind tokens (cut (reading_of b) [])) is ∙ ap Some (append-nil (lexemes tokens))
 
-pub plain_left : (tokens new : List Token) (last : Begun) (name : String Global) (rest : List ℕ) (whole : Option (List Lexeme)) → behind tokens (cut (place_of last) rest) ≡ whole → length rest ≡ 0 → last ≡ begun.Plain name
+pub plain_left : (tokens new : List Token) (last : Begun) (name : String Global) (rest : List ℕ) (whole : Option (List Lexeme)) → behind tokens (cut (reading_of last) rest) ≡ whole → length rest ≡ 0 → last ≡ begun.Plain name
     → new ≡ tokens ++ token.Plain name ∷ [] → whole ≡ Some (lexemes new)
 unfolding cut
-plain_left tokens new last name rest whole e none is added = ends_with tokens (place_of last) rest whole e none ∙ ap (λ b. behind tokens (cut (place_of b) [])) is ∙ ap Some (sym (ap lexemes added ∙ map_push lexeme_of tokens (token.Plain name)))
+plain_left tokens new last name rest whole e none is added = ends_with tokens (reading_of last) rest whole e none ∙ ap (λ b. behind tokens (cut (reading_of b) [])) is ∙ ap Some (sym (ap lexemes added ∙ map_push lexeme_of tokens (token.Plain name)))
 
-pub quoted_left : (tokens : List Token) (last : Begun) (name : String Global) (rest : List ℕ) (whole : Option (List Lexeme)) → behind tokens (cut (place_of last) rest) ≡ whole → length rest ≡ 0 → last ≡ begun.Quoted name → whole ≡ None
+pub quoted_left : (tokens : List Token) (last : Begun) (name : String Global) (rest : List ℕ) (whole : Option (List Lexeme)) → behind tokens (cut (reading_of last) rest) ≡ whole → length rest ≡ 0 → last ≡ begun.Quoted name → whole ≡ None
 unfolding cut
-quoted_left tokens last name rest whole e none is = ends_with tokens (place_of last) rest whole e none ∙ ap (λ b. behind tokens (cut (place_of b) [])) is
+quoted_left tokens last name rest whole e none is = ends_with tokens (reading_of last) rest whole e none ∙ ap (λ b. behind tokens (cut (reading_of b) [])) is

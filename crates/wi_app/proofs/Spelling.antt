@@ -6,7 +6,7 @@ use Rattle.std.proofs.lemmas.List.{append-nil, append_assoc}
 use Rattle.std.proofs.lemmas.Option.{none-some, same_Some}
 use Rattle.wi_net.specs.Names.{is_name_byte}
 use Rattle.wi_app.specs.Tokens.{Lexeme, Less, Greater, Open, Close, Hash, Plain, Quoted, Spells, IsToken, spelling, is_space, is_plain}
-use Rattle.wi_app.specs.Lexing.{Place, Between, InPlain, InQuoted, mark_of, cut}
+use Rattle.wi_app.specs.Lexing.{Reading, Between, InPlain, InQuoted, mark_of, cut}
 use Rattle.wi_app.proofs.Cutting.{onto, plain_begins, plain_more, plain_ends, space_skipped, quote_begins, mark_ends, nothing_begins, quoted_ends, quoted_empty, quoted_stops, quoted_more}
 
 -- ---- tokens that spell a text are cut from it
@@ -76,19 +76,19 @@ mark_written b =
     (λ _. cond_both (nat_eq b 35) _ _ (IsWritten b) (written b 35 Hash refl (λ _. tt)) (λ _ t is. absurd (none-some t is))))))
 
 -- what was read of a token, with what comes before it
-abbrev begun : Place → List ℕ
+abbrev begun : Reading → List ℕ
 begun Between = []
 begun (InPlain s) = s
 begun (InQuoted s) = 34 ∷ s
 
-abbrev IsPlace : Place → Type 0
-IsPlace Between = Unit {0}
-IsPlace (InPlain s) = (s ≢ []) × (list_all is_plain s ≡ true)
-IsPlace (InQuoted s) = list_all is_name_byte s ≡ true
+abbrev IsReading : Reading → Type 0
+IsReading Between = Unit {0}
+IsReading (InPlain s) = (s ≢ []) × (list_all is_plain s ≡ true)
+IsReading (InQuoted s) = list_all is_name_byte s ≡ true
 
 -- what is cut from a rest of a text spells it, whatever is being read
 abbrev AreSpelled : List ℕ → Type 0
-AreSpelled rest = (place : Place) (ts : List Lexeme) → IsPlace place → cut place rest ≡ Some ts → Spells ts (begun place ++ rest)
+AreSpelled rest = (reading : Reading) (ts : List Lexeme) → IsReading reading → cut reading rest ≡ Some ts → Spells ts (begun reading ++ rest)
 
 one_more : (p : ℕ → Bool) (s : List ℕ) (b : ℕ) → list_all p s ≡ true → p b ≡ true → list_all p (s ++ b ∷ []) ≡ true
 one_more p [] b e here = and_from (p b) true here refl
@@ -122,7 +122,7 @@ between_spelled b rest ih ts e = by_plain (is_plain b) refl
     by_plain true p = ih (InPlain (b ∷ [])) ts (not_nil [] b, and_from (is_plain b) true p refl) (sym (plain_begins b rest p) ∙ e)
     by_plain false p = by_space p (is_space b) refl
 
-plain_spelled : (s : List ℕ) (b : ℕ) (rest : List ℕ) → AreSpelled rest → (ts : List Lexeme) → IsPlace (InPlain s) → cut (InPlain s) (b ∷ rest) ≡ Some ts → Spells ts (s ++ b ∷ rest)
+plain_spelled : (s : List ℕ) (b : ℕ) (rest : List ℕ) → AreSpelled rest → (ts : List Lexeme) → IsReading (InPlain s) → cut (InPlain s) (b ∷ rest) ≡ Some ts → Spells ts (s ++ b ∷ rest)
 plain_spelled s b rest ih ts k e = go (is_plain b) refl
   where
     go : (p : Bool) → is_plain b ≡ p → Spells ts (s ++ b ∷ rest)

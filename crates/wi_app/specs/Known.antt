@@ -1,4 +1,4 @@
--- What is a network's: the members of a group, and where a run begins.
+-- Where a run begins: at a link and a header of the network.
 use Rattle.std.specs.Prelude.{◌≡◌, true}
 use Rattle.wi_net.specs.Net.{Net, is_link, labels_known}
 use Rattle.wi_world.specs.declared.run.Run.{Run}

@@ -30,14 +30,14 @@ abbrev pub lexemes : List Token → List Lexeme
 lexemes tokens = map lexeme_of tokens
 
 -- what is being read: white space; a name or a number, from these bytes on; what follows a quotation mark and these bytes
-pub data Place : Type 0 where
-  Between : Place
-  InPlain InQuoted : List ℕ → Place
+pub data Reading : Type 0 where
+  Between : Reading
+  InPlain InQuoted : List ℕ → Reading
 
-abbrev pub place_of : Begun → Place
-place_of begun.Nothing = Between
-place_of (begun.Plain name) = InPlain (string_bytes name)
-place_of (begun.Quoted name) = InQuoted (string_bytes name)
+abbrev pub reading_of : Begun → Reading
+reading_of begun.Nothing = Between
+reading_of (begun.Plain name) = InPlain (string_bytes name)
+reading_of (begun.Quoted name) = InQuoted (string_bytes name)
 
 -- the mark that a byte is
 abbrev pub mark_of : ℕ → Option Lexeme
@@ -49,7 +49,7 @@ mark_of b =
     if b == 35 then Some Hash else None
 
 -- where no token is being read: the token that a byte is, and what is being read after it
-abbrev pub begin : ℕ → Option (List Lexeme × Place)
+abbrev pub begin : ℕ → Option (List Lexeme × Reading)
 begin b =
     if is_plain b then Some ([], InPlain (b ∷ [])) else
     if is_space b then Some ([], Between) else
@@ -57,32 +57,32 @@ begin b =
     option_map (λ t. (t ∷ [], Between)) (mark_of b)
 
 -- at the mark that ends a quotation of these bytes
-abbrev pub end_quoted : List ℕ → Option (List Lexeme × Place)
+abbrev pub end_quoted : List ℕ → Option (List Lexeme × Reading)
 end_quoted [] = None
 end_quoted (b ∷ s) = Some (Quoted (b ∷ s) ∷ [], Between)
 
 -- the tokens that end with a byte, and what is being read after it; none where no text goes on so
-unfoldable pub after : Place → ℕ → Option (List Lexeme × Place)
+unfoldable pub after : Reading → ℕ → Option (List Lexeme × Reading)
 after Between b = begin b
 after (InPlain s) b = if is_plain b then Some ([], InPlain (s ++ b ∷ [])) else option_map (λ p. (Plain s ∷ p.0, p.1)) (begin b)
 after (InQuoted s) b = if b == 34 then end_quoted s else if is_name_byte b then Some ([], InQuoted (s ++ b ∷ [])) else None
 
 -- the tokens of what is left of a text, if it has any: this computes what `Spells` says
-unfoldable pub cut : Place → List ℕ → Option (List Lexeme)
+unfoldable pub cut : Reading → List ℕ → Option (List Lexeme)
 cut Between [] = Some []
 cut (InPlain s) [] = Some (Plain s ∷ [])
 cut (InQuoted s) [] = None
-cut place (b ∷ rest) = option_and_then (λ p. option_map (λ ts. p.0 ++ ts) (cut p.1 rest)) (after place b)
+cut reading (b ∷ rest) = option_and_then (λ p. option_map (λ ts. p.0 ++ ts) (cut p.1 rest)) (after reading b)
 
 -- tokens that were cut, and those of what is left
 abbrev pub behind : List Token → Option (List Lexeme) → Option (List Lexeme)
 behind tokens left = option_map (λ ts. lexemes tokens ++ ts) left
 
 -- these bytes end the tokens that are added, and the rest of any text goes on from the result; or no text goes on with them
-abbrev pub Advances : List Token → Place → List ℕ → List Token → Result Begun TokensRefused → Type 0
-Advances old place bytes new (Ok next) = (rest : List ℕ) → behind new (cut (place_of next) rest) ≡ behind old (cut place (bytes ++ rest))
-Advances old place bytes new (Err NoToken) = (rest : List ℕ) → cut place (bytes ++ rest) ≡ None
-Advances old place bytes new (Err Memory) = Unit {0}
+abbrev pub Advances : List Token → Reading → List ℕ → List Token → Result Begun TokensRefused → Type 0
+Advances old reading bytes new (Ok next) = (rest : List ℕ) → behind new (cut (reading_of next) rest) ≡ behind old (cut reading (bytes ++ rest))
+Advances old reading bytes new (Err NoToken) = (rest : List ℕ) → cut reading (bytes ++ rest) ≡ None
+Advances old reading bytes new (Err Memory) = Unit {0}
 
 -- the tokens of a text, or that it has none
 abbrev pub IsCut : List ℕ → Result (Vec Token) TokensRefused → Type 0

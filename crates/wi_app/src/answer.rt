@@ -1,5 +1,5 @@
 //! From the words to the report.
-ghost use Rattle.std.specs.Prelude.{◌≡◌, true, Ok, ℕ, List, Option, Some, map, string_bytes, IfOk, IfErr};
+ghost use Rattle.std.specs.Prelude.{◌≡◌, true, Ok, ℕ, List, Some, map, string_bytes, IfOk, IfErr};
 ghost use Rattle.wi_net.specs.Net.{Net};
 ghost use Rattle.wi_netjson.specs.File.{network_of};
 ghost use Rattle.wi_app.specs.Words.{verify_of};

@@ -1,5 +1,5 @@
 //! Literal queries: a first header, a path and a last header that are written out, with no failures.
-ghost use Rattle.std.specs.Prelude.{◌≡◌, true, Err, IfOk, List, option_map};
+ghost use Rattle.std.specs.Prelude.{◌≡◌, Err, IfOk, List, option_map};
 ghost use Rattle.wi_app.specs.Literal.{Asked, IsLiteral, asked_of, label_of, router_of};
 ghost use Rattle.wi_app.specs.Lexing.{lexeme_of, lexemes};
 ghost use Rattle.wi_app.specs.Parsing.{Gives, items_and_rest, labels_in, label_in, header_in, pairs_in, pair_in, router_in, path_in, literal_in, is_zero};

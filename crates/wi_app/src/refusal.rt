@@ -1,5 +1,5 @@
 //! Why the program refuses, and what it says then.
-ghost use Rattle.std.specs.Prelude.{◌≡◌, ◌⊎◌, ◌++◌, ◌<◌, ◌-◌, ◌^◌, codes, IfOk, OnOk};
+ghost use Rattle.std.specs.Prelude.{◌≡◌, ◌++◌, ◌<◌, ◌-◌, ◌^◌, codes, IfOk, OnOk};
 ghost use Rattle.std.specs.Fmt.{decimal};
 ghost use Rattle.wi_app.specs.Texts.{text_of, status_of, fault_text, at_text, place_text, part_text, element_text, group_text, member_text, class_word, link_word, table_word, member_word};
 ghost use Rattle.wi_app.specs.Edges.{Says, SaysWhy, kept, seen};

@@ -3,11 +3,9 @@
 //! Where nothing fails only the first group of an entry is used, and each of its members is usable. For each pair of the
 //! path in turn the search keeps the places, a link and a header, that a packet can have come to, and for each of them a
 //! run of least effort that leads there.
-ghost use Rattle.std.specs.Prelude.{◌≡◌, ◌⊎◌, ◌≤◌, ◌<◌, ◌+◌, ◌*◌, ◌∷◌, ◌++◌, [], ℕ, true, false, max, take, length, Some, None, option_copied, IfOk, IfSome, OnOk, slice_get};
-ghost use Rattle.std.specs.List.{list_all};
+ghost use Rattle.std.specs.Prelude.{◌≡◌, ◌⊎◌, ◌≤◌, ◌<◌, ◌+◌, ◌*◌, [], ℕ, true, false, max, take, length, Some, None, option_copied, IfOk, IfSome, OnOk, slice_get};
 ghost use Rattle.std.specs.Map.{lookup};
-ghost use Rattle.wi_labels.specs.Header.{Entry};
-ghost use Rattle.wi_net.specs.Net.{is_link, labels_known, entry};
+ghost use Rattle.wi_net.specs.Net.{is_link, entry};
 ghost use Rattle.wi_net.specs.declared.parts.LinkId.{LinkId};
 ghost use Rattle.wi_net.specs.declared.parts.Member.{Member};
 ghost use Rattle.wi_world.specs.declared.run.Step.{Step};

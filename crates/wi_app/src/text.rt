@@ -1,5 +1,5 @@
 //! Texts that are put together piece by piece.
-ghost use Rattle.std.specs.Prelude.{◌≡◌, ◌++◌, OnOk, [], IfOk};
+ghost use Rattle.std.specs.Prelude.{◌≡◌, ◌++◌, OnOk, []};
 ghost use Rattle.std.specs.Fmt.{decimal};
 
 use std::alloc::Global;

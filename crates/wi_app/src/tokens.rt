@@ -2,7 +2,7 @@
 ghost use Rattle.std.specs.Prelude.{◌≡◌, option_map, string_bytes};
 ghost use Rattle.std.specs.Char.{encode_utf8, is_ascii_control};
 ghost use Rattle.wi_app.specs.Tokens.{is_class_word, is_plain, is_space};
-ghost use Rattle.wi_app.specs.Lexing.{lexeme_of_mark, lexemes, mark_of, past, IsCut, Advances, Between, InPlain, InQuoted, place_of};
+ghost use Rattle.wi_app.specs.Lexing.{lexeme_of_mark, lexemes, mark_of, past, IsCut, Advances, Between, InPlain, InQuoted, reading_of};
 
 use std::alloc::{AllocError, AllocFailed, Global};
 
@@ -95,7 +95,7 @@ fn after(
     begun: Begun,
     character: char,
 ) -> Result<Begun, TokensRefused>
-    ensures { Advances tokens.old.items (place_of begun) (encode_utf8 character) tokens.new.items result }
+    ensures { Advances tokens.old.items (reading_of begun) (encode_utf8 character) tokens.new.items result }
 {
     match begun {
         Begun::Nothing => begin(alloc, tokens, character),

@@ -1,7 +1,6 @@
 //! The files of the system, as a shelf.
-ghost use Rattle.std.specs.Prelude.{◌≡◌, ◌≤◌, ◌<◌, ℕ, [], List, Option, None, Bool, false, IfOk, OnOk, vec_len, vec_capacity};
+ghost use Rattle.std.specs.Prelude.{◌≡◌, ◌≤◌, ◌<◌, ℕ, [], List, None, false, IfOk, OnOk, vec_len, vec_capacity};
 ghost use Rattle.wi_base.specs.declared.shelf.CallKind.{CallKind};
-ghost use Rattle.wi_base.specs.Shelf.{after_fetch, after_store};
 ghost use Rattle.wi_cli.specs.FileShelf.{call_of};
 
 use crate::transfer::{read_within, write_whole};

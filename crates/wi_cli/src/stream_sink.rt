@@ -1,5 +1,5 @@
 //! A standard stream, as a sink.
-ghost use Rattle.std.specs.Prelude.{◌≡◌, ℕ, [], List, Bool, false};
+ghost use Rattle.std.specs.Prelude.{◌≡◌, ℕ, [], false};
 
 use crate::transfer::write_whole;
 use std::io::Write;

@@ -1,0 +1,10 @@
+pub mod RiskLemmas
+pub mod ShareLemmas
+pub mod RunShares
+pub mod Classes
+pub mod Leads
+pub mod Readings
+pub mod Residuals
+pub mod Stopping
+pub mod MeaningLemmas
+pub mod TermLemmas

@@ -1,0 +1,20 @@
+//! What holds of weights texts and of the weights of runs.
+ghost use Rattle.std.specs.Prelude.{◌≡◌, ◌++◌, ◌∷◌, [], ℕ, List, replicate};
+ghost use Rattle.wi_weight.specs.Weights.{plus};
+ghost use Rattle.wi_net.specs.Net.{Net};
+ghost use Rattle.wi_world.specs.declared.run.Run.{Run};
+ghost use Rattle.wi_world.specs.Runs.{effort_of};
+ghost use Rattle.wi_quantity.specs.declared.vector.Part.{Part};
+ghost use Rattle.wi_quantity.specs.Vectors.{is_vector};
+ghost use Rattle.wi_quantity.specs.Weighing.{weight_of, first_weight, steps_weight};
+ghost use Rattle.wi_quantity.specs.Written.{Written, Reads};
+
+/// A text is written in one way only, so what it means and its first fault are determined.
+pub fn a_text_is_read_one_way()
+    ensures { (text : List ℕ) (v w : Written) → Reads text v → Reads text w → v ≡ w }
+{}
+
+/// What a run weighs is what its first link weighs and what each of its steps weighs, with its effort last.
+pub fn runs_weigh_the_sum_of_their_shares()
+    ensures { (net : Net) (vector : List (List Part)) (run : Run) → plus (plus (first_weight net vector run.first.0) (steps_weight net vector (run.first, run.header) run.steps)) (replicate 5 0 ++ effort_of net run ∷ []) ≡ weight_of net vector run }
+{}

@@ -1,0 +1,18 @@
+//! Quantities: weights texts, and what links and hops weigh.
+#![tactic(auto)]
+
+mod fault;
+mod laws;
+mod read;
+mod share;
+mod vector;
+mod written;
+
+pub use fault::WeightFault;
+pub use laws::{a_text_is_read_one_way, runs_weigh_the_sum_of_their_shares};
+pub use read::read_weights;
+pub use share::{Weight, first_weight, hop_weight, step_weight};
+pub use vector::{Part, Vector};
+
+#[cfg(test)]
+mod tests;

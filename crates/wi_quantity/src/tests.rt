@@ -1,0 +1,413 @@
+//! Weights texts and weights by example.
+ghost use Rattle.std.specs.Prelude.{◌≡◌, []};
+ghost use Rattle.wi_quantity.specs.Weighing.{is_way_out as way_out};
+
+use crate::share::member_in;
+use crate::{
+    Part, Vector, Weight, WeightFault, first_weight, hop_weight, read_weights, step_weight,
+};
+use std::alloc::{AllocError, Global};
+use std::process::Abort;
+use std::test::Fail;
+use wi_base::Listed;
+use wi_labels::{Class, Label, Op, Ops};
+use wi_net::{BuildRefused, Group, LinkId, Member, Network, NetworkBuilder};
+use wi_weight::{Effort, Pair, Terms};
+use wi_world::Quantity;
+
+// A text that isn't of the form, and where it stops.
+fn stops_at(rt: &impl Abort, alloc: Global, text: &str, byte: usize) {
+    match read_weights(alloc, text) {
+        Err(WeightFault::Syntax(found)) => assert_eq!(rt; found, byte, "{text}"),
+        _ => assert!(rt; false, "{text}"),
+    }
+}
+
+#[test]
+fn texts_of_another_form_are_refused(rt: HostRuntime) {
+    for (text, byte) in [
+        ("", 0),
+        ("1a", 1),
+        ("01*Hops", 1),
+        ("a b", 2),
+        ("a1", 1),
+        ("a\u{b}", 1),
+        ("Hops+é", 5),
+        ("Hops é", 5),
+        ("Hopsé", 4),
+        ("Hops,", 5),
+        (",Hops", 0),
+        ("+", 0),
+        ("Hops++Hops", 5),
+        ("Hops+Speed,1*", 13),
+        ("2 Hops", 2),
+        ("2 * * Hops", 4),
+        ("*Hops", 0),
+        ("Hops\r\n\t +\t2", 11),
+        (
+            "123456789012345678901234567890123456789012345678901234567890",
+            60,
+        ),
+        (
+            "1000000000000000000000000000000000000000000000000000000000000000000000x",
+            70,
+        ),
+    ] {
+        stops_at(&rt, rt.alloc(), text, byte);
+    }
+}
+
+fn is_unknown(rt: &impl Abort, alloc: Global, text: &str, byte: usize, word: &str) {
+    match read_weights(alloc, text) {
+        Err(WeightFault::UnknownQuantity(found, unknown)) => {
+            assert_eq!(rt; found, byte, "{text}");
+            assert_eq!(rt; unknown.as_str(), word, "{text}");
+        }
+        _ => assert!(rt; false, "{text}"),
+    }
+}
+
+#[test]
+fn words_that_are_no_quantities_are_refused(rt: HostRuntime) {
+    for (text, byte, word) in [
+        ("Speed", 0, "Speed"),
+        ("Hops + 2*hops, Speed", 9, "hops"),
+        ("Links,Links,Links,Links,Links,65536*Width", 36, "Width"),
+        ("LinksHops", 0, "LinksHops"),
+    ] {
+        is_unknown(&rt, rt.alloc(), text, byte, word);
+    }
+}
+
+fn has_too_many(rt: &impl Abort, alloc: Global, text: &str, count: usize) {
+    match read_weights(alloc, text) {
+        Err(WeightFault::TooManyTerms(found)) => assert_eq!(rt; found, count, "{text}"),
+        _ => assert!(rt; false, "{text}"),
+    }
+}
+
+#[test]
+fn more_than_five_terms_or_parts_are_refused(rt: HostRuntime) {
+    for (text, count) in [
+        ("Links,Links,Links,Links,Links,Links", 6),
+        ("Hops,Links+Links+Links+Links+Links+Links,1*Hops", 6),
+        ("65536*Links+Links+Links+Links+Links+Links+Links", 7),
+        (
+            "Links+Links+Links+Links+Links+Links,Hops,Hops,Hops,Hops,Hops,Hops",
+            7,
+        ),
+    ] {
+        has_too_many(&rt, rt.alloc(), text, count);
+    }
+}
+
+fn is_too_large(rt: &impl Abort, alloc: Global, text: &str, byte: usize) {
+    match read_weights(alloc, text) {
+        Err(WeightFault::Coefficient(found)) => assert_eq!(rt; found, byte, "{text}"),
+        _ => assert!(rt; false, "{text}"),
+    }
+}
+
+#[test]
+fn numbers_over_65535_are_refused(rt: HostRuntime) {
+    for (text, byte) in [
+        ("65536*Hops", 0),
+        ("0*Hops, 65535 * Links+99999 * Hops,70000*Links", 22),
+        (
+            "Links+123456789012345678901234567890123456789012345678901234567890*Hops",
+            6,
+        ),
+        (
+            "1000000000000000000000000000000000000000000000000000000000000000000000*Hops",
+            0,
+        ),
+    ] {
+        is_too_large(&rt, rt.alloc(), text, byte);
+    }
+}
+
+fn part(coefficient: u32, quantity: Quantity) -> Part {
+    Part {
+        coefficient,
+        quantity,
+    }
+}
+
+fn term_is(rt: &impl Abort, vector: &Vector, number: usize, parts: &[Part]) {
+    match vector.as_slice().get(number) {
+        Some(term) => assert!(rt; term.as_slice() == parts, "term {number}"),
+        None => assert!(rt; false, "term {number}"),
+    }
+}
+
+fn has_three_terms(rt: &impl Abort, vector: &Vector) {
+    assert_eq!(rt; vector.len(), 3);
+    term_is(rt, vector, 0, &[part(1, Quantity::Hops)]);
+    term_is(
+        rt,
+        vector,
+        1,
+        &[part(1, Quantity::Distance), part(3, Quantity::Tunnels)],
+    );
+    term_is(
+        rt,
+        vector,
+        2,
+        &[part(65535, Quantity::Failures), part(0, Quantity::Links)],
+    );
+}
+
+#[test]
+fn a_text_means_a_vector(rt: HostRuntime) -> Result<(), Fail> {
+    let text = " Hops ,\tDistance+3*Tunnels,\r\n65535 *Failures + 0*Links";
+    let vector = read_weights(rt.alloc(), text)?;
+    has_three_terms(&rt, &vector);
+    assert_eq!(rt; Vector::new(rt.alloc()).len(), 0);
+    Ok(())
+}
+
+fn has_five_terms(rt: &impl Abort, vector: &Vector) {
+    assert_eq!(rt; vector.len(), 5);
+    term_is(
+        rt,
+        vector,
+        0,
+        &[part(2, Quantity::Hops), part(1, Quantity::Links)],
+    );
+    let five = [part(1, Quantity::Links); 5];
+    term_is(rt, vector, 4, &five);
+}
+
+#[test]
+fn there_may_be_five_terms_of_five_parts(rt: HostRuntime) -> Result<(), Fail> {
+    let text = "2 * Hops + Links,Hops,Hops,Hops,Links+Links+Links+Links+Links";
+    let vector = read_weights(rt.alloc(), text)?;
+    has_five_terms(&rt, &vector);
+    Ok(())
+}
+
+const S10: Label = Label(1);
+
+const IP1: Label = Label(2);
+
+const PUSH_30: Op = Op::Push(Label(0), Class::Mpls);
+
+const PUSH_S10: Op = Op::Push(Label(1), Class::Smpls);
+
+// A member of a group.
+fn member(alloc: Global, link: u32, ops: &[Op]) -> Result<Member, Fail> {
+    Ok(Member {
+        link: LinkId(link),
+        ops: Ops::from_slice(alloc, ops)?,
+    })
+}
+
+// A group of one member.
+fn one(alloc: Global, link: u32, ops: &[Op]) -> Result<Group, Fail> {
+    Ok(Listed::of(vec![in alloc; member(alloc, link, ops)?]?))
+}
+
+#[tactic(auto, unfolding(wi_net::specs::Builder::add_label))]
+fn add_labels(builder: &mut NetworkBuilder) -> Result<(), BuildRefused>
+    requires { builder.old.net.classes ≡ [] }
+{
+    builder.label(Class::Mpls, "30")?;
+    builder.label(Class::Smpls, "s10")?;
+    builder.label(Class::Ip, "ip1")?;
+    Ok(())
+}
+
+// Five routers. A way over c protects the link from a to b, which is in one risk group with that from b to y; the last
+// link leads from y to y.
+fn add_links(builder: &mut NetworkBuilder) -> Result<(), BuildRefused> {
+    for name in ["x", "a", "b", "c", "y"] {
+        builder.router(name)?;
+    }
+    for ((from, out, to, into), distance, group) in [
+        (("x", "o", "a", "x"), 1, None),
+        (("a", "b", "b", "a"), 1, Some("g")),
+        (("a", "c", "c", "a"), 2, None),
+        (("c", "b", "b", "c"), 2, None),
+        (("b", "y", "y", "b"), 1, Some("g")),
+        (("y", "o", "y", "i"), 7, None),
+    ] {
+        builder.link(from, out, to, into, distance, group)?;
+    }
+    Ok(())
+}
+
+// A network whose tables have no row: the calls are given the groups.
+fn network(alloc: Global) -> Result<Network, Fail> {
+    let mut builder = NetworkBuilder::new(alloc);
+    add_labels(&mut builder)?;
+    add_links(&mut builder)?;
+    Ok(builder.finish()?)
+}
+
+// The weight of these terms.
+fn weight(parts: [u128; 5]) -> Weight {
+    Pair {
+        first: Terms { parts },
+        second: Effort { count: 0 },
+    }
+}
+
+fn begins_with(rt: &impl Abort, vector: &Vector, net: &Network, link: u32, parts: [u128; 5]) {
+    assert!(rt; link < net.counts().links);
+    assert_eq!(rt; first_weight(vector, net, LinkId(link)), weight(parts));
+}
+
+// A member goes out over a link of the network, with few operations.
+fn is_way_out(net: &Network, member: &Member) -> bool
+    ensures { result ≡ way_out net.now member.now }
+{
+    member.link.0 < net.counts().links && member.ops.as_slice().len() <= 8
+}
+
+fn hop_is(
+    rt: &impl Abort,
+    vector: &Vector,
+    net: &Network,
+    member: &Member,
+    failures: usize,
+    parts: [u128; 5],
+) {
+    assert!(rt; is_way_out(net, member) && failures < 1 << 32);
+    assert_eq!(rt; hop_weight(vector, net, member, failures), weight(parts));
+}
+
+fn step_is(
+    rt: &impl Abort,
+    vector: &Vector,
+    net: &Network,
+    groups: &[Group],
+    (j, m): (usize, usize),
+    parts: [u128; 5],
+) {
+    match member_in(groups, j, m) {
+        Some(member) => {
+            assert!(rt; is_way_out(net, member));
+            assert_eq!(rt;
+                step_weight(vector, net, LinkId(0), groups, j, m),
+                weight(parts)
+            );
+        }
+        None => assert!(rt; false, "no such member"),
+    }
+}
+
+// Groups of one member each.
+fn singles(alloc: Global, members: &[(u32, &[Op])]) -> Result<Vec<Group>, Fail> {
+    let mut groups = Vec::new(alloc);
+    for (link, ops) in members {
+        groups
+            .push(one(alloc, *link, ops)?)
+            .map_err(AllocError::from)?;
+    }
+    Ok(groups)
+}
+
+fn single_is(
+    rt: &impl Abort,
+    alloc: Global,
+    vector: &Vector,
+    net: &Network,
+    members: &[(u32, &[Op])],
+    parts: [u128; 5],
+) -> Result<(), Fail> {
+    let groups = singles(alloc, members)?;
+    let last = groups.len().saturating_sub(1);
+    step_is(rt, vector, net, groups.as_slice(), (last, 0), parts);
+    Ok(())
+}
+
+fn detour_weighs(
+    rt: &impl Abort,
+    alloc: Global,
+    vector: &Vector,
+    net: &Network,
+) -> Result<(), Fail> {
+    let at_a: [(u32, &[Op]); 2] = [(1, &[PUSH_S10]), (2, &[PUSH_S10, PUSH_30])];
+    begins_with(rt, vector, net, 0, [1, 1, 0, 0, 0]);
+    single_is(rt, alloc, vector, net, &at_a, [1, 8, 0, 0, 0])?;
+    single_is(rt, alloc, vector, net, &[(3, &[Op::Pop])], [1, 2, 0, 0, 0])?;
+    single_is(rt, alloc, vector, net, &[(4, &[Op::Pop])], [1, 1, 0, 0, 0])
+}
+
+#[test]
+fn a_detour_weighs_what_its_steps_weigh(rt: HostRuntime) -> Result<(), Fail> {
+    let net = network(rt.alloc())?;
+    let vector = read_weights(rt.alloc(), "Hops, Distance+3*Tunnels")?;
+    detour_weighs(&rt, rt.alloc(), &vector, &net)
+}
+
+const EACH: &str = "Links,Hops,Distance,Failures,Tunnels";
+
+fn hops_add(rt: &impl Abort, alloc: Global, vector: &Vector, net: &Network) -> Result<(), Fail> {
+    for (link, ops, failures, parts) in [
+        (2, &[Op::Pop, PUSH_30] as &[Op], 0, [1, 1, 2, 0, 0]),
+        (2, &[PUSH_S10, PUSH_30], 3, [1, 1, 2, 3, 2]),
+        (5, &[Op::Swap(IP1, Class::Ip)], 1, [1, 0, 7, 1, 0]),
+        (5, &[Op::Pop], 0, [1, 0, 7, 0, 0]),
+    ] {
+        let member = member(alloc, link, ops)?;
+        hop_is(rt, vector, net, &member, failures, parts);
+    }
+    begins_with(rt, vector, net, 5, [1, 0, 7, 0, 0]);
+    Ok(())
+}
+
+#[test]
+fn hops_add_to_each_quantity(rt: HostRuntime) -> Result<(), Fail> {
+    let net = network(rt.alloc())?;
+    let vector = read_weights(rt.alloc(), EACH)?;
+    hops_add(&rt, rt.alloc(), &vector, &net)
+}
+
+// Groups of members with these links and no operations.
+fn groups_of(alloc: Global, links: &[[u32; 2]]) -> Result<Vec<Group>, Fail> {
+    let mut groups = Vec::new(alloc);
+    for [first, second] in links {
+        groups
+            .push(pair(alloc, *first, *second)?)
+            .map_err(AllocError::from)?;
+    }
+    Ok(groups)
+}
+
+fn pair(alloc: Global, first: u32, second: u32) -> Result<Group, Fail> {
+    let first = member(alloc, first, &[])?;
+    let second = member(alloc, second, &[])?;
+    Ok(Listed::of(vec![in alloc; first, second]?))
+}
+
+// The second link and the last but one are in one risk group, and the tenth isn't the network's.
+fn groups_fail(rt: &impl Abort, vector: &Vector, net: &Network, groups: &[Group]) {
+    for (j, m, parts) in [
+        (0, 1, [1, 1, 1, 0, 0]),
+        (1, 0, [1, 1, 1, 1, 0]),
+        (2, 0, [1, 1, 2, 1, 0]),
+        (3, 0, [1, 1, 2, 2, 0]),
+        (4, 0, [1, 1, 1, 3, 0]),
+    ] {
+        step_is(rt, vector, net, groups, (j, m), parts);
+    }
+}
+
+fn risk_groups_fail(
+    rt: &impl Abort,
+    alloc: Global,
+    vector: &Vector,
+    net: &Network,
+) -> Result<(), Fail> {
+    let groups = groups_of(alloc, &[[1, 4], [4, 1], [3, 9], [2, 3], [0, 2]])?;
+    groups_fail(rt, vector, net, groups.as_slice());
+    Ok(())
+}
+
+#[test]
+fn links_of_one_risk_group_fail_once(rt: HostRuntime) -> Result<(), Fail> {
+    let net = network(rt.alloc())?;
+    let vector = read_weights(rt.alloc(), EACH)?;
+    risk_groups_fail(&rt, rt.alloc(), &vector, &net)
+}

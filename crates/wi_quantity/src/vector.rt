@@ -1,0 +1,58 @@
+//! Weight vectors.
+ghost use Rattle.std.specs.Prelude.{◌≡◌, [], length};
+
+use std::alloc::Global;
+use std::marker::Model;
+use wi_base::Listed;
+use wi_world::Quantity;
+
+/// So many times a quantity.
+#[derive(Clone, Copy, PartialEq, Eq, Debug)]
+pub struct Part {
+    /// At most 65,535.
+    pub coefficient: u32,
+    pub quantity: Quantity,
+}
+
+/// What runs are weighed by: up to five terms, the first decides first. Each is a sum of up to five parts.
+#[derive(Drop)]
+pub struct Vector {
+    pub(crate) terms: Vec<Listed<Part>>,
+}
+
+impl Model for Vector {
+    ghost use Rattle.std.specs.Prelude.{◌≡◌, List, true};
+    ghost use Rattle.wi_quantity.specs.declared.vector.Part.{Part};
+    ghost use Rattle.wi_quantity.specs.Vectors.{is_vector};
+
+    ghost Value = { List (List Part) };
+
+    ghost view = { λ v. v.terms.items };
+
+    ghost invariant = { λ v. is_vector v.terms.items ≡ true };
+}
+
+impl Vector {
+    /// No term: the effort alone decides.
+    pub fn new(alloc: Global) -> Vector
+        ensures { result ≡ [] }
+    {
+        Vector {
+            terms: Vec::new(alloc),
+        }
+    }
+
+    /// How many terms there are. It takes no memory.
+    pub fn len(&self) -> usize
+        ensures { result ≡ length self.now }
+    {
+        self.terms.len()
+    }
+
+    /// The terms in order. It takes no memory.
+    pub fn as_slice(&self) -> &[Listed<Part>]
+        ensures { result.now ≡ self.now }
+    {
+        self.terms.as_slice()
+    }
+}

@@ -1,0 +1,10 @@
+pub mod Running
+pub mod Stacks
+pub mod Trees
+pub mod Lists
+pub mod Firsts
+pub mod Marks
+pub mod LinkSets
+pub mod Known
+pub mod Numbers
+pub mod Queries

@@ -1,0 +1,24 @@
+-- Expressions with their automata.
+use Rattle.std.specs.Prelude.{ℕ, ◌≤◌, ◌<◌, ◌≡◌, true}
+use Rattle.wi_regex.specs.declared.regex.Regex.{Regex}
+use Rattle.wi_regex.specs.declared.regex.Regex.TheVariants as regex
+use Rattle.wi_regex.specs.Matching.{position_count}
+use Rattle.wi_nfa.specs.Rows.{automaton_of}
+use Rattle.wi_nfa.specs.Automata.{IsPositionAutomaton}
+use Rattle.wi_query.specs.declared.expression.Expression.{Expression}
+use Rattle.wi_query.specs.Sets.{SymbolMarks, holds}
+
+-- the symbols of each atom are below a number
+abbrev pub IsWithin : ℕ → Regex SymbolMarks → Type 0
+IsWithin n (regex.Atom set) = (x : ℕ) → holds set x ≡ true → x < n
+IsWithin n (regex.Concat' p a q b) = IsWithin n a × IsWithin n b
+IsWithin n (regex.Either' p a q b) = IsWithin n a × IsWithin n b
+IsWithin n (regex.Star' p a) = IsWithin n a
+IsWithin n (regex.Plus' p a) = IsWithin n a
+IsWithin n (regex.Maybe' p a) = IsWithin n a
+
+-- an expression over so many symbols: its automaton is its own, and has no more states than an automaton may have
+pub record IsCompiled (symbols : ℕ) (e : Expression) : Type 0 where
+  pub within : IsWithin symbols e.regex
+  pub automaton : IsPositionAutomaton holds e.regex (automaton_of holds e.nfa)
+  pub few : position_count e.regex ≤ 512

@@ -1,0 +1,8 @@
+pub mod Sets
+pub mod Compiled
+pub mod Unknown
+pub mod Meaning
+pub mod Faults
+pub mod Names
+pub mod Frames
+pub mod Parts

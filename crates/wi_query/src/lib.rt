@@ -1,0 +1,20 @@
+//! Queries: what is asked of a network. Each text is a query of it, or has its first fault.
+#![tactic(auto)]
+
+mod atoms;
+mod bounds;
+mod expression;
+mod fault;
+mod names;
+mod parts;
+mod query;
+mod symbols;
+mod tree;
+
+pub use expression::Expression;
+pub use fault::QueryFault;
+pub use query::{Query, read_query};
+pub use symbols::SymbolSet;
+
+#[cfg(test)]
+mod tests;

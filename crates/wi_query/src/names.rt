@@ -1,0 +1,245 @@
+//! Names looked up in a network, each once, and what they stand for.
+ghost use Rattle.std.specs.Prelude.{◌≡◌, ◌<◌, ◌&&◌, ◌∷◌, [], Some, None, IfOk, IfErr, OnErr, length, string_bytes};
+ghost use Rattle.std.specs.List.{flat_map, list_any};
+ghost use Rattle.wi_labels.specs.Header.{same_class};
+ghost use Rattle.wi_net.specs.Finding.{find_router};
+ghost use Rattle.wi_query.specs.Sets.{class_of_word, class_named};
+ghost use Rattle.wi_query.specs.Unknown.{ARouter, unknown_label, unknown_in_end, unknown_in_pair};
+ghost use Rattle.wi_query.specs.Names.{IsFirst, label_meant, is_meant, finder, place_meant, ends_meant, is_placed, is_between, AreMeant};
+
+use crate::fault::QueryFault;
+use std::alloc::Global;
+use wi_labels::{Class, Label};
+use wi_net::{LinkId, Network, RouterId};
+use wi_syntax::{End, Name, Pair};
+
+/// What a name of a label stands for.
+#[derive(Clone, Copy)]
+pub(crate) enum LabelName {
+    /// Each label of a class.
+    OfClass(Class),
+    One(Label),
+}
+
+/// What an end of a link stands for.
+#[derive(Clone, Copy)]
+pub(crate) enum Place {
+    Any,
+    At(RouterId),
+    /// The one link by an interface of a router.
+    By(LinkId),
+}
+
+/// Which end of a link is meant.
+#[derive(Clone, Copy)]
+pub(crate) enum Side {
+    Source,
+    Target,
+}
+
+/// What both ends of a link stand for.
+#[derive(Clone, Copy)]
+pub(crate) struct Ends {
+    source: Place,
+    target: Place,
+}
+
+// The characters of a name, to tell it.
+fn text_of(alloc: Global, name: &Name) -> Result<String, QueryFault>
+    ensures text { IfOk result (λ text. string_bytes text ≡ name.now.text) }
+    ensures refused { IfErr result (λ fault. fault ≡ QueryFault.Memory) }
+{
+    Ok(String::from_str(alloc, name.as_str())?)
+}
+
+// The class that a word means.
+fn class_of_word(word: &str) -> Option<Class>
+    ensures { result ≡ class_of_word word.now }
+{
+    if word == "mpls" {
+        Some(Class::Mpls)
+    } else if word == "smpls" {
+        Some(Class::Smpls)
+    } else if word == "ip" {
+        Some(Class::Ip)
+    } else {
+        None
+    }
+}
+
+fn class_named(name: &Name) -> Option<Class>
+    ensures { result ≡ class_named name.now }
+{
+    if name.is_quoted() {
+        return None;
+    }
+    class_of_word(name.as_str())
+}
+
+/// What a name of a label stands for.
+pub(crate) fn label_named(
+    alloc: Global,
+    net: &Network,
+    name: &Name,
+) -> Result<LabelName, QueryFault>
+    ensures found { IfOk result (λ found. label_meant net.now name.now ≡ Some found) }
+    ensures refused { IfErr result (IsFirst (unknown_label net.now name.now)) }
+{
+    if let Some(class) = class_named(name) {
+        return Ok(LabelName::OfClass(class));
+    }
+    match net.find_label(name.as_str()) {
+        Some(label) => Ok(LabelName::One(label)),
+        None => Err(QueryFault::UnknownLabel(name.at(), text_of(alloc, name)?)),
+    }
+}
+
+/// What each of some names stands for, or the first that stands for nothing.
+pub(crate) fn labels_named(
+    alloc: Global,
+    net: &Network,
+    names: &[Name],
+) -> Result<Vec<LabelName>, QueryFault>
+    ensures found { IfOk result (λ found. AreMeant (label_meant net.now) names.now found.items) }
+    ensures refused { IfErr result (IsFirst (flat_map (unknown_label net.now) names.now)) }
+{
+    let mut found = Vec::new(alloc);
+    for name in names {
+        found.push(label_named(alloc, net, name)?)?;
+    }
+    Ok(found)
+}
+
+fn same_class(one: Class, other: Class) -> bool
+    ensures { result ≡ same_class one other }
+{
+    match (one, other) {
+        (Class::Mpls, Class::Mpls) | (Class::Smpls, Class::Smpls) | (Class::Ip, Class::Ip) => true,
+        _ => false,
+    }
+}
+
+/// Whether a label is one that a name stands for.
+pub(crate) fn is_meant(net: &Network, name: LabelName, label: Label) -> bool
+    requires { label.0 < length net.now.labels }
+    ensures { result ≡ is_meant net.now name label.0 }
+{
+    match name {
+        LabelName::OfClass(class) => same_class(net.class(label), class),
+        LabelName::One(one) => one.0 == label.0,
+    }
+}
+
+fn router_named(alloc: Global, net: &Network, name: &Name) -> Result<RouterId, QueryFault>
+    ensures found { IfOk result (λ router. find_router net.now name.now.text ≡ Some router) }
+    ensures absent { OnErr result (find_router net.now name.now.text ≡ None) }
+    ensures refused { IfErr result (IsFirst ((ARouter, name.now) ∷ [])) }
+{
+    match net.find_router(name.as_str()) {
+        Some(router) => Ok(router),
+        None => Err(QueryFault::UnknownRouter(name.at(), text_of(alloc, name)?)),
+    }
+}
+
+// The link that leaves, or reaches, a router by an interface.
+fn link_by(net: &Network, side: Side, router: RouterId, interface: &str) -> Option<LinkId>
+    ensures { result ≡ finder net.now side router interface.now }
+{
+    match side {
+        Side::Source => net.find_out(router, interface),
+        Side::Target => net.find_in(router, interface),
+    }
+}
+
+// What an end stands for.
+fn place_of(alloc: Global, net: &Network, side: Side, end: &End) -> Result<Place, QueryFault>
+    ensures found { IfOk result (λ place. place_meant net.now (finder net.now side) end.now ≡ Some place) }
+    ensures refused { IfErr result (IsFirst (unknown_in_end net.now (finder net.now side) end.now)) }
+{
+    match end {
+        End::Any => Ok(Place::Any),
+        End::Router(router) => Ok(Place::At(router_named(alloc, net, router)?)),
+        End::Interface(router, interface) => {
+            let id = router_named(alloc, net, router)?;
+            match link_by(net, side, id, interface.as_str()) {
+                Some(link) => Ok(Place::By(link)),
+                None => Err(QueryFault::UnknownInterface(
+                    interface.at(),
+                    text_of(alloc, interface)?,
+                )),
+            }
+        }
+    }
+}
+
+// What both ends of a pair stand for.
+fn ends_of(alloc: Global, net: &Network, pair: &Pair) -> Result<Ends, QueryFault>
+    ensures found { IfOk result (λ ends. ends_meant net.now pair.now ≡ Some ends) }
+    ensures refused { IfErr result (IsFirst (unknown_in_pair net.now pair.now)) }
+{
+    let source = place_of(alloc, net, Side::Source, &pair.from)?;
+    let target = place_of(alloc, net, Side::Target, &pair.to)?;
+    Ok(Ends { source, target })
+}
+
+/// What each of some pairs stands for, or the first name in them that stands for nothing.
+pub(crate) fn pairs_named(
+    alloc: Global,
+    net: &Network,
+    pairs: &[Pair],
+) -> Result<Vec<Ends>, QueryFault>
+    ensures found { IfOk result (λ found. AreMeant (ends_meant net.now) pairs.now found.items) }
+    ensures refused { IfErr result (IsFirst (flat_map (unknown_in_pair net.now) pairs.now)) }
+{
+    let mut found = Vec::new(alloc);
+    for pair in pairs {
+        found.push(ends_of(alloc, net, pair)?)?;
+    }
+    Ok(found)
+}
+
+// Whether a link of this number, with this router at its end, is one that is meant.
+fn is_placed(place: Place, router: RouterId, link: LinkId) -> bool
+    ensures { result ≡ is_placed place router link.0 }
+{
+    match place {
+        Place::Any => true,
+        Place::At(id) => id.0 == router.0,
+        Place::By(one) => one.0 == link.0,
+    }
+}
+
+/// Whether a link is one that a pair stands for.
+pub(crate) fn is_between(net: &Network, ends: Ends, link: LinkId) -> bool
+    requires { link.0 < length net.now.links }
+    ensures { result ≡ is_between net.now ends link.0 }
+{
+    let at = net.link(link);
+    is_placed(ends.source, at.from, link) && is_placed(ends.target, at.to, link)
+}
+
+/// Whether a label is one that some name stands for.
+pub(crate) fn any_meant(net: &Network, names: &[LabelName], label: Label) -> bool
+    requires { label.0 < length net.now.labels }
+    ensures { result ≡ list_any (λ name. is_meant net.now name label.0) names.now }
+{
+    for name in names {
+        if is_meant(net, *name, label) {
+            return true;
+        }
+    }
+    false
+}
+
+/// Whether a link is one that some pair stands for.
+pub(crate) fn any_between(net: &Network, pairs: &[Ends], link: LinkId) -> bool
+    requires { link.0 < length net.now.links }
+    ensures { result ≡ list_any (λ ends. is_between net.now ends link.0) pairs.now }
+{
+    for ends in pairs {
+        if is_between(net, *ends, link) {
+            return true;
+        }
+    }
+    false
+}

@@ -1,0 +1,80 @@
+//! Queries.
+ghost use Rattle.std.specs.Prelude.{◌≡◌, false, nat_lt, length, IfOk, IfErr};
+ghost use Rattle.wi_syntax.specs.Grammar.{IsNumber};
+ghost use Rattle.wi_query.specs.Meaning.{IsQuery};
+ghost use Rattle.wi_query.specs.Faults.{IsShort, IsFault};
+ghost use Rattle.wi_query.specs.Parts.{AreCounted, IsMadeOf, IsWrong, IsNoQuery};
+
+use crate::bounds::bounds_of;
+use crate::expression::{Expression, compiled};
+use crate::fault::QueryFault;
+use crate::parts::{Parts, parts_of};
+use std::alloc::Global;
+use wi_net::{Bounds, Network};
+use wi_syntax::{Name, SyntaxRefused, Written, read_written};
+
+/// The most bytes that a query's text may have.
+const LENGTH_LIMIT: usize = 4096;
+
+/// What is asked of a network: the languages of the first header, of the links and of the last header, and what may fail.
+#[derive(Drop)]
+pub struct Query {
+    /// The first header, top first.
+    pub first: Expression,
+    pub path: Expression,
+    /// The last header, top first.
+    pub last: Expression,
+    /// How many risk groups may fail besides those known to be down, and which are known down or up.
+    pub bounds: Bounds,
+}
+
+// The query as it is written.
+fn written_in(alloc: Global, text: &str) -> Result<Written, QueryFault>
+    ensures written { IfOk result (λ written. IsShort text.now written) }
+    ensures refused { IfErr result (λ fault. IsNoQuery text.now fault) }
+{
+    if text.len() > LENGTH_LIMIT {
+        return Err(QueryFault::TooLong(text.len()));
+    }
+    match read_written(alloc, text) {
+        Ok(written) => Ok(written),
+        Err(SyntaxRefused::Stops(at)) => Err(QueryFault::Syntax(at)),
+        Err(SyntaxRefused::Memory) => Err(QueryFault::Memory),
+    }
+}
+
+// The query of its parts, or what is wrong with them.
+fn query_of(alloc: Global, parts: Parts, number: &Name) -> Result<Query, QueryFault>
+    requires counted { AreCounted parts }
+    requires number { IsNumber number.now }
+    ensures made { IfOk result (λ query. IsMadeOf parts number.now query) }
+    ensures wrong { IfErr result (IsWrong parts number.now) }
+{
+    let Parts {
+        first,
+        path,
+        last,
+        down,
+        up,
+    } = parts;
+    let first = compiled(alloc, 1, first)?;
+    let path = compiled(alloc, 2, path)?;
+    let last = compiled(alloc, 3, last)?;
+    let bounds = bounds_of(number, down, up)?;
+    Ok(Query {
+        first,
+        path,
+        last,
+        bounds,
+    })
+}
+
+/// The query that a text is of a network.
+pub fn read_query(alloc: Global, net: &Network, text: &str) -> Result<Query, QueryFault>
+    ensures read { IfOk result (λ query. IsQuery net.now text.now query) }
+    ensures refused { IfErr result (λ fault. IsFault net.now text.now fault) }
+{
+    let written = written_in(alloc, text)?;
+    let parts = parts_of(alloc, net, &written)?;
+    query_of(alloc, parts, &written.number)
+}

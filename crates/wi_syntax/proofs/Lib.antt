@@ -1,0 +1,11 @@
+pub mod Options
+pub mod Phrases
+pub mod Listings
+pub mod Shown
+pub mod Building
+pub mod Words
+pub mod Bytes
+pub mod Cutting
+pub mod Completing
+pub mod Chars
+pub mod Texts

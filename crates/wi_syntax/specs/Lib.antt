@@ -1,0 +1,9 @@
+pub mod Names
+pub mod Tokens
+pub mod Atoms
+pub mod Trees
+pub mod Grammar
+pub mod Lists
+pub mod Refusals
+pub mod Parsing
+pub mod Reading

@@ -1,0 +1,43 @@
+//! The tokens of a query.
+use crate::name::Name;
+
+/// A token of one character.
+#[derive(Clone, Copy, PartialEq, Eq, Debug)]
+pub enum Mark {
+    /// `<`.
+    Less,
+    /// `>`.
+    Greater,
+    /// `(`.
+    OpenRound,
+    /// `)`.
+    CloseRound,
+    /// `[`.
+    OpenSquare,
+    /// `]`.
+    CloseSquare,
+    /// `#`.
+    Hash,
+    /// `.`.
+    Dot,
+    /// `,`.
+    Comma,
+    /// `^`.
+    Caret,
+    /// `*`.
+    Star,
+    /// `+`.
+    Plus,
+    /// `?`.
+    Question,
+    /// `|`.
+    Bar,
+}
+
+/// A token. White space stands between tokens, and in none but quoted ones.
+#[derive(Drop)]
+pub enum Token {
+    Mark(Mark),
+    /// A name, a number, or one of the words `down` and `up`: the place decides which.
+    Word(Name),
+}

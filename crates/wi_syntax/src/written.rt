@@ -1,0 +1,77 @@
+//! A query as it is written, with its names not looked up yet.
+use crate::name::Name;
+use wi_base::Listed;
+
+/// Labels: `.`, a name, or a list.
+#[derive(Drop)]
+pub enum LabelAtom {
+    /// `.`: any label.
+    Any,
+    /// A label; or without quotation marks one of the words `ip`, `mpls` and `smpls`, any label of that class.
+    Name(Name),
+    /// `[A, B]`: any of these, or with `^` any but these.
+    List(bool, Listed<Name>),
+}
+
+/// One end of a link.
+#[derive(Drop)]
+pub enum End {
+    /// `.`: any router.
+    Any,
+    /// `A`: the router A.
+    Router(Name),
+    /// `A.i`: the router A by its interface i.
+    Interface(Name, Name),
+}
+
+/// `A#B`: the links that go from one end to the other.
+#[derive(Drop)]
+pub struct Pair {
+    pub from: End,
+    pub to: End,
+}
+
+/// Links: `.` or a list.
+#[derive(Drop)]
+pub enum LinkAtom {
+    /// `.`: any link.
+    Any,
+    /// `[A#B, C#D]`: any of these, or with `^` any but these.
+    List(bool, Listed<Pair>),
+}
+
+/// A sign of an expression.
+#[derive(Drop)]
+pub enum Sign<A> {
+    Atom(A),
+    /// `(`.
+    Open,
+    /// `)`.
+    Close,
+    /// `*`.
+    Star,
+    /// `+`.
+    Plus,
+    /// `?`.
+    Maybe,
+    /// `|`.
+    Or,
+}
+
+/// A list of links that are known down or up, with the byte where its word starts.
+#[derive(Drop)]
+pub struct Known {
+    pub at: usize,
+    pub pairs: Listed<Pair>,
+}
+
+/// A query as it is written: its three expressions, its number, and the links that are known down or up.
+#[derive(Drop)]
+pub struct Written {
+    pub first: Listed<Sign<LabelAtom>>,
+    pub path: Listed<Sign<LinkAtom>>,
+    pub last: Listed<Sign<LabelAtom>>,
+    pub number: Name,
+    pub down: Option<Known>,
+    pub up: Option<Known>,
+}

@@ -1,0 +1,5 @@
+pub mod Characters
+pub mod Names
+pub mod Spelling
+pub mod Prefixes
+pub mod Machines

@@ -1,0 +1,57 @@
+//! Kinds of characters.
+ghost use Rattle.std.specs.Prelude.{◌≡◌};
+ghost use Rattle.std.specs.List.{list_all};
+ghost use Rattle.wi_text.specs.Characters.{is_space, is_digit, is_letter, is_plain, is_plain_name, is_number};
+
+/// A space, a tab, a carriage return or a line feed. It takes no memory.
+pub fn is_space(character: char) -> bool
+    ensures { result ≡ is_space character }
+{
+    matches!(character, ' ' | '\t' | '\r' | '\n')
+}
+
+/// An ASCII letter. It takes no memory.
+pub fn is_letter(character: char) -> bool
+    ensures { result ≡ is_letter character }
+{
+    character.is_ascii_alphabetic()
+}
+
+/// An ASCII letter, a digit or `_`. It takes no memory.
+pub fn is_plain(character: char) -> bool
+    ensures { result ≡ is_plain character }
+{
+    character.is_ascii_alphanumeric() || character == '_'
+}
+
+/// Whether a text is a plain name: plain characters, and at least one. It takes no memory.
+pub fn is_plain_name(text: &str) -> bool
+    ensures { result ≡ is_plain_name text.now }
+{
+    !text.is_empty() && are_plain(text.as_bytes())
+}
+
+// Whether each byte is a plain character.
+fn are_plain(bytes: &[u8]) -> bool
+    ensures { result ≡ list_all is_plain bytes.now }
+{
+    bytes.iter().all(|byte| is_plain(char::from(*byte)))
+}
+
+/// Whether a text is a number: `0`, or a digit 1 to 9 and digits. It takes no memory.
+pub fn is_number(text: &str) -> bool
+    ensures { result ≡ is_number text.now }
+{
+    match text.as_bytes() {
+        [b'0'] => true,
+        [b'1'..=b'9', rest @ ..] => are_digits(rest),
+        _ => false,
+    }
+}
+
+// Whether each byte is a digit.
+fn are_digits(bytes: &[u8]) -> bool
+    ensures { result ≡ list_all is_digit bytes.now }
+{
+    bytes.iter().all(|byte| byte.is_ascii_digit())
+}

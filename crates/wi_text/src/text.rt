@@ -1,0 +1,83 @@
+//! Texts that are put together piece by piece.
+ghost use Rattle.std.specs.Prelude.{◌≡◌, ◌++◌, OnOk, []};
+ghost use Rattle.std.specs.Fmt.{decimal};
+ghost use Rattle.wi_text.specs.Names.{quoted, shown};
+
+use crate::characters::is_plain_name;
+use std::alloc::Global;
+use std::marker::Model;
+use wi_base::{NoMemory, write_decimal};
+
+/// A text that grows at its end.
+#[derive(Drop)]
+pub struct Text {
+    bytes: Vec<u8>,
+}
+
+impl Model for Text {
+    ghost use Rattle.std.specs.Prelude.{List, ℕ};
+
+    ghost Value = { List ℕ };
+
+    ghost view = { λ t. t.bytes.items };
+}
+
+impl Text {
+    /// No text.
+    pub fn new(alloc: Global) -> Text
+        ensures { result ≡ [] }
+    {
+        Text {
+            bytes: Vec::new(alloc),
+        }
+    }
+
+    /// Adds a piece.
+    pub fn put(&mut self, piece: &str) -> Result<(), NoMemory>
+        ensures { OnOk result (self.new ≡ self.old ++ piece.now) }
+    {
+        self.bytes.extend_from_slice(piece.as_bytes())?;
+        Ok(())
+    }
+
+    /// Adds a number in decimal.
+    pub fn put_number(&mut self, number: u128) -> Result<(), NoMemory>
+        ensures { OnOk result (self.new ≡ self.old ++ decimal number) }
+    {
+        write_decimal(number, &mut self.bytes)
+    }
+
+    /// Adds a name between quotation marks.
+    pub fn put_quoted(&mut self, name: &str) -> Result<(), NoMemory>
+        ensures { OnOk result (self.new ≡ self.old ++ quoted name.now) }
+    {
+        self.put("\"")?;
+        self.put(name)?;
+        self.put("\"")
+    }
+
+    /// Adds a name, without quotation marks where it is a plain name.
+    pub fn put_name(&mut self, name: &str) -> Result<(), NoMemory>
+        ensures { OnOk result (self.new ≡ self.old ++ shown name.now) }
+    {
+        if is_plain_name(name) {
+            self.put(name)
+        } else {
+            self.put_quoted(name)
+        }
+    }
+
+    /// The bytes. It takes no memory.
+    pub fn as_bytes(&self) -> &[u8]
+        ensures { result.now ≡ self.now }
+    {
+        self.bytes.as_slice()
+    }
+
+    /// The bytes as a list of their own. It takes no memory.
+    pub fn into_bytes(self) -> Vec<u8>
+        ensures { result.items ≡ self }
+    {
+        self.bytes
+    }
+}

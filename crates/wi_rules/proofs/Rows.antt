@@ -1,0 +1,181 @@
+-- The rules computed on the small networks. Spots are given by their numbers, and symbols as label + 1.
+use Rattle.std.proofs.Common.{◌≡◌, ℕ, ◌+◌, List, [], ◌∷◌, Some, None, refl, inl}
+use Rattle.std.specs.List.{Contains}
+use Rattle.wi_net.specs.Net.{Net}
+use Rattle.wi_pds.specs.declared.rule.Word2.{Word2}
+use Rattle.wi_pds.specs.declared.rule.Word2.TheVariants.{Empty, One, Two}
+use Rattle.wi_world.specs.declared.run.Run.{Run}
+use Rattle.wi_world.proofs.MovingLaws.{possible_moving}
+use Rattle.wi_world.proofs.Samples.{l, step, bounds, at_most}
+use Rattle.wi_rules.specs.declared.spot.Origin.{Origin}
+use Rattle.wi_rules.specs.declared.spot.Origin.TheVariants.{Pushed, SetOut, Hop, Operation, Nothing}
+use Rattle.wi_rules.specs.declared.spot.Spot.{Spot}
+use Rattle.wi_rules.specs.declared.spot.Spot.TheVariants.{Start, Done, Build, Close, OnLink, Mid}
+use Rattle.wi_rules.specs.Rules.{SpotRule, Setup, plain, pushing, rules_of}
+use Rattle.wi_rules.specs.Goals.{IsGoalRun, IsMatch, rules_weight, told, told_of}
+use Rattle.wi_rules.specs.Numbers.{layout_of, number, spot_of, rules_at_number, NumberedRule}
+use Rattle.wi_rules.proofs.Lists.{in_contains}
+use Rattle.wi_rules.proofs.Samples.{label, s10, ip1, base, shared, same_link_twice, undefined_first, balanced, any, setup, along, along_is}
+
+-- The automata have 3, 2 and 3 states, and there are five links and five members: 2, 2 + 3, 2 + 3 + 3 and 2 + 3 + 3 + 10 are
+-- the first numbers of the four blocks of spots, and 2 + 3 + 3 + 10 + 70 is past the last.
+layout : layout_of along ≡ record { first = 3; last = 3; path = 2; links = 5; members = 5 }
+layout = refl
+
+spots : (spot_of (layout_of along) 0 ≡ Some Start) × (spot_of (layout_of along) 1 ≡ Some Done) × (spot_of (layout_of along) 4 ≡ Some (Build 2)) × (spot_of (layout_of along) 7 ≡ Some (Close 2))
+spots = (refl, refl, refl, refl)
+
+later_spots : (spot_of (layout_of along) 11 ≡ Some (OnLink (l 1) 1)) × (spot_of (layout_of along) 87 ≡ Some (Mid 4 7 1)) × (spot_of (layout_of along) 88 ≡ None)
+later_spots = (refl, refl, refl)
+
+numbers : (number (layout_of along) (OnLink (l 1) 1) ≡ 11) × (number (layout_of along) (Close 2) ≡ 7) × (number (layout_of along) (Mid 4 7 1) ≡ 87)
+numbers = (refl, refl, refl)
+
+-- a rule of effort 1 and no other weight
+abbrev rule : ℕ → Word2 → Origin → NumberedRule
+rule to word origin = record { to = to; word = word; weight = 1 ∷ []; origin = origin }
+
+-- Where the packet is on the link to b with s10 on top, the only rule ends its journey: the way on to y isn't in the path. Its
+-- symbol is kept.
+ends : rules_at_number along 11 2 ≡ rule 5 (One 2) Nothing ∷ []
+ends = refl
+
+-- Before the path accepts there is none, and none at a number that is no spot's.
+no_end : (rules_at_number along 10 2 ≡ []) × (rules_at_number along 88 2 ≡ [])
+no_end = (refl, refl)
+
+-- The first header is made from its accepting state back to the start: ip1 over the bottom, s10 over that.
+begins : rules_at_number along 0 0 ≡ rule 4 (One 0) Nothing ∷ []
+begins = refl
+
+makes : (rules_at_number along 4 0 ≡ rule 3 (Two 3 0) (Pushed (label 2)) ∷ []) × (rules_at_number along 3 3 ≡ rule 2 (Two 2 3) (Pushed (label 1)) ∷ [])
+makes = (refl, refl)
+
+-- ip1 isn't pushed on a label, nor s10 on the bottom or on s10.
+makes_no_other : (rules_at_number along 4 2 ≡ []) × (rules_at_number along 3 0 ≡ []) × (rules_at_number along 3 2 ≡ [])
+makes_no_other = (refl, refl, refl)
+
+-- The path begins with the link to b alone; no packet sets out with no label.
+sets_out : (rules_at_number along 2 2 ≡ rule 11 (One 2) (SetOut (l 1)) ∷ []) × (rules_at_number along 2 0 ≡ [])
+sets_out = (refl, refl)
+
+-- The last header is read from the top, and then the bottom goes.
+reads : (rules_at_number along 5 2 ≡ rule 6 Empty Nothing ∷ []) × (rules_at_number along 6 3 ≡ rule 7 Empty Nothing ∷ []) × (rules_at_number along 7 0 ≡ rule 1 Empty Nothing ∷ [])
+reads = (refl, refl, refl)
+
+reads_no_other : (rules_at_number along 5 0 ≡ []) × (rules_at_number along 5 3 ≡ []) × (rules_at_number along 1 0 ≡ [])
+reads_no_other = (refl, refl, refl)
+
+-- a path of any links
+abbrev free : Net → ℕ → Setup
+free net k = setup net (at_most k) any
+
+-- There are three labels, and so no rule for symbol 4: not where a packet would set out, not on a link, not where a header is
+-- read, though the automata go on by any number.
+past_labels : (rules_at_number (record (free base 1) { last = any }) 2 4 ≡ []) × (rules_at_number (record (free base 1) { last = any }) 9 4 ≡ []) × (rules_at_number (record (free base 1) { last = any }) 5 4 ≡ [])
+past_labels = (refl, refl, refl)
+
+-- Any link may be the first, but for those known to be down.
+sets_out_anywhere : rules_at_number (free base 0) 2 3 ≡ rule 9 (One 3) (SetOut (l 0)) ∷ rule 11 (One 3) (SetOut (l 1)) ∷ rule 13 (One 3) (SetOut (l 2)) ∷ rule 15 (One 3) (SetOut (l 3)) ∷ rule 17 (One 3) (SetOut (l 4)) ∷ []
+sets_out_anywhere = refl
+
+sets_out_but_down : rules_at_number (setup base (bounds 0 (l 1 ∷ l 3 ∷ []) []) any) 2 3 ≡ rule 9 (One 3) (SetOut (l 0)) ∷ rule 13 (One 3) (SetOut (l 2)) ∷ rule 17 (One 3) (SetOut (l 4)) ∷ []
+sets_out_but_down = refl
+
+-- On the link from x with ip1 on top the packet hops to b; where one link may fail it may hop to c too, and has then 30 to push.
+hops : rules_at_number (free base 0) 9 3 ≡ rule 11 (Two 2 3) (Hop (step 0 0)) ∷ rule 5 (One 3) Nothing ∷ []
+hops = refl
+
+hops_by_both : rules_at_number (free base 1) 9 3 ≡ rule 11 (Two 2 3) (Hop (step 0 0)) ∷ rule 33 (Two 2 3) (Hop (step 1 0)) ∷ rule 5 (One 3) Nothing ∷ []
+hops_by_both = refl
+
+pushes_more : (spot_of (layout_of (free base 1)) 33 ≡ Some (Mid 1 1 1)) × (rules_at_number (free base 1) 33 2 ≡ rule 13 (Two 1 2) (Operation 1 1) ∷ []) × (rules_at_number (free base 1) 33 3 ≡ [])
+pushes_more = (refl, refl, refl)
+
+-- Known to be down, the link to b isn't counted and isn't taken; known to be up, it can't have failed.
+hops_by_c : rules_at_number (setup base (bounds 0 (l 1 ∷ []) []) any) 9 3 ≡ rule 33 (Two 2 3) (Hop (step 1 0)) ∷ rule 5 (One 3) Nothing ∷ []
+hops_by_c = refl
+
+hops_by_b : rules_at_number (setup base (bounds 1 [] (l 1 ∷ [])) any) 9 3 ≡ rule 11 (Two 2 3) (Hop (step 0 0)) ∷ rule 5 (One 3) Nothing ∷ []
+hops_by_b = refl
+
+-- With the links to b and to c in one risk group the second choice has its own link before it, and so it has where both
+-- choices are one link: it is never taken.
+never_by_c : rules_at_number (free shared 5) 9 3 ≡ rule 11 (Two 2 3) (Hop (step 0 0)) ∷ rule 5 (One 3) Nothing ∷ []
+never_by_c = refl
+
+never_again : rules_at_number (free same_link_twice 5) 9 3 ≡ rule 11 (One 3) (Hop (step 0 0)) ∷ rule 5 (One 3) Nothing ∷ []
+never_again = refl
+
+-- A push of 30 on ip1 isn't defined, and gives no rule.
+undefined : (rules_at_number (free undefined_first 0) 9 3 ≡ rule 5 (One 3) Nothing ∷ []) × (rules_at_number (free undefined_first 1) 9 3 ≡ rule 33 (Two 2 3) (Hop (step 1 0)) ∷ rule 5 (One 3) Nothing ∷ [])
+undefined = (refl, refl)
+
+-- Members of one group stand one after the other; one without operations keeps the top.
+hops_within : rules_at_number (free balanced 0) 9 3 ≡ rule 11 (Two 2 3) (Hop (step 0 0)) ∷ rule 33 (Two 2 3) (Hop (step 0 1)) ∷ rule 11 (One 3) (Hop (step 0 2)) ∷ rule 5 (One 3) Nothing ∷ []
+hops_within = refl
+
+-- A first link and a hop add to a term, and the rules between add nothing.
+abbrev weighed : Setup
+weighed = record (free base 1) { terms = 1; first_share = λ e. (7 + e.0) ∷ []; step_share = λ e t step. (20 + step.group) ∷ [] }
+
+weighs : rules_at_number weighed 9 3 ≡ record (rule 11 (Two 2 3) (Hop (step 0 0))) { weight = 20 ∷ 1 ∷ [] } ∷ record (rule 33 (Two 2 3) (Hop (step 1 0))) { weight = 21 ∷ 1 ∷ [] } ∷ record (rule 5 (One 3) Nothing) { weight = 0 ∷ 1 ∷ [] } ∷ []
+weighs = refl
+
+weighs_first : rules_at_number (record weighed { path = along.path }) 2 2 ≡ record (rule 11 (One 2) (SetOut (l 1))) { weight = 8 ∷ 1 ∷ [] } ∷ []
+weighs_first = refl
+
+-- A goal run: a rule to begin, two that push a label, one for the first link, one to end, two that pop a label, and one for the
+-- bottom.
+abbrev eight : List SpotRule
+eight =
+    plain along (Build 2) (One 0)
+    ∷ pushing along 2 0 1
+    ∷ pushing along 1 3 0
+    ∷ record { to = OnLink (l 1) 1; word = One 2; share = []; origin = SetOut (l 1) }
+    ∷ plain along (Close 0) (One 2)
+    ∷ plain along (Close 1) Empty
+    ∷ plain along (Close 2) Empty
+    ∷ plain along Done Empty
+    ∷ []
+
+-- the first rule of a head is one of them
+first_of_head : (p : Spot) (g : ℕ) (r : SpotRule) (rs : List SpotRule) → rules_of along p g ≡ r ∷ rs → Contains (rules_of along p g) r
+first_of_head p g r rs e = in_contains (rules_of along p g) r (rw e (inl refl))
+
+eight_run : IsGoalRun along eight
+eight_run = (
+  first_of_head Start 0 _ [] refl,
+  (
+    first_of_head (Build 2) 0 _ [] refl,
+    (
+      first_of_head (Build 1) 3 _ [] refl,
+      (
+        first_of_head (Build 0) 2 _ [] refl,
+        (first_of_head (OnLink (l 1) 1) 2 _ [] refl, (first_of_head (Close 0) 2 _ [] refl, (first_of_head (Close 1) 3 _ [] refl, (first_of_head (Close 2) 0 _ [] refl, (refl, refl))))),
+      ),
+    ),
+  ),
+)
+
+eight_weight : rules_weight along eight ≡ 8 ∷ []
+eight_weight = refl
+
+-- It stands for a packet with the header s10 ip1 on the link from a to b, which has gone far enough: a matching moving run of
+-- effort 2 + 2 + 4.
+abbrev stays : Run
+stays = record { first = l 1; header = s10 ∷ ip1 ∷ []; steps = [] }
+
+eight_told : told eight ≡ told_of stays
+eight_told = refl
+
+stays_is : IsMatch along (8 ∷ []) stays
+stays_is = record {
+  moving = possible_moving base (at_most 0) stays along_is.net along_is.bounds refl;
+  matches = record {
+    first = (2, (1, in_contains (1 ∷ []) 1 (inl refl), (2, in_contains (2 ∷ []) 2 (inl refl), refl)), refl);
+    path = (1, (1, in_contains (1 ∷ []) 1 (inl refl), refl), refl);
+    last = (2, (1, in_contains (1 ∷ []) 1 (inl refl), (2, in_contains (2 ∷ []) 2 (inl refl), refl)), refl);
+  };
+  weight = refl;
+}

@@ -1,0 +1,34 @@
+//! States of the pushdown system, and what its rules stand for.
+use wi_labels::Label;
+use wi_net::LinkId;
+use wi_world::Step;
+
+/// A state of the pushdown system.
+#[derive(Clone, Copy, PartialEq, Eq, Debug)]
+pub enum Spot {
+    Start,
+    Done,
+    /// The first header is made from the bottom up; its automaton, read backwards, is in this state.
+    Build(u32),
+    /// The last header is read from the top down; its automaton is in this state.
+    Close(u32),
+    /// The packet is on the link; the path's automaton is in this state.
+    OnLink(LinkId, u32),
+    /// Of the member of a number so many operations are done, at least one; the path's automaton is in this state.
+    Mid(u32, u32, u32),
+}
+
+/// What a rule stands for in a run of the network.
+#[derive(Clone, Copy, PartialEq, Eq, Debug)]
+pub enum Origin {
+    /// A label of the first header.
+    Pushed(Label),
+    /// The first link.
+    SetOut(LinkId),
+    /// A step, and the first operation of its member.
+    Hop(Step),
+    /// A further operation of the member of a number: its place among the member's operations, at least 1.
+    Operation(u32, u32),
+    /// None of these.
+    Nothing,
+}

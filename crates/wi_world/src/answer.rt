@@ -1,6 +1,4 @@
-//! Answers.
-use crate::run::Run;
-use wi_base::Listed;
+//! The words of answers, and verdicts on runs.
 use wi_net::{FailSet, LinkId};
 
 /// Whether a run's own failures are allowed.
@@ -20,14 +18,4 @@ pub enum Word {
     Yes,
     No,
     Inconclusive,
-}
-
-/// An answer, with what it shows: nothing for a no.
-#[derive(Drop)]
-pub struct Answer {
-    pub word: Word,
-    /// The values of the terms in their order, the effort last.
-    pub weight: Option<Listed<u64>>,
-    pub run: Option<Run>,
-    pub verdict: Option<Verdict>,
 }

@@ -6,7 +6,7 @@ mod laws;
 mod run;
 mod world;
 
-pub use answer::{Answer, Verdict, Word};
+pub use answer::{Verdict, Word};
 pub use laws::{
     fitting_runs_are_traces, moving_runs_are_possible_runs, traces_are_moving_runs,
     without_failures,

@@ -1,0 +1,18 @@
+//! What holds of the lines of scripts.
+ghost use Rattle.std.specs.Prelude.{◌≡◌, ℕ, List, Bool};
+ghost use Rattle.wi_net.specs.Net.{Net};
+ghost use Rattle.wi_script.specs.declared.script.Script.{Script};
+ghost use Rattle.wi_script.specs.declared.script.ScriptCause.{ScriptCause};
+ghost use Rattle.wi_script.specs.Lines.{Line, IsLine};
+ghost use Rattle.wi_script.specs.Scripts.{IsBadLine, IsScript};
+
+/// A line is written in one way only, so what a script means and its first fault are determined.
+pub fn a_line_is_written_one_way()
+    ensures { (first : Bool) (text : List ℕ) (v w : Line) → IsLine first text v → IsLine first text w → v ≡ w }
+{}
+
+/// Bytes are a script of a network in one way, and then no line has a fault.
+pub fn a_script_is_read_one_way()
+    ensures alone { (net : Net) (text : List ℕ) (s t : Script) → IsScript net text s → IsScript net text t → s ≡ t }
+    ensures fine { (net : Net) (text : List ℕ) (s : Script) (n : ℕ) (cause : ScriptCause) → IsScript net text s → IsBadLine net text n cause → ⊥ }
+{}

@@ -1,0 +1,8 @@
+pub mod SetLemmas
+pub mod FaultLemmas
+pub mod HopLemmas
+pub mod WalkLemmas
+pub mod NeedsLemmas
+pub mod PlayLemmas
+pub mod ReplayLemmas
+pub mod BoundsLemmas

@@ -1,0 +1,4 @@
+pub mod Replays
+pub mod Hops
+pub mod Plays
+pub mod Moments

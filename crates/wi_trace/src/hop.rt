@@ -1,0 +1,184 @@
+//! Single steps.
+ghost use Rattle.std.specs.Prelude.{◌≡◌, ℕ, true, false, IfOk, IfErr, OnOk};
+ghost use Rattle.wi_world.specs.Moves.{groups_at, moved};
+ghost use Rattle.wi_trace.specs.declared.cause.Cause.{Cause};
+ghost use Rattle.wi_trace.specs.Hops.{named, is_first, fixed_against, moving_against, against, cause_in, Goes};
+
+use crate::cause::{Cause, ReplayRefused};
+use crate::sets::{count_outside, first_in};
+use std::alloc::Global;
+use wi_base::NoMemory;
+use wi_labels::{Applied, Header};
+use wi_net::{Bounds, FailSet, Group, LinkId, Member, Network, first_active};
+use wi_world::Step;
+
+/// A link, and the header that a packet has on it.
+pub(crate) type Place = (LinkId, Header);
+
+/// Which steps may be taken.
+#[derive(Clone, Copy)]
+pub(crate) enum World<'a> {
+    /// Those that may be taken while just these links are failed.
+    Fixed(&'a FailSet),
+    /// Those that may be taken at some moment, within these bounds.
+    Moving(&'a Bounds),
+}
+
+/// An equal header.
+pub(crate) fn twin_of(header: &Header) -> Result<Header, NoMemory>
+    ensures { IfOk result (λ twin. twin ≡ header.now) }
+{
+    match header.twin() {
+        Ok(header) => Ok(header),
+        Err(_) => Err(NoMemory::Memory),
+    }
+}
+
+/// The groups that the tables have for a place.
+pub(crate) fn groups_of<'a>(net: &'a Network, at: &Place) -> &'a [Group]
+    ensures { result.now ≡ groups_at net.now at.now.0 at.now.1 }
+{
+    match at.1.at(0) {
+        Some((top, _)) => net.entry(at.0, top),
+        None => &[],
+    }
+}
+
+// The member that a step names, or why there is none.
+fn named(groups: &[Group], step: Step) -> Result<&Member, Cause>
+    ensures ok { IfOk result (λ member. named groups.now step ≡ Ok member.now) }
+    ensures err { IfErr result (λ cause. named groups.now step ≡ Err cause) }
+{
+    match groups.get(step.group as usize) {
+        Some(group) => match group.as_slice().get(step.member as usize) {
+            Some(member) => Ok(member),
+            None => Err(Cause::NoMember),
+        },
+        None => Err(Cause::NoGroup),
+    }
+}
+
+// Whether a group is the first that has a link outside a set.
+fn is_first(fails: &FailSet, groups: &[Group], group: usize) -> bool
+    ensures { result ≡ is_first fails.now groups.now group }
+{
+    match first_active(groups, fails) {
+        Some(first) => first == group,
+        None => false,
+    }
+}
+
+// What stands against a link of a group under one set of failed links.
+fn fixed_against(fails: &FailSet, groups: &[Group], group: usize, link: LinkId) -> Option<Cause>
+    ensures { result ≡ fixed_against fails.now groups.now group link }
+{
+    if !is_first(fails, groups, group) {
+        return Some(Cause::NotFirstActive);
+    }
+    if fails.contains(link) {
+        return Some(Cause::LinkFailed);
+    }
+    None
+}
+
+// What stands against a link in the moving world, where others must have failed.
+fn moving_against(net: &Network, bounds: &Bounds, needs: &FailSet, link: LinkId) -> Option<Cause>
+    ensures { result ≡ moving_against net.now bounds.now needs.now link }
+{
+    let count = count_outside(net, needs, &bounds.down);
+    if count > bounds.k as usize {
+        return Some(Cause::TooManyBefore(count));
+    }
+    if let Some(up) = first_in(needs, &bounds.up) {
+        return Some(Cause::NeedsUp(up));
+    }
+    if needs.contains(link) || bounds.down.contains(link) {
+        return Some(Cause::LinkBefore);
+    }
+    None
+}
+
+// What stands against a link of a group.
+fn against(
+    alloc: Global,
+    net: &Network,
+    world: &World,
+    groups: &[Group],
+    group: usize,
+    link: LinkId,
+) -> Result<Option<Cause>, NoMemory>
+    ensures { IfOk result (λ cause. cause ≡ against world.now net.now groups.now group link) }
+{
+    match world {
+        World::Fixed(fails) => Ok(fixed_against(fails, groups, group, link)),
+        World::Moving(bounds) => {
+            let needs = net.links_before(alloc, groups, group)?;
+            Ok(moving_against(net, bounds, &needs, link))
+        }
+    }
+}
+
+/// Takes the step of a number, if it may be taken.
+pub(crate) fn hop(
+    alloc: Global,
+    net: &Network,
+    world: &World,
+    at: &mut Place,
+    number: usize,
+    step: Step,
+) -> Result<(), ReplayRefused>
+    ensures none { OnOk result (cause_in world.now net.now at.old step ≡ None) }
+    ensures on { OnOk result (moved net.now at.old step ≡ Some at.new) }
+    ensures fault { (n : ℕ) (cause : Cause) → result ≡ Err (ReplayRefused.Fault n cause) → (n ≡ number) × (cause_in world.now net.now at.old step ≡ Some cause) }
+{
+    let groups = groups_of(net, at);
+    let member = match named(groups, step) {
+        Ok(member) => member,
+        Err(cause) => return Err(ReplayRefused::Fault {
+            step: number,
+            cause,
+        }),
+    };
+    if let Some(cause) = against(alloc, net, world, groups, step.group as usize, member.link)? {
+        return Err(ReplayRefused::Fault {
+            step: number,
+            cause,
+        });
+    }
+    match apply(member, at)? {
+        Applied::Done => Ok(()),
+        Applied::Undefined(i) => Err(ReplayRefused::Fault {
+            step: number,
+            cause: Cause::Undefined(i),
+        }),
+    }
+}
+
+/// Where a step leads, whatever is failed. It answers whether it leads on.
+pub(crate) fn follow(net: &Network, at: &mut Place, step: Step) -> Result<bool, NoMemory>
+    ensures on { result ≡ Ok true → moved net.now at.old step ≡ Some at.new }
+    ensures off { result ≡ Ok false → moved net.now at.old step ≡ None }
+{
+    let member = match named(groups_of(net, at), step) {
+        Ok(member) => member,
+        Err(_) => return Ok(false),
+    };
+    match apply(member, at)? {
+        Applied::Done => Ok(true),
+        Applied::Undefined(_) => Ok(false),
+    }
+}
+
+// Goes by a member.
+fn apply(member: &Member, at: &mut Place) -> Result<Applied, NoMemory>
+    ensures { IfOk result (λ answer. Goes member.now at.old answer at.new) }
+{
+    match at.1.apply(member.ops.as_slice()) {
+        Ok(Applied::Done) => {
+            at.0 = member.link;
+            Ok(Applied::Done)
+        }
+        Ok(Applied::Undefined(i)) => Ok(Applied::Undefined(i)),
+        Err(_) => Err(NoMemory::Memory),
+    }
+}

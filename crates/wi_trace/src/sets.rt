@@ -1,0 +1,72 @@
+//! Sets of links, beside a second one.
+ghost use Rattle.std.specs.Prelude.{◌≡◌, ◌<◌, ◌&&◌, ◌==◌, not, length, slice_get, OnOk};
+ghost use Rattle.std.specs.List.{find};
+ghost use Rattle.wi_net.specs.LinkSet.{has, outside};
+ghost use Rattle.wi_net.specs.Net.{risk_of, risk_count};
+ghost use Rattle.wi_net.specs.RiskGroups.{union};
+
+use wi_base::NoMemory;
+use wi_net::{FailSet, LinkId, Network};
+
+// The link at a place.
+fn nth(set: &FailSet, i: usize) -> LinkId
+    requires { i < length set.now }
+    ensures { slice_get set.now i ≡ Some result }
+{
+    set.at(i).unwrap()
+}
+
+/// How many risk groups of a union of them aren't in another one. It takes no memory.
+pub(crate) fn count_outside(net: &Network, set: &FailSet, known: &FailSet) -> usize
+    ensures { result ≡ risk_count net.now (outside set.now known.now) }
+{
+    let mut count = 0;
+    for i in 0..set.len() {
+        if counts(net, known, nth(set, i)) {
+            count += 1;
+        }
+    }
+    count
+}
+
+// Whether a link stands for its risk group, which isn't known.
+fn counts(net: &Network, known: &FailSet, link: LinkId) -> bool
+    ensures { result ≡ (not (has known.now link) && ((risk_of net.now link).0 == link.0)) }
+{
+    !known.contains(link) && net.risk(link).0 == link.0
+}
+
+/// The first link of a set that is in another one. It takes no memory.
+#[tactic(auto, using(wi_labels::proofs::HeaderLemmas::drop_at))]
+pub(crate) fn first_in(set: &FailSet, other: &FailSet) -> Option<LinkId>
+    ensures { result ≡ find (λ e. has other.now e) set.now }
+{
+    for i in 0..set.len() {
+        let link = nth(set, i);
+        if other.contains(link) {
+            return Some(link);
+        }
+    }
+    None
+}
+
+/// Adds each link of another set. Where memory runs out, some may have been added.
+#[tactic(auto, using(wi_labels::proofs::HeaderLemmas::drop_at))]
+pub(crate) fn insert_all(set: &mut FailSet, more: &FailSet) -> Result<(), NoMemory>
+    ensures { OnOk result (set.new ≡ union set.old more.now) }
+{
+    for i in 0..more.len() {
+        set.insert(nth(more, i))?;
+    }
+    Ok(())
+}
+
+/// Takes each link of another set out. It takes no memory.
+#[tactic(auto, using(wi_labels::proofs::HeaderLemmas::drop_at, crate::proofs::SetLemmas::outside_next, crate::proofs::SetLemmas::outside_none))]
+pub(crate) fn remove_all(set: &mut FailSet, fewer: &FailSet)
+    ensures { set.new ≡ outside set.old fewer.now }
+{
+    for i in 0..fewer.len() {
+        set.remove(nth(fewer, i));
+    }
+}

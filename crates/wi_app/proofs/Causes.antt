@@ -9,8 +9,7 @@ use Rattle.wi_base.specs.Shelf.{IsLonger, after_fetch}
 use Rattle.wi_netjson.specs.declared.fault.Place.TheVariants.{File}
 use Rattle.wi_netjson.specs.declared.fault.NetFault.TheVariants.{OverLimit}
 use Rattle.wi_netjson.specs.File.{network_of}
-use Rattle.wi_app.specs.declared.refusal.Refusal.TheVariants.{Network}
-use Rattle.wi_app.specs.Run.{FromFile}
+use Rattle.wi_app.specs.Run.{HasFault}
 
 not_within : (n m : ℕ) → m < n → nat_le n m ≡ false
 not_within n m less = go (nat_le n m) refl
@@ -20,10 +19,10 @@ not_within n m less = go (nat_le n m) refl
     go true e = let within = leb-true n m e in let bad : ⊥ = omega (arith, within, less) in elim bad [ ]
 
 -- a file of too many bytes is a network file with that fault
-pub too_long : (file : Option (List ℕ)) → IsLonger file 67108864 → (query : List ℕ) → FromFile file query (Network (OverLimit File 67108864))
+pub too_long : (file : Option (List ℕ)) → IsLonger file 67108864 → HasFault file (OverLimit File 67108864)
 unfolding network_of
-too_long None longer query = elim longer [ ]
-too_long (Some bytes) longer query = rw (network_of, not_within (length bytes) 67108864 longer) refl
+too_long None longer = elim longer [ ]
+too_long (Some bytes) longer = rw (network_of, not_within (length bytes) 67108864 longer) refl
 
 -- a fetch of a file that is too long is no failed call
 pub too_big_calls : {T : Type 0} (answer : Result T FetchRefused) (why : FetchRefused) (name : List ℕ) (before after : List (CallKind × List ℕ)) → answer ≡ Err why → why ≡ TooBig → after ≡ after_fetch answer name before → after ≡ before

@@ -1,4 +1,3 @@
-pub mod Known
 pub mod Cutting
 pub mod Spelling
 pub mod Reading

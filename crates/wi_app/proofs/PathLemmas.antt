@@ -16,7 +16,7 @@ use Rattle.wi_app.specs.Question.{joins, is_path, numbers}
 use Rattle.wi_app.specs.Layers.{IsHop}
 use Rattle.wi_app.specs.Found.{Completes}
 use Rattle.wi_app.specs.declared.literal.Pair.{Pair}
-use Rattle.wi_app.proofs.Known.{moved_known}
+use Rattle.wi_world.proofs.Known.{moved_known}
 
 -- the links of a trace, by their numbers
 abbrev pub link_numbers : Net → Place → List Step → List ℕ

@@ -1,21 +1,12 @@
 -- Reports that are put together piece by piece.
-use Rattle.std.proofs.Common.{◌≡◌, ℕ, ◌+◌, ◌<◌, List, ◌∷◌, ◌++◌, length, drop, get_or, slice_get, Some, refl, append_assoc}
+use Rattle.std.proofs.Common.{◌≡◌, ℕ, ◌+◌, ◌<◌, List, ◌++◌, length, drop, get_or, Some, refl, append_assoc}
 use Rattle.std.specs.Prelude.{codes}
 use Rattle.std.proofs.lemmas.List.{drop_more}
-use Rattle.wi_labels.specs.Header.{Entry}
 use Rattle.wi_net.specs.Net.{Net}
 use Rattle.wi_world.specs.declared.run.Step.{Step}
 use Rattle.wi_world.specs.Moves.{Place, moved}
-use Rattle.wi_app.specs.Report.{label_shown, header_shown, place_shown, step_shown, steps_shown}
-use Rattle.wi_labels.proofs.HeaderLemmas.{drop_at}
-
--- a label of a header is shown, and those below it are left
-pub labels_left : (net : Net) (h : List Entry) (i : ℕ) (l : Entry) (text whole mid new : List ℕ) → slice_get h i ≡ Some l → text ++ header_shown net (drop i h) ≡ whole
-    → mid ≡ text ++ codes " " → new ≡ mid ++ label_shown net l.0 → new ++ header_shown net (drop (i + 1) h) ≡ whole
-labels_left net h i l text whole mid new is all space put =
-    let below : List ℕ = header_shown net (drop (i + 1) h) in
-    let here : text ++ header_shown net (l ∷ drop (i + 1) h) ≡ whole = rw (drop_at h i l is) at all in
-    rw (put, space, append_assoc text (codes " ") (label_shown net l.0), append_assoc text (codes " " ++ label_shown net l.0) below) here
+use Rattle.wi_report.specs.Shown.{place_shown}
+use Rattle.wi_app.specs.Report.{step_shown, steps_shown}
 
 -- a step is shown, and those after it are left
 pub steps_left : (net : Net) (at next : Place) (steps : List Step) (i : ℕ) (d : Step) (text whole new : List ℕ) → i < length steps → moved net at (get_or steps i d) ≡ Some next

@@ -9,7 +9,9 @@ use Rattle.wi_net.specs.declared.parts.LinkId.{LinkId}
 use Rattle.wi_net.specs.declared.parts.Link.{Link}
 use Rattle.wi_net.specs.Net.{Net}
 use Rattle.wi_world.specs.declared.run.Run.{Run}
-use Rattle.wi_app.specs.Report.{shown, label_shown, yes_report}
+use Rattle.wi_text.specs.Names.{shown}
+use Rattle.wi_report.specs.Shown.{label_shown}
+use Rattle.wi_app.specs.Report.{yes_report}
 
 abbrev label : ℕ → Label
 label n = record { 0 = n }

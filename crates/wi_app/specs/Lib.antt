@@ -1,4 +1,3 @@
-pub mod Words
 pub mod Tokens
 pub mod Lexing
 pub mod Literal

@@ -3,13 +3,14 @@
 
 mod answer;
 mod app;
+mod fetch;
 mod literal;
+mod play;
 mod refusal;
 mod report;
 mod search;
-mod text;
 mod tokens;
-mod words;
+mod verify;
 
 pub use app::run;
 

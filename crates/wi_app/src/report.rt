@@ -1,20 +1,19 @@
 //! The report.
-ghost use Rattle.std.specs.Prelude.{◌≡◌, ◌<◌, ◌++◌, ◌&&◌, [], true, length, nat_le, codes, slice_index_or, IfOk, OnOk};
-ghost use Rattle.std.specs.List.{list_all};
+ghost use Rattle.std.specs.Prelude.{◌≡◌, ◌++◌, [], true, codes, IfOk, OnOk};
 ghost use Rattle.std.specs.Option.{option_map};
 ghost use Rattle.wi_net.specs.Net.{is_link, labels_known};
 ghost use Rattle.wi_world.specs.Moves.{moved};
 ghost use Rattle.wi_app.specs.Known.{IsKnownRun};
-ghost use Rattle.wi_app.specs.Tokens.{is_plain};
-ghost use Rattle.wi_app.specs.Report.{quoted, shown, label_shown, link_shown, header_shown, place_shown, step_shown, steps_shown, run_shown, yes_report, no_report};
+ghost use Rattle.wi_report.specs.Shown.{place_shown};
+ghost use Rattle.wi_app.specs.Report.{step_shown, steps_shown, run_shown, yes_report, no_report};
 
 use crate::search::{Found, nth};
-use crate::text::Text;
-use crate::tokens::{is_class_word, is_plain};
 use std::alloc::Global;
 use wi_base::NoMemory;
-use wi_labels::{Applied, Header, Label};
-use wi_net::{LinkId, NameId, Network, RouterId};
+use wi_labels::{Applied, Header};
+use wi_net::{LinkId, Network};
+use wi_report::put_place;
+use wi_text::Text;
 use wi_world::{Run, Step};
 
 /// The report of a no.
@@ -33,11 +32,11 @@ pub fn yes_report(alloc: Global, net: &Network, found: &Found) -> Result<Text, N
 {
     let mut text = Text::new(alloc);
     text.put("answer: yes\nweight: none\neffort: ")?;
-    text.put_number(found.effort)?;
+    text.put_number(u128::from(found.effort))?;
     text.put("\nfailed: ")?;
     text.put("none")?;
     text.put("\nmoving: yes\nlinks: ")?;
-    text.put_number(found.run.steps.as_slice().len() as u64 + 1)?;
+    text.put_number(found.run.steps.as_slice().len() as u128 + 1)?;
     text.put("\n")?;
     run_text(net, &found.run, &mut text)?;
     Ok(text)
@@ -48,7 +47,7 @@ fn run_text(net: &Network, run: &Run, text: &mut Text) -> Result<(), NoMemory>
     requires { IsKnownRun net.now run.now }
     ensures { OnOk result (text.new ≡ text.old ++ run_shown net.now run.now) }
 {
-    place_text(net, run.first, &run.header, text)?;
+    put_place(net, run.first, &run.header, text)?;
     text.put("\n")?;
     let header = twin_of(&run.header)?;
     steps_text(net, run.first, header, run.steps.as_slice(), text)
@@ -124,7 +123,7 @@ fn step_line(
     requires header { labels_known net.now header.now ≡ true }
     ensures { OnOk result (text.new ≡ text.old ++ (place_shown net.now (link, header.now) ++ step_shown step ++ codes "\n")) }
 {
-    place_text(net, link, header, text)?;
+    put_place(net, link, header, text)?;
     step_text(step, text)?;
     text.put("\n")
 }
@@ -134,123 +133,7 @@ fn step_text(step: Step, text: &mut Text) -> Result<(), NoMemory>
     ensures { OnOk result (text.new ≡ text.old ++ step_shown step) }
 {
     text.put(" | group ")?;
-    text.put_number(step.group as u64 + 1)?;
+    text.put_number(step.group as u128 + 1)?;
     text.put(" member ")?;
-    text.put_number(step.member as u64 + 1)
-}
-
-// A link and the header on it.
-fn place_text(net: &Network, link: LinkId, header: &Header, text: &mut Text) -> Result<(), NoMemory>
-    requires link { is_link net.now link ≡ true }
-    requires header { labels_known net.now header.now ≡ true }
-    ensures { OnOk result (text.new ≡ text.old ++ place_shown net.now (link, header.now)) }
-{
-    link_text(net, link, text)?;
-    text.put(" |")?;
-    header_text(net, header, text)
-}
-
-// The labels of a header, top first, each after a space.
-fn header_text(net: &Network, header: &Header, text: &mut Text) -> Result<(), NoMemory>
-    requires { labels_known net.now header.now ≡ true }
-    ensures { OnOk result (text.new ≡ text.old ++ header_shown net.now header.now) }
-{
-    net.keeps();
-    for i in 0..header.len() {
-        let Some((label, _)) = header.at(i) else {
-            return Ok(());
-        };
-        text.put(" ")?;
-        label_text(net, label, text)?;
-    }
-    Ok(())
-}
-
-// A link as `A.i#B.j`.
-fn link_text(net: &Network, link: LinkId, text: &mut Text) -> Result<(), NoMemory>
-    requires { is_link net.now link ≡ true }
-    ensures { OnOk result (text.new ≡ text.old ++ link_shown net.now link) }
-{
-    let link = *net.link(link);
-    end_text(net, link.from, link.out_if, text)?;
-    text.put("#")?;
-    end_text(net, link.to, link.in_if, text)
-}
-
-// An interface of a router as `A.i`.
-fn end_text(
-    net: &Network,
-    router: RouterId,
-    interface: NameId,
-    text: &mut Text,
-) -> Result<(), NoMemory>
-    requires router { router.0 < length net.now.routers }
-    requires interface { interface.0 < length net.now.interfaces }
-    ensures { OnOk result (text.new ≡ text.old ++ (shown (slice_index_or net.now.routers router.0 []) ++ codes "." ++ shown (slice_index_or net.now.interfaces interface.0 []))) }
-{
-    router_text(net, router, text)?;
-    text.put(".")?;
-    interface_text(net, interface, text)
-}
-
-#[tactic(auto, using(std::proofs::lemmas::Option::get_or_from_slice_get))]
-fn router_text(net: &Network, router: RouterId, text: &mut Text) -> Result<(), NoMemory>
-    requires { router.0 < length net.now.routers }
-    ensures { OnOk result (text.new ≡ text.old ++ shown (slice_index_or net.now.routers router.0 [])) }
-{
-    name_text(net.router_name(router), text)
-}
-
-#[tactic(auto, using(std::proofs::lemmas::Option::get_or_from_slice_get))]
-fn interface_text(net: &Network, interface: NameId, text: &mut Text) -> Result<(), NoMemory>
-    requires { interface.0 < length net.now.interfaces }
-    ensures { OnOk result (text.new ≡ text.old ++ shown (slice_index_or net.now.interfaces interface.0 [])) }
-{
-    name_text(net.interface_name(interface), text)
-}
-
-// A label's name: between quotation marks where it is the word of a class.
-#[tactic(auto, using(std::proofs::lemmas::Option::get_or_from_slice_get))]
-fn label_text(net: &Network, label: Label, text: &mut Text) -> Result<(), NoMemory>
-    requires { label.0 < length net.now.labels }
-    ensures { OnOk result (text.new ≡ text.old ++ label_shown net.now label) }
-{
-    let name = net.label_name(label);
-    if is_class_word(name) {
-        quoted_text(name, text)
-    } else {
-        name_text(name, text)
-    }
-}
-
-// A name, between quotation marks unless it is plain.
-fn name_text(name: &str, text: &mut Text) -> Result<(), NoMemory>
-    ensures { OnOk result (text.new ≡ text.old ++ shown name.now) }
-{
-    if is_plain_name(name) {
-        text.put(name)
-    } else {
-        quoted_text(name, text)
-    }
-}
-
-fn is_plain_name(name: &str) -> bool
-    ensures { result ≡ (nat_le 1 (length name.now) && list_all is_plain name.now) }
-{
-    1 <= name.len() && are_plain_bytes(name.as_bytes())
-}
-
-fn are_plain_bytes(bytes: &[u8]) -> bool
-    ensures { result ≡ list_all is_plain bytes.now }
-{
-    bytes.iter().all(|byte| is_plain(char::from(*byte)))
-}
-
-// A name between quotation marks.
-fn quoted_text(name: &str, text: &mut Text) -> Result<(), NoMemory>
-    ensures { OnOk result (text.new ≡ text.old ++ quoted name.now) }
-{
-    text.put("\"")?;
-    text.put(name)?;
-    text.put("\"")
+    text.put_number(step.member as u128 + 1)
 }

@@ -10,6 +10,16 @@ fn n1() -> &'static str {
     r#"{"format":"mpls-whatif-1","routers":["x","a","b","c","y"],"labels":{"mpls":["30"],"smpls":["s10"],"ip":["ip1"]},"links":[{"from":"x","out":"o","to":"a","in":"x","distance":1},{"from":"a","out":"b","to":"b","in":"a","distance":1},{"from":"a","out":"c","to":"c","in":"a","distance":2},{"from":"c","out":"b","to":"b","in":"c","distance":2},{"from":"b","out":"y","to":"y","in":"b","distance":1}],"tables":[{"at":"a","in":"x","label":"ip1","groups":[[{"out":"b","ops":[["push","s10"]]}],[{"out":"c","ops":[["push","s10"],["push","30"]]}]]},{"at":"b","in":"a","label":"s10","groups":[[{"out":"y","ops":[["pop"]]}]]},{"at":"c","in":"a","label":"30","groups":[[{"out":"b","ops":[["pop"]]}]]},{"at":"b","in":"c","label":"s10","groups":[[{"out":"y","ops":[["pop"]]}]]}]}"#
 }
 
+// A network with a detour that comes back to its start.
+fn n3() -> &'static str {
+    r#"{"format":"mpls-whatif-1","routers":["x","a","b","c","y"],"labels":{"mpls":["30","31"],"smpls":["s10"],"ip":["ip1"]},"links":[{"from":"x","out":"o","to":"a","in":"x","distance":1},{"from":"a","out":"b","to":"b","in":"a","distance":1},{"from":"a","out":"c","to":"c","in":"a","distance":2},{"from":"c","out":"b","to":"b","in":"c","distance":2},{"from":"b","out":"y","to":"y","in":"b","distance":1},{"from":"c","out":"a2","to":"a","in":"c2","distance":1}],"tables":[{"at":"a","in":"x","label":"ip1","groups":[[{"out":"b","ops":[["push","s10"]]}],[{"out":"c","ops":[["push","s10"],["push","30"]]}]]},{"at":"b","in":"a","label":"s10","groups":[[{"out":"y","ops":[["pop"]]}]]},{"at":"c","in":"a","label":"30","groups":[[{"out":"a2","ops":[["swap","31"]]}]]},{"at":"b","in":"c","label":"s10","groups":[[{"out":"y","ops":[["pop"]]}]]},{"at":"a","in":"c2","label":"31","groups":[[{"out":"b","ops":[["pop"]]}]]}]}"#
+}
+
+// The first network, the links from a to b and from b to y of which are in one risk group.
+fn n6() -> &'static str {
+    r#"{"format":"mpls-whatif-2","routers":["x","a","b","c","y"],"labels":{"mpls":["30"],"smpls":["s10"],"ip":["ip1"]},"links":[{"from":"x","out":"o","to":"a","in":"x","distance":1},{"from":"a","out":"b","to":"b","in":"a","distance":1,"group":"fiber"},{"from":"a","out":"c","to":"c","in":"a","distance":2},{"from":"c","out":"b","to":"b","in":"c","distance":2},{"from":"b","out":"y","to":"y","in":"b","distance":1,"group":"fiber"}],"tables":[{"at":"a","in":"x","label":"ip1","groups":[[{"out":"b","ops":[["push","s10"]]}],[{"out":"c","ops":[["push","s10"],["push","30"]]}]]},{"at":"b","in":"a","label":"s10","groups":[[{"out":"y","ops":[["pop"]]}]]},{"at":"c","in":"a","label":"30","groups":[[{"out":"b","ops":[["pop"]]}]]},{"at":"b","in":"c","label":"s10","groups":[[{"out":"y","ops":[["pop"]]}]]}]}"#
+}
+
 // What is printed for the first path of the network.
 fn first_report() -> &'static str {
     "answer: yes\nweight: none\neffort: 8\nfailed: none\nmoving: yes\nlinks: 3\nx.o#a.x | ip1\na.b#b.a | s10 ip1 | group 1 member 1\nb.y#y.b | ip1 | group 1 member 1\n"
@@ -314,8 +324,8 @@ fn places_of_faults(rt: HostRuntime) -> Result<(), Fail> {
 #[test]
 fn words_that_are_no_command(rt: HostRuntime) -> Result<(), Fail> {
     let alloc = rt.alloc();
-    let wanted = "9<><usage: whatif verify NETWORK QUERY\n>";
-    let lists: [&[&str]; 9] = [
+    let wanted = "9<><usage: whatif verify NETWORK QUERY\n       whatif play NETWORK SCRIPT K\n>";
+    let lists: [&[&str]; 13] = [
         &[],
         &["whatif"],
         &["whatif", "--help"],
@@ -325,6 +335,10 @@ fn words_that_are_no_command(rt: HostRuntime) -> Result<(), Fail> {
         &["whatif", "check", "n", "q"],
         &["whatif", "verify", "-n", "q"],
         &["whatif", "verify", "n", "--weights"],
+        &["whatif", "play", "n", "s"],
+        &["whatif", "play", "n", "s", "65536"],
+        &["whatif", "play", "n", "s", "007"],
+        &["whatif", "gen", "1", "3"],
     ];
     for words in lists {
         let mut shelf = MemoryShelf::new(alloc);
@@ -398,5 +412,163 @@ fn streams_that_fail(rt: HostRuntime) -> Result<(), Fail> {
         fails_after(alloc, 5)?,
     )?;
     assert_eq!(rt; said.as_str(), "10<><usage>");
+    Ok(())
+}
+
+// The status and what was written, for a script that is played on the bytes of a network file.
+fn played(alloc: Global, network: &str, script: &[u8], most: &str) -> Result<String, Fail> {
+    let mut shelf = MemoryShelf::new(alloc);
+    shelf.insert("n", network.as_bytes())?;
+    shelf.insert("s", script)?;
+    let words = ["whatif", "play", "n", "s", most];
+    Ok(ran(
+        alloc,
+        words.as_slice(),
+        &mut shelf,
+        Vec::new(alloc),
+        Vec::new(alloc),
+    )?)
+}
+
+#[test]
+fn a_packet_goes_back_while_a_link_is_down(rt: HostRuntime) -> Result<(), Fail> {
+    let script =
+        "at x.o#a.x ip1\nfail a.b#b.a\nhop 2 1\nhop 1 1\nrepair a.b#b.a\nhop 1 1\nhop 1 1\n";
+    let said = played(rt.alloc(), n3(), script.as_bytes(), "1")?;
+    let wanted =
+        "0<x.o#a.x | ip1 | failed none\nx.o#a.x | ip1 | failed a.b#b.a\na.c#c.a | 30 s10 ip1 | failed a.b#b.a\nc.a2#a.c2 | 31 s10 ip1 | failed a.b#b.a\nc.a2#a.c2 | 31 s10 ip1 | failed none\na.b#b.a | s10 ip1 | failed none\nb.y#y.b | ip1 | failed none\n><>";
+    assert_eq!(rt; said.as_str(), wanted);
+    Ok(())
+}
+
+#[test]
+fn scripts_on_the_first_network(rt: HostRuntime) -> Result<(), Fail> {
+    let cases: [(&[u8], &str, &str); 12] = [
+        (b"", "0", "12<><script: line 1: not an event\n>"),
+        (
+            b"at x.o#a.x ip1\nfail a.b#b.a\n",
+            "0",
+            "12<><script: line 2: too many failed\n>",
+        ),
+        (
+            b"at x.o#a.x ip1\nfail a.b#b.a\njump\n",
+            "0",
+            "12<><script: line 3: not an event\n>",
+        ),
+        (
+            b"at x.o#a.x 30 ip1\n",
+            "0",
+            "12<><script: line 1: bad header\n>",
+        ),
+        (
+            b"at x.o#a.x ip1\r\n",
+            "0",
+            "12<><script: line 1: not an event\n>",
+        ),
+        (
+            b"at x.o#a.x ip1",
+            "0",
+            "12<><script: line 1: not an event\n>",
+        ),
+        (
+            b"at x.o#a.x ip1\nhop 2 1\n",
+            "65535",
+            "12<><script: line 2: not the first active group\n>",
+        ),
+        (
+            b"at x.o#a.x ip1\nfail a.b#b.a\nhop 1 1\n",
+            "65535",
+            "12<><script: line 3: not the first active group\n>",
+        ),
+        (
+            b"at x.o#a.x ip1\nhop 3 1\n",
+            "0",
+            "12<><script: line 2: no such group\n>",
+        ),
+        // The link that the packet is on may fail under it.
+        (
+            b"at x.o#a.x ip1\nfail x.o#a.x\nhop 1 1\n",
+            "1",
+            "0<x.o#a.x | ip1 | failed none\nx.o#a.x | ip1 | failed x.o#a.x\na.b#b.a | s10 ip1 | failed x.o#a.x\n><>",
+        ),
+        (
+            b"at \"x\".o#a.\"x\" \"ip1\"\n",
+            "0",
+            "0<x.o#a.x | ip1 | failed none\n><>",
+        ),
+        (
+            b"at x.o#a.x ip1\nfail b.y#y.b\nfail a.b#b.a\n",
+            "2",
+            "0<x.o#a.x | ip1 | failed none\nx.o#a.x | ip1 | failed b.y#y.b\nx.o#a.x | ip1 | failed a.b#b.a b.y#y.b\n><>",
+        ),
+    ];
+    for (script, most, wanted) in cases {
+        let said = played(rt.alloc(), n1(), script, most)?;
+        assert_eq!(rt; said.as_str(), wanted);
+    }
+    Ok(())
+}
+
+#[test]
+fn a_hop_is_judged_when_it_happens(rt: HostRuntime) -> Result<(), Fail> {
+    // The same without the repair.
+    let script = b"at x.o#a.x ip1\nfail a.b#b.a\nhop 2 1\nhop 1 1\nhop 1 1\nhop 1 1\n";
+    let said = played(rt.alloc(), n3(), script.as_slice(), "1")?;
+    let wanted = "12<><script: line 5: not the first active group\n>";
+    assert_eq!(rt; said.as_str(), wanted);
+    Ok(())
+}
+
+#[test]
+fn a_risk_group_fails_together(rt: HostRuntime) -> Result<(), Fail> {
+    let script = b"at x.o#a.x ip1\nfail a.b#b.a\n";
+    let said = played(rt.alloc(), n6(), script.as_slice(), "1")?;
+    let wanted = "0<x.o#a.x | ip1 | failed none\nx.o#a.x | ip1 | failed a.b#b.a b.y#y.b\n><>";
+    assert_eq!(rt; said.as_str(), wanted);
+    let script = b"at x.o#a.x ip1\nfail a.b#b.a\nfail b.y#y.b\n";
+    let said = played(rt.alloc(), n6(), script.as_slice(), "1")?;
+    assert_eq!(rt; said.as_str(), "12<><script: line 3: already failed\n>");
+    Ok(())
+}
+
+// A script of one line, whose header has so many labels that it is of 1,048,576 bytes.
+fn longest_script(alloc: Global) -> Result<String, AllocError> {
+    let mut script = String::from_str(alloc, "at x.o#a.x")?;
+    for _ in 0..349_519 {
+        script.push_str(" 30")?;
+    }
+    script.push_str(" s10 ip1\n")?;
+    Ok(script)
+}
+
+#[test]
+fn a_script_of_1048577_bytes_is_too_long(rt: HostRuntime) -> Result<(), Fail> {
+    let mut script = longest_script(rt.alloc())?;
+    let said = played(rt.alloc(), n1(), script.as_bytes(), "0")?;
+    assert!(rt; said.starts_with("0<x.o#a.x | 30 30 "));
+    assert!(rt; said.ends_with(" 30 30 s10 ip1 | failed none\n><>"));
+    // `x.o#a.x |`, the labels, ` | failed none` and a line feed, and five more of the status and the marks
+    assert_eq!(rt; said.len(), 9 + 3 * 349_519 + 8 + 15 + 5);
+    script.push('\n')?;
+    let said = played(rt.alloc(), n1(), script.as_bytes(), "0")?;
+    assert_eq!(rt; said.as_str(), "12<><script: over the limit 1048576\n>");
+    Ok(())
+}
+
+#[test]
+fn a_script_that_cannot_be_read(rt: HostRuntime) -> Result<(), Fail> {
+    let alloc = rt.alloc();
+    let mut shelf = MemoryShelf::new(alloc);
+    shelf.insert("n", n1().as_bytes())?;
+    let words = ["whatif", "play", "n", "s", "1"];
+    let said = ran(
+        alloc,
+        words.as_slice(),
+        &mut shelf,
+        Vec::new(alloc),
+        Vec::new(alloc),
+    )?;
+    assert_eq!(rt; said.as_str(), "10<><whatif: cannot read s\n>");
+    assert_eq!(rt; shelf.failed(), 1);
     Ok(())
 }

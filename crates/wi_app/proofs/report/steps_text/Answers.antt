@@ -1,4 +1,4 @@
-use Rattle.wi_app.proofs.Known.{moved_known}
+use Rattle.wi_world.proofs.Known.{moved_known}
 use Rattle.wi_app.proofs.ReportLemmas.{steps_left}
 use Rattle.wi_app.proofs.report.steps_text.Goals as goal
 

@@ -1,0 +1,71 @@
+//! Scripts, played on a network.
+ghost use Rattle.std.specs.Prelude.{◌≡◌, ◌≤◌, true, Some, ℕ, List, length, IfOk, IfErr};
+ghost use Rattle.wi_words.specs.Commands.{Play};
+ghost use Rattle.wi_app.specs.Run.{FromBytes, FromCommand, FromScript, IsAnswered, IsPlay};
+
+use crate::answer::Printed;
+use crate::fetch::{discard, network, script_bytes};
+use crate::refusal::Refusal;
+use std::alloc::Global;
+use wi_base::Shelf;
+use wi_net::Network;
+use wi_report::states;
+use wi_trace::{play as states_of, read_script};
+
+/// The states of the moving world while the script of a file is played, or why not.
+pub fn play<'a, S: Shelf>(
+    alloc: Global,
+    name: &'a str,
+    script: &'a str,
+    k: u32,
+    shelf: &mut S,
+) -> Result<Printed, Refusal<'a>>
+    ensures files { (other : List ℕ) → S.file shelf.new other ≡ S.file shelf.old other }
+    ensures calm { IfOk result (λ _. S.failed shelf.new ≡ S.failed shelf.old) }
+    ensures answered { IfOk result (λ printed. IsAnswered (S.told shelf.old) (S.file shelf.old) (Play name.now script.now k) printed.status printed.text) }
+    ensures refused { IfErr result (λ refusal. FromCommand (S.told shelf.old) (S.file shelf.old) (Play name.now script.now k) (S.failed shelf.old) (S.failed shelf.new) refusal) }
+{
+    let net = network(alloc, name, shelf)?;
+    let printed = play_on(alloc, &net, script, k, shelf);
+    discard(net);
+    printed
+}
+
+// The states on a network.
+fn play_on<'a, S: Shelf>(
+    alloc: Global,
+    net: &Network,
+    script: &'a str,
+    k: u32,
+    shelf: &mut S,
+) -> Result<Printed, Refusal<'a>>
+    ensures files { (other : List ℕ) → S.file shelf.new other ≡ S.file shelf.old other }
+    ensures calm { IfOk result (λ _. S.failed shelf.new ≡ S.failed shelf.old) }
+    ensures status { IfOk result (λ printed. printed.status ≡ 0) }
+    ensures played { IfOk result (λ printed. (bytes : List ℕ) × (S.told shelf.old ≡ true → S.file shelf.old script.now ≡ Some bytes) × IsPlay net.now k bytes printed.text) }
+    ensures refused { IfErr result (λ refusal. FromScript (S.told shelf.old) (S.file shelf.old script.now) net.now script.now k (S.failed shelf.old) (S.failed shelf.new) refusal) }
+{
+    let bytes = script_bytes(script, shelf)?;
+    played(alloc, net, bytes.as_slice(), k)
+}
+
+// The states, for the bytes of a script.
+fn played<'a>(alloc: Global, net: &Network, bytes: &[u8], k: u32) -> Result<Printed, Refusal<'a>>
+    requires { length bytes.now ≤ 1048576 }
+    ensures status { IfOk result (λ printed. printed.status ≡ 0) }
+    ensures played { IfOk result (λ printed. IsPlay net.now k bytes.now printed.text) }
+    ensures refused { IfErr result (λ refusal. FromBytes net.now k bytes.now refusal) }
+{
+    net.keeps();
+    let script = match read_script(alloc, net, bytes) {
+        Ok(script) => script,
+        Err(refused) => return Err(Refusal::Script(refused)),
+    };
+    match states_of(alloc, net, k, &script) {
+        Ok(moments) => {
+            let text = states(alloc, net, moments.as_slice())?;
+            Ok(Printed { status: 0, text })
+        }
+        Err(refused) => Err(Refusal::Script(refused)),
+    }
+}

@@ -1,0 +1,5 @@
+pub mod Shown
+pub mod States
+pub mod NetworkFaults
+pub mod QueryFaults
+pub mod WeightFaults

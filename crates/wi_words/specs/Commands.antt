@@ -1,0 +1,62 @@
+-- What the words of a command line are. Which words a command takes, and what it makes of them, is said by the definitions
+-- of the crate clap for simple commands.
+use Rattle.std.specs.Prelude.{ℕ, ◌&&◌, nat_le, Bool, true, false, codes, if◌then◌else◌, List, [], ◌∷◌, Option, Some, None}
+use Rattle.std.specs.Option.{option_map, option_and_then}
+use Rattle.std.specs.Str.{bytes_eq}
+use Rattle.std.specs.Str.Parse.{digits_value}
+use Rattle.clap.specs.declared.builder.action.ArgAction.TheVariants.{Set}
+use Rattle.clap.specs.Walk.{Text, Row, Rule, first_of}
+use Rattle.clap.specs.Simple.{App, Shape, new_rule, new_shape, with_subcommand, subcommand_of}
+use Rattle.clap.specs.Faults.{fault_of}
+use Rattle.wi_text.specs.Characters.{is_number}
+
+-- a word that has to be there, in its place
+abbrev pub operand : Text → Rule
+operand id = record (new_rule id) { required = true; action = Some Set }
+
+-- `verify NETWORK QUERY` and `play NETWORK SCRIPT K`
+abbrev pub verify : Shape
+verify = record (new_shape (codes "verify")) { rules = operand (codes "NETWORK") ∷ operand (codes "QUERY") ∷ [] }
+
+abbrev pub play : Shape
+play = record (new_shape (codes "play")) { rules = operand (codes "NETWORK") ∷ operand (codes "SCRIPT") ∷ operand (codes "K") ∷ [] }
+
+-- the program's commands, one of which has to be given
+abbrev pub program : App
+program = with_subcommand (with_subcommand (record { top = record (new_shape (codes "whatif")) { subcommand_required = true }; subs = [] }) verify) play
+
+-- clap takes the words: its parse has no fault
+abbrev pub is_empty : {X : Type 0} → List X → Bool
+is_empty [] = true
+is_empty (x ∷ xs) = false
+
+abbrev pub are_taken : List Text → Bool
+are_taken words = is_empty (fault_of program words)
+
+-- a command, with what was given to it: the names of files, the text of a query, how many risk groups may fail
+pub data Command : Type 0 where
+  Verify : (network query : Text) → Command
+  Play : (network script : Text) (k : ℕ) → Command
+
+-- a number of risk groups: a decimal from 0 to 65,535, without leading zeros
+abbrev pub most_failed : Text → Option ℕ
+most_failed s = if is_number s && nat_le (digits_value 10 s) 65535 then Some (digits_value 10 s) else None
+
+-- the command of a subcommand's entries
+abbrev pub verify_of : List Row → Option Command
+verify_of rows = option_and_then (λ network. option_map (λ query. Verify network query) (first_of (codes "QUERY") rows)) (first_of (codes "NETWORK") rows)
+
+abbrev pub play_of : List Row → Option Command
+play_of rows =
+    option_and_then (λ network. option_and_then (λ script. option_map (λ k. Play network script k) (option_and_then most_failed (first_of (codes "K") rows))) (first_of (codes "SCRIPT") rows))
+    (first_of (codes "NETWORK") rows)
+
+abbrev pub command_named : Text × List Row → Option Command
+command_named met =
+    if bytes_eq met.0 (codes "verify") then verify_of met.1
+    else if bytes_eq met.0 (codes "play") then play_of met.1
+    else None
+
+-- the command that the words are, if they are one. The first word is the program's name and isn't looked at
+abbrev pub command_of : List Text → Option Command
+command_of words = if are_taken words then option_and_then command_named (subcommand_of program words) else None

@@ -1,0 +1,55 @@
+//! The program's commands, as clap has them.
+ghost use Rattle.std.specs.Prelude.{◌≡◌, IfOk, false};
+ghost use Rattle.clap.specs.Words.{app_of, rule_of, shape_of};
+ghost use Rattle.clap.specs.declared.builder.command.Command.TheViews.{out-Command as fields_of};
+ghost use Rattle.wi_words.specs.Commands.{operand, play, program, verify};
+
+use clap::{Arg, ArgAction, Command};
+use std::alloc::{AllocError, Global};
+
+// A word that has to be there, in its place.
+fn operand<'a>(alloc: Global, id: &'a str) -> Arg<'a>
+    ensures rule { rule_of result ≡ operand id.entry.now }
+    ensures local { result.global ≡ false }
+{
+    Arg::new(alloc, id).required(true).action(ArgAction::Set)
+}
+
+// `verify NETWORK QUERY`
+fn verify<'a>(alloc: Global) -> Result<Command<'a>, AllocError>
+    ensures shape { IfOk result (λ c. shape_of c ≡ verify) }
+    ensures local { IfOk result (λ c. (fields_of c).has_globals ≡ false) }
+{
+    let network = operand(alloc, "NETWORK");
+    let query = operand(alloc, "QUERY");
+    let command = Command::new(alloc, "verify").arg(network)?.arg(query)?;
+    Ok(command)
+}
+
+// `play NETWORK SCRIPT K`
+fn play<'a>(alloc: Global) -> Result<Command<'a>, AllocError>
+    ensures shape { IfOk result (λ c. shape_of c ≡ play) }
+    ensures local { IfOk result (λ c. (fields_of c).has_globals ≡ false) }
+{
+    let network = operand(alloc, "NETWORK");
+    let script = operand(alloc, "SCRIPT");
+    let most = operand(alloc, "K");
+    let command = Command::new(alloc, "play")
+        .arg(network)?
+        .arg(script)?
+        .arg(most)?;
+    Ok(command)
+}
+
+/// The program, whose commands are its subcommands.
+pub fn program<'a>(alloc: Global) -> Result<Command<'a>, AllocError>
+    ensures { IfOk result (λ c. app_of c ≡ program) }
+{
+    let verify = verify(alloc)?;
+    let play = play(alloc)?;
+    let whole = Command::new(alloc, "whatif")
+        .subcommand_required(true)
+        .subcommand(verify)?
+        .subcommand(play)?;
+    Ok(whole)
+}

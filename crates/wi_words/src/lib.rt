@@ -1,0 +1,48 @@
+//! The words of the command line.
+#![tactic(auto)]
+
+ghost use Rattle.std.specs.Prelude.{◌≡◌, IfOk, map, string_bytes, option_map};
+ghost use Rattle.wi_words.specs.Commands.{command_of};
+ghost use Rattle.wi_words.specs.Shown.{shown};
+
+mod builder;
+mod reader;
+
+use builder::program;
+use clap::error::ErrorKind;
+use reader::command_in;
+use std::alloc::Global;
+use wi_base::NoMemory;
+
+/// What the program is asked to do.
+#[derive(Clone, Copy, Debug)]
+pub enum Command<'a> {
+    /// `verify NETWORK QUERY`: the name of the network file, and the text of the query.
+    Verify {
+        network: &'a str,
+        query: &'a str,
+    },
+    /// `play NETWORK SCRIPT K`: the names of the network file and of the script, and how many risk groups may be failed.
+    Play {
+        network: &'a str,
+        script: &'a str,
+        k: u32,
+    },
+}
+
+/// The command that the words are, if they are one. The first word is the program's name and isn't looked at; asking for
+/// help is no command.
+pub fn command_of(alloc: Global, words: &[String]) -> Result<Option<Command<'_>>, NoMemory>
+    ensures { IfOk result (λ command. option_map shown command ≡ command_of (map string_bytes words.now)) }
+{
+    match program(alloc)?.try_get_matches_from(words) {
+        Ok(matches) => Ok(command_in(&matches)),
+        Err(error) => match error.kind() {
+            ErrorKind::OutOfMemory => Err(NoMemory::Memory),
+            _ => Ok(None),
+        },
+    }
+}
+
+#[cfg(test)]
+mod tests;

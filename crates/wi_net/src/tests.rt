@@ -156,6 +156,11 @@ fn large(alloc: Global, group: Option<&str>) -> Result<Network, Fail> {
     Ok(builder.finish()?)
 }
 
+// What lets a value of many parts go is a function of its own, so that no test shows each of them.
+fn discard(_network: Network) {}
+
+fn discard_builder(_builder: NetworkBuilder) {}
+
 fn set(alloc: Global, links: &[u32]) -> Result<FailSet, Fail> {
     let mut set = FailSet::new(alloc);
     for link in links {
@@ -279,6 +284,7 @@ fn routers_and_labels_are_found_by_name(rt: HostRuntime) -> Result<(), Fail> {
     let network = small(rt.alloc(), None)?;
     counted(&rt, &network);
     named(&rt, &network);
+    discard(network);
     Ok(())
 }
 
@@ -343,6 +349,7 @@ fn links_are_found_by_their_ends(rt: HostRuntime) -> Result<(), Fail> {
     let network = small(rt.alloc(), None)?;
     linked(&rt, &network);
     not_linked(&rt, &network);
+    discard(network);
     Ok(())
 }
 
@@ -399,6 +406,7 @@ fn tables_are_as_they_were_added(rt: HostRuntime) -> Result<(), Fail> {
     let network = small(rt.alloc(), None)?;
     tabled(&rt, &network);
     grouped(&rt, &network);
+    discard(network);
     Ok(())
 }
 
@@ -424,7 +432,9 @@ fn way_is_active(rt: &impl Abort, alloc: Global, groups: &[Group]) -> Result<(),
 #[test]
 fn the_first_group_with_a_link_left_is_active(rt: HostRuntime) -> Result<(), Fail> {
     let network = small(rt.alloc(), None)?;
-    way_is_active(&rt, rt.alloc(), network.entry(LinkId(0), IP1))
+    let active = way_is_active(&rt, rt.alloc(), network.entry(LinkId(0), IP1));
+    discard(network);
+    active
 }
 
 fn pair_is_active(rt: &impl Abort, alloc: Global, groups: &[Group]) -> Result<(), Fail> {
@@ -471,13 +481,17 @@ fn before_the_way(
 #[test]
 fn before_a_group_stand_the_links_of_the_earlier_ones(rt: HostRuntime) -> Result<(), Fail> {
     let network = small(rt.alloc(), None)?;
-    before_the_way(&rt, rt.alloc(), &network, &[1], &[1, 2])
+    let before = before_the_way(&rt, rt.alloc(), &network, &[1], &[1, 2]);
+    discard(network);
+    before
 }
 
 #[test]
 fn before_a_group_stand_whole_risk_groups(rt: HostRuntime) -> Result<(), Fail> {
     let network = small(rt.alloc(), Some("fiber"))?;
-    before_the_way(&rt, rt.alloc(), &network, &[1, 4], &[1, 2, 4])
+    let before = before_the_way(&rt, rt.alloc(), &network, &[1, 4], &[1, 2, 4]);
+    discard(network);
+    before
 }
 
 // Before the turn to z.
@@ -488,7 +502,9 @@ fn before_the_exit(
     links: &[u32],
 ) -> Result<(), Fail> {
     let network = large(alloc, group)?;
-    before_is(rt, alloc, &network, (LinkId(3), S10), 1, links)
+    let before = before_is(rt, alloc, &network, (LinkId(3), S10), 1, links);
+    discard(network);
+    before
 }
 
 #[test]
@@ -516,13 +532,17 @@ fn risks_are(
 #[test]
 fn a_link_without_a_risk_group_fails_alone(rt: HostRuntime) -> Result<(), Fail> {
     let network = small(rt.alloc(), None)?;
-    risks_are(&rt, rt.alloc(), &network, 4, 2, &[4])
+    let risks = risks_are(&rt, rt.alloc(), &network, 4, 2, &[4]);
+    discard(network);
+    risks
 }
 
 #[test]
 fn links_of_one_risk_group_fail_together(rt: HostRuntime) -> Result<(), Fail> {
     let network = small(rt.alloc(), Some("fiber"))?;
-    risks_are(&rt, rt.alloc(), &network, 1, 1, &[1, 4])
+    let risks = risks_are(&rt, rt.alloc(), &network, 1, 1, &[1, 4]);
+    discard(network);
+    risks
 }
 
 fn refuses_routers(rt: &impl Abort, builder: &mut NetworkBuilder) {
@@ -548,6 +568,7 @@ fn a_refused_router_is_not_added(rt: HostRuntime) {
     let mut builder = NetworkBuilder::new(rt.alloc());
     refuses_routers(&rt, &mut builder);
     has_two_routers(&rt, &builder);
+    discard_builder(builder);
 }
 
 // A builder whose labels are all of class `mpls`.
@@ -600,6 +621,7 @@ fn a_refused_label_is_not_added(rt: HostRuntime) {
     let mut stacked = Stacked::new(rt.alloc());
     refuses_labels(&rt, &mut stacked);
     has_two_labels(&rt, &stacked.builder);
+    discard_builder(stacked.builder());
 }
 
 // Links that are refused beside the five, and one that isn't.
@@ -646,6 +668,7 @@ fn a_refused_link_is_not_added(rt: HostRuntime) -> Result<(), Fail> {
     refuses_links(&rt, &mut builder);
     has_six_links(&rt, &builder);
     finds_the_sixth(&rt, &builder);
+    discard_builder(builder);
     Ok(())
 }
 
@@ -717,7 +740,9 @@ fn refuses_and_takes(
 #[test]
 fn a_refused_row_is_not_added(rt: HostRuntime) -> Result<(), Fail> {
     let mut builder = protected(rt.alloc(), None)?;
-    refuses_and_takes(&rt, rt.alloc(), &mut builder)
+    let refused = refuses_and_takes(&rt, rt.alloc(), &mut builder);
+    discard_builder(builder);
+    refused
 }
 
 // A row without groups, put by the call whose rules the caller checks.
@@ -753,6 +778,7 @@ fn a_checked_row_is_added(rt: HostRuntime) -> Result<(), Fail> {
     let mut builder = protected(rt.alloc(), None)?;
     puts_a_row(&rt, rt.alloc(), &mut builder);
     has_rows(&rt, &builder, 4, 4, true);
+    discard_builder(builder);
     Ok(())
 }
 
@@ -772,12 +798,18 @@ fn refuses_router(rt: &impl Abort, builder: &mut NetworkBuilder, name: &str) {
     assert_eq!(rt; add_router(builder, name), Err(refused));
 }
 
+fn takes_routers(rt: &impl Abort, alloc: Global, builder: &mut NetworkBuilder) -> Result<(), Fail> {
+    add_routers(alloc, builder, 10000)?;
+    refuses_router(rt, builder, "");
+    Ok(())
+}
+
 #[test]
 fn there_are_at_most_10000_routers(rt: HostRuntime) -> Result<(), Fail> {
     let mut builder = NetworkBuilder::new(rt.alloc());
-    add_routers(rt.alloc(), &mut builder, 10000)?;
-    refuses_router(&rt, &mut builder, "");
-    Ok(())
+    let refused = takes_routers(&rt, rt.alloc(), &mut builder);
+    discard_builder(builder);
+    refused
 }
 
 // So many labels.
@@ -793,12 +825,18 @@ fn refuses_label(rt: &impl Abort, stacked: &mut Stacked, name: &str) {
     assert_eq!(rt; stacked.label(name), Err(refused));
 }
 
+fn takes_labels(rt: &impl Abort, alloc: Global, stacked: &mut Stacked) -> Result<(), Fail> {
+    stack(alloc, stacked, 20000)?;
+    refuses_label(rt, stacked, "");
+    Ok(())
+}
+
 #[test]
 fn there_are_at_most_20000_labels(rt: HostRuntime) -> Result<(), Fail> {
     let mut stacked = Stacked::new(rt.alloc());
-    stack(rt.alloc(), &mut stacked, 20000)?;
-    refuses_label(&rt, &mut stacked, "");
-    Ok(())
+    let refused = takes_labels(&rt, rt.alloc(), &mut stacked);
+    discard_builder(stacked.builder());
+    refused
 }
 
 // Adds a router with so many links to itself.
@@ -816,12 +854,18 @@ fn refuses_link(rt: &impl Abort, builder: &mut NetworkBuilder, ends: Ends) {
     assert_eq!(rt; add_link(builder, ends, 1, Some("")), Err(refused));
 }
 
+fn takes_links(rt: &impl Abort, alloc: Global, builder: &mut NetworkBuilder) -> Result<(), Fail> {
+    add_loops(alloc, builder, 20000)?;
+    refuses_link(rt, builder, ("", "", "", ""));
+    Ok(())
+}
+
 #[test]
 fn there_are_at_most_20000_links(rt: HostRuntime) -> Result<(), Fail> {
     let mut builder = NetworkBuilder::new(rt.alloc());
-    add_loops(rt.alloc(), &mut builder, 20000)?;
-    refuses_link(&rt, &mut builder, ("", "", "", ""));
-    Ok(())
+    let refused = takes_links(&rt, rt.alloc(), &mut builder);
+    discard_builder(builder);
+    refused
 }
 
 // So many labels.
@@ -856,7 +900,9 @@ fn refuses_a_row(rt: &impl Abort, alloc: Global, builder: &mut NetworkBuilder) -
 #[test]
 fn there_are_at_most_200000_rows(rt: HostRuntime) -> Result<(), Fail> {
     let mut builder = with_labels(rt.alloc(), 10)?;
-    refuses_a_row(&rt, rt.alloc(), &mut builder)
+    let refused = refuses_a_row(&rt, rt.alloc(), &mut builder);
+    discard_builder(builder);
+    refused
 }
 
 // Adds one row with so many members.
@@ -881,5 +927,7 @@ fn refuses_a_member(
 #[test]
 fn there_are_at_most_400000_members(rt: HostRuntime) -> Result<(), Fail> {
     let mut builder = with_labels(rt.alloc(), 2)?;
-    refuses_a_member(&rt, rt.alloc(), &mut builder)
+    let refused = refuses_a_member(&rt, rt.alloc(), &mut builder);
+    discard_builder(builder);
+    refused
 }

@@ -1,5 +1,5 @@
 -- The rules of a head are few.
-use Rattle.std.proofs.Common.{◌≡◌, ℕ, zero, suc, ◌+◌, ◌*◌, ◌<◌, ◌≤◌, ◌^◌, Bool, true, not, List, [], ◌∷◌, length, map, slice_get, arith, length-append}
+use Rattle.std.proofs.Common.{◌≡◌, ℕ, zero, suc, ◌+◌, ◌*◌, ◌<◌, ◌≤◌, ◌^◌, Bool, not, List, [], ◌∷◌, length, map, slice_get, arith, length-append}
 use Rattle.std.specs.Prelude.{if◌then◌else◌}
 use Rattle.std.specs.List.{filter, flat_map, range_with_len}
 use Rattle.std.specs.Option.{option_map_or}
@@ -23,7 +23,6 @@ use Rattle.wi_query.specs.Sets.{holds}
 use Rattle.wi_query.specs.declared.expression.Expression.{Expression}
 use Rattle.wi_query.specs.declared.query.Query.{Query}
 use Rattle.wi_quantity.specs.declared.vector.Part.{Part}
-use Rattle.wi_quantity.specs.Vectors.{is_vector}
 use Rattle.wi_rules.specs.declared.spot.Spot.{Spot}
 use Rattle.wi_rules.specs.declared.spot.Spot.TheVariants.{Start, Done, Build, Close, OnLink, Mid}
 use Rattle.wi_rules.specs.Rules.{Setup, SpotRule, each_at, plain, working, pushing, is_label, written, first_written, on_way, may_build, may_use, build_rules, set_out_rules, hop_rules, entry_rules, next_op_rules, on_link_rules, rules_of}
@@ -140,5 +139,5 @@ is_few net query vector bounds k = record {
   last = after_few query.last _ k.query_of.last;
 }
 
-pub few : (net : Net) (query : Query) (vector : List (List Part)) (bounds : Bounds) (n g : ℕ) → AreGiven net query bounds → is_vector vector ≡ true → length (rules_at_number (setup_of net query vector bounds) n g) < 2 ^ 32
-few net query vector bounds n g k is = head_few (setup_of net query vector bounds) (is_few net query vector bounds k) n g
+pub few : (net : Net) (query : Query) (vector : List (List Part)) (bounds : Bounds) (n g : ℕ) → AreGiven net query bounds → length (rules_at_number (setup_of net query vector bounds) n g) < 2 ^ 32
+few net query vector bounds n g k = head_few (setup_of net query vector bounds) (is_few net query vector bounds k) n g

@@ -36,6 +36,6 @@ pub fn goal_runs_are_matching_runs<W: Domain>()
 /// The rules of a head are fewer than 2^32. Where each link's distance is below 2^32, each component of what a rule weighs is
 /// below 2^64.
 pub fn rules_are_few_and_fit()
-    ensures few { (net : Net) (query : Query) (vector : List (List Part)) (bounds : Bounds) (n g : ℕ) → AreGiven net query bounds → is_vector vector ≡ true → length (rules_at_number (setup_of net query vector bounds) n g) < 2 ^ 32 }
+    ensures few { (net : Net) (query : Query) (vector : List (List Part)) (bounds : Bounds) (n g : ℕ) → AreGiven net query bounds → length (rules_at_number (setup_of net query vector bounds) n g) < 2 ^ 32 }
     ensures fit { (net : Net) (query : Query) (vector : List (List Part)) (bounds : Bounds) (n g : ℕ) (rule : NumberedRule) → AreGiven net query bounds → is_vector vector ≡ true → list_all (λ l. nat_lt l.distance (2 ^ 32)) net.links ≡ true → Contains (rules_at_number (setup_of net query vector bounds) n g) rule → EachBelow (2 ^ 64) rule.weight }
 {}

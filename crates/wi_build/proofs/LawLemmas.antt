@@ -1,0 +1,108 @@
+-- What the rules of a head weigh and stand for can be said by weights and tags, and each rule is listed once.
+use Rattle.std.proofs.Common.{◌≡◌, ℕ, ◌+◌, ◌*◌, ◌/◌, ◌%◌, ◌<◌, List, [], ◌∷◌, ◌++◌, length, map, take, slice_get, Option, Some, None, refl, ap, ◌∙◌, arith, inl, inr, length-append}
+use Rattle.wi_weight.specs.declared.kinds.Pair.{Pair}
+use Rattle.wi_weight.specs.declared.kinds.Terms.{Terms}
+use Rattle.wi_weight.specs.declared.kinds.Effort.{Effort}
+use Rattle.wi_net.specs.declared.parts.Member.{Member}
+use Rattle.wi_net.specs.Net.{entry}
+use Rattle.wi_net.specs.Tables.{group_members, members_before}
+use Rattle.wi_pds.specs.declared.rule.Rule.{Rule}
+use Rattle.wi_quantity.specs.Weighing.{components}
+use Rattle.wi_rules.specs.declared.spot.Origin.{Origin}
+use Rattle.wi_rules.specs.declared.spot.Origin.TheVariants.{Pushed, SetOut, Hop, Operation, Nothing}
+use Rattle.wi_rules.specs.declared.spot.Spot.{Spot}
+use Rattle.wi_rules.specs.Rules.{IsSetup, SpotRule, rules_of}
+use Rattle.wi_rules.specs.Numbers.{AreRulesOf, layout_of, numbered, rules_at_number, seen, spot_of}
+use Rattle.wi_rules.proofs.Lists.{In, get_below}
+use Rattle.wi_rules.proofs.Members.{all_count}
+use Rattle.wi_setup.proofs.Sound.{sound}
+use Rattle.wi_build.specs.declared.hops.Place.{Place}
+use Rattle.wi_build.specs.Tags.{IsWithin, origin_by, origin_of, tag_of, tagged}
+use Rattle.wi_build.specs.Systems.{Given, IsGiven, rule_at, rules_by, setup_given, weight}
+use Rattle.wi_build.proofs.HeadLemmas.{spot_fits}
+use Rattle.wi_build.proofs.HopLemmas.{HasRoom, cons_same, group_room}
+use Rattle.wi_build.proofs.KindLemmas.{OfKinds, all_kind}
+
+-- what a tag says is what it was made for
+tag_kind : (kind a b : ℕ) → kind < 8 → b < 1073741824 → (tagged kind a b % 8 ≡ kind) × (tagged kind a b / 8 ≡ b + 1073741824 * a)
+tag_kind kind a b k h = (omega arith, omega arith)
+
+tag_parts : (kind a b : ℕ) → kind < 8 → b < 1073741824 → (tagged kind a b / 8 / 1073741824 ≡ a) × (tagged kind a b / 8 % 1073741824 ≡ b)
+tag_parts kind a b k h =
+    let parts = tag_kind kind a b k h in
+    let first : (b + 1073741824 * a) / 1073741824 ≡ a = omega arith in
+    let second : (b + 1073741824 * a) % 1073741824 ≡ b = omega arith in
+    (ap (λ n. n / 1073741824) parts.1 ∙ first, ap (λ n. n % 1073741824) parts.1 ∙ second)
+
+tag_read : (kind a b : ℕ) → kind < 8 → b < 1073741824 → origin_of (tagged kind a b) ≡ origin_by kind a b
+tag_read kind a b k h =
+    let kinds = tag_kind kind a b k h in
+    let parts = tag_parts kind a b k h in
+    ap (λ n. origin_by n (tagged kind a b / 8 / 1073741824) (tagged kind a b / 8 % 1073741824)) kinds.0
+    ∙ ap (λ n. origin_by kind n (tagged kind a b / 8 % 1073741824)) parts.0
+    ∙ ap (λ n. origin_by kind a n) parts.1
+
+tag_tells : (o : Origin) → IsWithin o → origin_of (tag_of o) ≡ o
+tag_tells Nothing h = refl
+tag_tells (Pushed l) h = tag_read 1 l.0 0 (omega arith) (omega arith)
+tag_tells (SetOut e) h = tag_read 2 e.0 0 (omega arith) (omega arith)
+tag_tells (Hop step) h = tag_read 3 step.group step.member (omega arith) h.1
+tag_tells (Operation m i) h = tag_read 4 m i (omega arith) h.1
+
+-- a weight has six components
+pub weight_tells : (xs : List ℕ) → length xs ≡ 6 → components (weight xs) ≡ xs
+weight_tells [] h = absurd (omega (arith, h))
+weight_tells (a ∷ []) h = absurd (omega (arith, h))
+weight_tells (a ∷ b ∷ []) h = absurd (omega (arith, h))
+weight_tells (a ∷ b ∷ c ∷ []) h = absurd (omega (arith, h))
+weight_tells (a ∷ b ∷ c ∷ d ∷ []) h = absurd (omega (arith, h))
+weight_tells (a ∷ b ∷ c ∷ d ∷ e ∷ []) h = absurd (omega (arith, h))
+weight_tells (a ∷ b ∷ c ∷ d ∷ e ∷ f ∷ []) h = refl
+weight_tells (a ∷ b ∷ c ∷ d ∷ e ∷ f ∷ g ∷ xs) h = absurd (omega (arith, h))
+
+-- a rule whose weight and meaning can be said
+pub record IsSayable (r : SpotRule) : Type 0 where
+  pub five : length r.share ≡ 5
+  pub within : IsWithin r.origin
+
+module _ (given : Given) (k : IsGiven given) where
+  is_setup : IsSetup (setup_given given)
+  is_setup = sound given.net given.query given.vector given.bounds k
+
+  hop_within : (at : Place) (j i : ℕ) (group : List Member) (member : Member) → slice_get (entry given.net at.link at.top) j ≡ Some group → slice_get group i ≡ Some member → (j < 1073741824) × (i < 1073741824)
+  hop_within at j i group member g m =
+      let first = members_before given.net.rows at.link at.top + group_members (take j (entry given.net at.link at.top)) in
+      let room : HasRoom given at j first group = group_room given at j first group k.network (record { group = g; first_is = refl }) in
+      let below = get_below group i member m in
+      (omega (arith, room.few_groups), omega (arith, room.few_members, below))
+
+  pub sayable : OfKinds given IsSayable
+  sayable = record {
+    plains = λ to word. record { five = refl; within = tt };
+    pushes = λ l g q below. record { five = refl; within = omega (arith, below, k.network.classes, k.network.few_labels) };
+    firsts = λ e n q below. record { five = is_setup.first_length e; within = omega (arith, below, k.network.few_links) };
+    hops = λ at j i q group member word g m. record { five = is_setup.step_length at.link at.top (record { group = j; member = i }); within = hop_within at j i group member g m };
+    operations = λ m i to word below few. record { five = refl; within = (omega (arith, below, all_count given.net.rows, k.network.few_members), omega (arith, few)) };
+  }
+
+  -- what is seen of rules that can be said is what they were made of
+  said : (n g : ℕ) (rs : List SpotRule) → ((r : SpotRule) → In rs r → IsSayable r)
+      → map (λ (r : Rule (Pair Terms Effort)). seen components (λ x. origin_of x.tag) r) (map (λ r. rule_at n g r) (map (λ r. numbered (setup_given given) r) rs)) ≡ map (λ r. numbered (setup_given given) r) rs
+  said n g [] each = refl
+  said n g (r ∷ rs) each = cons_same one (said n g rs (λ x i. each x (inr i)))
+    where
+      can : IsSayable r
+      can = each r (inl refl)
+
+      one : seen components (λ x. origin_of x.tag) (rule_at n g (numbered (setup_given given) r)) ≡ numbered (setup_given given) r
+      one = cc (weight_tells (r.share ++ 1 ∷ []) (length-append r.share (1 ∷ []) ∙ omega (arith, can.five)), tag_tells r.origin can.within)
+
+  rules_seen : (n g : ℕ) → map (λ (r : Rule (Pair Terms Effort)). seen components (λ x. origin_of x.tag) r) (rules_by (setup_given given) n g) ≡ rules_at_number (setup_given given) n g
+  rules_seen n g = go (spot_of (layout_of (setup_given given)) n) refl
+    where
+      go : (o : Option Spot) → spot_of (layout_of (setup_given given)) n ≡ o → map (λ (r : Rule (Pair Terms Effort)). seen components (λ x. origin_of x.tag) r) (rules_by (setup_given given) n g) ≡ rules_at_number (setup_given given) n g
+      go None e = rw e refl
+      go (Some p) e = rw e (said n g (rules_of (setup_given given) p g) (λ r i. all_kind given IsSayable sayable p g r (spot_fits (setup_given given) n p e) i))
+
+  pub systems : AreRulesOf (setup_given given) components (λ rule. origin_of rule.tag) (rules_by (setup_given given))
+  systems = record { each = rules_seen }

@@ -1,0 +1,9 @@
+pub mod NeedsLemmas
+pub mod StateLemmas
+pub mod RowLemmas
+pub mod HopLemmas
+pub mod HeadLemmas
+pub mod KindLemmas
+pub mod LawLemmas
+pub mod ListLemmas
+pub mod FitLemmas

@@ -1,0 +1,12 @@
+use Rattle.std.proofs.Common.{◌≡◌, [], arith}
+use Rattle.wi_build.specs.Systems.{setup_given, spot_rules}
+use Rattle.wi_build.proofs.RowLemmas.{more_listed, all_made}
+use Rattle.wi_build.proofs.listed.build.Goals as goal
+
+pub loop-spot-preserved : goal.loop-spot-preserved
+loop-spot-preserved c = more_listed (spot_rules (setup_given c.in_ok-system.system)) [] _ _ c.loop-spot.spot c.loop-spot.invariant c.in_ok-push_spot.ensures
+
+pub returns-clause-rules : goal.returns-clause-rules
+returns-clause-rules c =
+    let all : c.loop-spot.spot ≡ c.spots-spot-end.result = omega arith in
+    all_made c.in_ok-system.system _ _ _ c.loop-spot.spot c.spots-spot-end.result c.in_ok-system.ensures c.spots-spot-end.ensures all c.loop-spot.invariant c.of.ensures

@@ -1,0 +1,6 @@
+pub mod Tags
+pub mod Systems
+pub mod Small
+pub mod Needs
+pub mod Rows
+pub mod Hops

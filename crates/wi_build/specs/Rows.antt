@@ -1,0 +1,62 @@
+-- The rules of a head as code makes them.
+use Rattle.std.specs.Prelude.{ℕ, nat_lt, if◌then◌else◌, List, ◌++◌, ◌∷◌, [], length, map, replicate}
+use Rattle.wi_weight.specs.declared.kinds.Pair.{Pair}
+use Rattle.wi_weight.specs.declared.kinds.Terms.{Terms}
+use Rattle.wi_weight.specs.declared.kinds.Effort.{Effort}
+use Rattle.wi_labels.specs.declared.label.Label.{Label}
+use Rattle.wi_net.specs.declared.parts.LinkId.{LinkId}
+use Rattle.wi_net.specs.declared.parts.Member.{Member}
+use Rattle.wi_pds.specs.declared.rule.Rule.{Rule}
+use Rattle.wi_pds.specs.declared.rule.Word2.{Word2}
+use Rattle.wi_rules.specs.declared.spot.Spot.{Spot}
+use Rattle.wi_rules.specs.declared.spot.Spot.TheVariants as spot
+use Rattle.wi_rules.specs.declared.spot.Origin.TheVariants.{Nothing}
+use Rattle.wi_rules.specs.Rules.{Setup, SpotRule, each_at, hop_rules, rules_of}
+use Rattle.wi_rules.specs.Numbers.{layout_of, number, numbered}
+use Rattle.wi_build.specs.declared.head.Head.{Head}
+use Rattle.wi_build.specs.declared.head.Made.{Made}
+use Rattle.wi_build.specs.declared.head.Way.{Way}
+use Rattle.wi_build.specs.declared.head.Way.TheVariants as way
+use Rattle.wi_build.specs.Tags.{tag_of}
+use Rattle.wi_build.specs.Systems.{Given, setup_given, weight, rule_at}
+
+-- a rule of a head, as the definition has it
+abbrev pub rule_of : Setup → Head → SpotRule → Rule (Pair Terms Effort)
+rule_of s head r = rule_at head.spot head.symbol (numbered s r)
+
+abbrev pub rules_for : Setup → Head → List SpotRule → List (Rule (Pair Terms Effort))
+rules_for s head rs = map (rule_of s head) rs
+
+-- and as code makes it
+abbrev pub rule_made : Setup → Head → Spot → Made → Rule (Pair Terms Effort)
+rule_made s head to made = record {
+  from = head.spot;
+  top = head.symbol;
+  to = number (layout_of s) to;
+  word = made.word;
+  weight = made.weight;
+  tag = tag_of made.origin;
+}
+
+-- the rules of a head, by its spot
+abbrev pub head_rules : Given → Head → Spot → List (Rule (Pair Terms Effort))
+head_rules given head to = rules_for (setup_given given) head (rules_of (setup_given given) to head.symbol)
+
+-- what a rule is made of that adds to no term and stands for nothing
+abbrev pub plain_made : Word2 → Made
+plain_made word = record { word = word; weight = weight (replicate 5 0 ++ 1 ∷ []); origin = Nothing }
+
+-- where rules lead that differ in a state alone
+abbrev pub spot_on : Way → ℕ → Spot
+spot_on way.Build q = spot.Build q
+spot_on way.Close q = spot.Close q
+spot_on (way.OnLink e) q = spot.OnLink e q
+spot_on (way.Amid m i) q = spot.Mid m i q
+
+-- where the first operations of a member lead
+abbrev pub way_through : Member → ℕ → ℕ → Way
+way_through member m i = if nat_lt i (length member.ops) then way.Amid m i else way.OnLink member.link
+
+-- the rules for the members of one group of an entry
+abbrev pub group_rules : Setup → LinkId → ℕ → Label → ℕ → List Member → List SpotRule
+group_rules s e q l j group = each_at (λ i member. hop_rules s e q l (record { group = j; member = i }) member) 0 group

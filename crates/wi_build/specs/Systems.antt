@@ -1,0 +1,68 @@
+-- The rules of a network and a query as those of a pushdown system (Schwoon 2002), and their list.
+use Rattle.std.specs.Prelude.{◌≡◌, ℕ, suc, true, nat_lt, ◌+◌, ◌*◌, List, [], ◌∷◌, length, map, slice_index}
+use Rattle.std.specs.List.{flat_map, list_all, range_with_len}
+use Rattle.wi_weight.specs.declared.kinds.Pair.{Pair}
+use Rattle.wi_weight.specs.declared.kinds.Terms.{Terms}
+use Rattle.wi_weight.specs.declared.kinds.Effort.{Effort}
+use Rattle.wi_net.specs.declared.bounds.Bounds.{Bounds}
+use Rattle.wi_net.specs.declared.parts.Link.{Link}
+use Rattle.wi_net.specs.Net.{Net}
+use Rattle.wi_query.specs.declared.query.Query.{Query}
+use Rattle.wi_quantity.specs.declared.vector.Part.{Part}
+use Rattle.wi_quantity.specs.Vectors.{is_vector}
+use Rattle.wi_pds.specs.declared.rule.Rule.{Rule}
+use Rattle.wi_rules.specs.Rules.{Setup}
+use Rattle.wi_rules.specs.Numbers.{Layout, NumberedRule, layout_of, rules_at_number}
+use Rattle.wi_setup.specs.Setups.{setup_of}
+use Rattle.wi_setup.specs.Answers.{AreGiven}
+use Rattle.wi_build.specs.Tags.{tag_of}
+
+-- what rules are made for: a network, a query of it, what runs are weighed by, and what may fail
+pub record Given : Type 0 where
+  pub net : Net
+  pub query : Query
+  pub vector : List (List Part)
+  pub bounds : Bounds
+
+abbrev pub setup_given : Given → Setup
+setup_given g = setup_of g.net g.query g.vector g.bounds
+
+-- the query and the bounds are of the network
+abbrev pub IsGiven : Given → Type 0
+IsGiven g = AreGiven g.net g.query g.bounds
+
+-- coefficients and distances are as small as those of every vector and every network in hand
+pub record IsInRange (given : Given) : Type 0 where
+  pub is_vector_of : is_vector given.vector ≡ true
+  pub distances : list_all (λ (l : Link). nat_lt l.distance 4294967296) given.net.links ≡ true
+
+-- the weight of six components
+abbrev pub weight : List ℕ → Pair Terms Effort
+weight xs = record {
+  first = record { parts = slice_index xs 0 ∷ slice_index xs 1 ∷ slice_index xs 2 ∷ slice_index xs 3 ∷ slice_index xs 4 ∷ [] };
+  second = record { count = slice_index xs 5 };
+}
+
+-- the rule of a head, both its parts numbers
+abbrev pub rule_at : ℕ → ℕ → NumberedRule → Rule (Pair Terms Effort)
+rule_at n g r = record { from = n; top = g; to = r.to; word = r.word; weight = weight r.weight; tag = tag_of r.origin }
+
+-- the rules of a head, in order
+abbrev pub rules_by : Setup → ℕ → ℕ → List (Rule (Pair Terms Effort))
+rules_by s n g = map (λ r. rule_at n g r) (rules_at_number s n g)
+
+-- how many numbers of spots there are
+abbrev pub spot_count : Layout → ℕ
+spot_count y = suc (suc (y.first + (y.last + (y.links * y.path + y.members * 7 * y.path))))
+
+-- the rules of all heads: by rising spot, then by rising symbol
+abbrev pub spot_rules : Setup → ℕ → List (Rule (Pair Terms Effort))
+spot_rules s n = flat_map (rules_by s n) (range_with_len 0 (suc (length s.net.classes)))
+
+abbrev pub all_rules : Setup → List (Rule (Pair Terms Effort))
+all_rules s = flat_map (spot_rules s) (range_with_len 0 (spot_count (layout_of s)))
+
+-- what a system on demand keeps: its layout is that of what it was given
+pub record IsLazy (given : Given) (layout : Layout) : Type 0 where
+  pub are_given : IsGiven given
+  pub layout_is : layout ≡ layout_of (setup_given given)

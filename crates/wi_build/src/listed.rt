@@ -1,0 +1,57 @@
+//! All rules in a list.
+ghost use Rattle.std.specs.Prelude.{◌≡◌, ◌++◌, IfOk, OnOk};
+ghost use Rattle.wi_query.specs.Meaning.{IsQueryOf};
+ghost use Rattle.wi_world.specs.Moves.{AreBounds};
+ghost use Rattle.wi_setup.specs.Setups.{setup_of};
+ghost use Rattle.wi_build.specs.Systems.{setup_given, spot_rules, all_rules};
+
+use crate::head::Head;
+use crate::lazy::LazySystem;
+use std::alloc::Global;
+use wi_base::{Listed, NoMemory};
+use wi_net::{Bounds, Network};
+use wi_pds::{Rule, RuleList};
+use wi_quantity::{Vector, Weight};
+use wi_query::Query;
+
+// Puts the rules of a spot at the end of a list.
+fn push_spot(
+    alloc: Global,
+    system: &LazySystem<'_>,
+    rules: &mut Vec<Rule<Weight>>,
+    spot: u64,
+) -> Result<(), NoMemory>
+    ensures { OnOk result (rules.new.items ≡ rules.old.items ++ spot_rules (setup_given system.now) spot) }
+{
+    system.keeps();
+    for symbol in 0..system.labels() + 1 {
+        let head = Head { spot, symbol };
+        system.push_head(alloc, rules, head)?;
+    }
+    Ok(())
+}
+
+/// The rules of a query of the network within bounds of it, those of all heads in a list: by rising spot, then by rising
+/// symbol.
+pub fn build(
+    alloc: Global,
+    net: &Network,
+    query: &Query,
+    vector: &Vector,
+    bounds: &Bounds,
+) -> Result<RuleList<Weight>, NoMemory>
+    requires query { IsQueryOf net.now query.now }
+    requires bounds { AreBounds net.now bounds.now }
+    ensures start { IfOk result (λ list. list.start ≡ (0, 0)) }
+    ensures rules { IfOk result (λ list. list.rules ≡ all_rules (setup_of net.now query.now vector.now bounds.now)) }
+{
+    let system = LazySystem::new(alloc, net, query, vector, bounds)?;
+    let mut rules = Vec::new(alloc);
+    for spot in 0..system.spots() {
+        push_spot(alloc, &system, &mut rules, spot)?;
+    }
+    Ok(RuleList {
+        start: (0, 0),
+        rules: Listed::of(rules),
+    })
+}

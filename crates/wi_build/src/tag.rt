@@ -1,0 +1,52 @@
+//! What a rule's tag says of what the rule stands for.
+ghost use Rattle.std.specs.Prelude.{◌≡◌, ◌<◌};
+ghost use Rattle.wi_build.specs.Tags.{tagged, tag_of, origin_of, IsWithin};
+
+use wi_labels::Label;
+use wi_net::LinkId;
+use wi_rules::Origin;
+use wi_world::Step;
+
+// How many numbers have room.
+const ROOM: u64 = 1 << 30;
+
+fn tagged(kind: u64, first: u32, second: u32) -> u64
+    requires kind { kind < 8 }
+    requires first { first < 1073741824 }
+    requires second { second < 1073741824 }
+    ensures { result ≡ tagged kind first second }
+{
+    kind + 8 * (u64::from(second) + ROOM * u64::from(first))
+}
+
+/// The tag of a rule that stands for this.
+pub(crate) fn tag_of(origin: Origin) -> u64
+    requires { IsWithin origin }
+    ensures { result ≡ tag_of origin }
+{
+    match origin {
+        Origin::Nothing => 0,
+        Origin::Pushed(label) => tagged(1, label.0, 0),
+        Origin::SetOut(link) => tagged(2, link.0, 0),
+        Origin::Hop(step) => tagged(3, step.group, step.member),
+        Origin::Operation(number, done) => tagged(4, number, done),
+    }
+}
+
+/// What a rule with this tag stands for.
+pub(crate) fn origin_of(tag: u64) -> Origin
+    ensures { result ≡ origin_of tag }
+{
+    let first = (tag / 8 / ROOM) as u32;
+    let second = (tag / 8 % ROOM) as u32;
+    match tag % 8 {
+        1 => Origin::Pushed(Label(first)),
+        2 => Origin::SetOut(LinkId(first)),
+        3 => Origin::Hop(Step {
+            group: first,
+            member: second,
+        }),
+        4 => Origin::Operation(first, second),
+        _ => Origin::Nothing,
+    }
+}

@@ -1,0 +1,35 @@
+//! What rules weigh.
+ghost use Rattle.std.specs.Prelude.{◌≡◌, ◌++◌, ◌∷◌, [], replicate, take};
+ghost use Rattle.wi_quantity.specs.Weighing.{components};
+ghost use Rattle.wi_build.specs.Systems.{weight};
+
+use wi_quantity::Weight;
+use wi_weight::{Effort, Pair, Terms};
+
+// What each rule takes.
+const ONE: Effort = Effort { count: 1 };
+
+/// A weight with effort 1 in the place of its own.
+pub(crate) fn counted(share: Weight) -> Weight
+    ensures { result ≡ weight (take 5 (components share) ++ 1 ∷ []) }
+{
+    let [a, b, c, d, e] = share.first.parts;
+    Pair {
+        first: Terms {
+            parts: [a, b, c, d, e],
+        },
+        second: ONE,
+    }
+}
+
+/// Effort 1 and nothing else.
+pub(crate) fn effort() -> Weight
+    ensures { result ≡ weight (replicate 5 0 ++ 1 ∷ []) }
+{
+    Pair {
+        first: Terms {
+            parts: [0, 0, 0, 0, 0],
+        },
+        second: ONE,
+    }
+}

@@ -22,6 +22,7 @@ pub use laws::{
 pub use layout::Layout;
 pub use lazy::LazySystem;
 pub use listed::build;
+pub use wi_rules::{Origin, Spot};
 
 #[cfg(test)]
 mod tests;

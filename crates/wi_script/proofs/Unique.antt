@@ -1,7 +1,7 @@
 -- A text is a script in one way, and no script where a line has a fault.
 use Rattle.std.proofs.Common.{◌≡◌, ℕ, inl, inr, Bool, true, false, nat_eq, map, List, [], ◌∷◌, ◌++◌, Option, Some, None, refl, sym, ap, ap₂, subst, ◌∙◌}
 use Rattle.std.proofs.lemmas.Bool.{true≢false}
-use Rattle.std.proofs.lemmas.List.{append_assoc}
+use Rattle.std.proofs.lemmas.List.{append-nil, append_assoc}
 use Rattle.wi_labels.specs.Header.{Entry, is_valid_header}
 use Rattle.wi_net.specs.declared.parts.LinkId.{LinkId}
 use Rattle.wi_net.specs.Net.{Net}
@@ -14,6 +14,10 @@ use Rattle.wi_script.specs.Scripts.{label_of, event_of, Begins, Happens, AllHapp
 use Rattle.wi_script.proofs.Outcomes.{written_one_way}
 
 -- ---- lines
+
+not_nothing : (line rest : List ℕ) → [] ≡ line ++ 10 ∷ rest → ⊥
+not_nothing [] rest e = cc
+not_nothing (b ∷ line) rest e = cc
 
 no_feed : (left right : List ℕ) → is_one_line (left ++ 10 ∷ right) ≡ true → ⊥
 no_feed [] right is = cc
@@ -43,11 +47,7 @@ ends (x ∷ a) (y ∷ b) r s one other e =
 -- lines that begin a text begin its lines
 lines_begin : (all before : List (List ℕ)) (left : List ℕ) → AreLines all → AreLines before → lines_bytes all ≡ lines_bytes before ++ left → (more : List (List ℕ)) × (all ≡ before ++ more) × (left ≡ lines_bytes more) × AreLines more
 lines_begin all [] left are some e = (all, refl, sym e, are)
-lines_begin [] (y ∷ before) left are some e = absurd (empty y (lines_bytes before) left e)
-  where
-    empty : (y rest left : List ℕ) → [] ≡ (y ++ 10 ∷ rest) ++ left → ⊥
-    empty [] rest left e = cc
-    empty (b ∷ y) rest left e = cc
+lines_begin [] (y ∷ before) left are some e = absurd (not_nothing y (lines_bytes before ++ left) (e ∙ append_assoc y (10 ∷ lines_bytes before) left))
 lines_begin (x ∷ all) (y ∷ before) left are some e =
     let cut = ends x y (lines_bytes all) (lines_bytes before ++ left) are.0 some.0 (e ∙ append_assoc y (10 ∷ lines_bytes before) left) in
     let later = lines_begin all before left are.1 some.1 cut.1 in
@@ -95,7 +95,7 @@ all_one net (t ∷ texts) (x ∷ a) (y ∷ b) one other = rw (happens_one net t 
 
 pub script_one : (net : Net) (text : List ℕ) (s t : Script) → IsScript net text s → IsScript net text t → s ≡ t
 script_one net text s t a b =
-    let lines = lines_begin (a.first ∷ a.more) (b.first ∷ b.more) [] a.lines b.lines (sym a.bytes ∙ b.bytes ∙ sym (append_nil (lines_bytes (b.first ∷ b.more)))) in
+    let lines = lines_begin (a.first ∷ a.more) (b.first ∷ b.more) [] a.lines b.lines (sym a.bytes ∙ b.bytes ∙ sym (append-nil (lines_bytes (b.first ∷ b.more)))) in
     let same : a.first ∷ a.more ≡ b.first ∷ b.more = none lines.0 lines.1 lines.2 in
     let first : a.first ≡ b.first = cc in
     let more : a.more ≡ b.more = cc in
@@ -103,21 +103,9 @@ script_one net text s t a b =
     let events = all_one net a.more s.events t.events a.events (rw more b.events) in
     equal s t begin.0 begin.1 events
   where
-    append_nil : (xs : List ℕ) → xs ++ [] ≡ xs
-    append_nil [] = refl
-    append_nil (x ∷ xs) = ap (λ ys. x ∷ ys) (append_nil xs)
-
     none : (more : List (List ℕ)) → a.first ∷ a.more ≡ (b.first ∷ b.more) ++ more → [] ≡ lines_bytes more → a.first ∷ a.more ≡ b.first ∷ b.more
-    none [] is e = is ∙ append_lines (b.first ∷ b.more)
-      where
-        append_lines : (xs : List (List ℕ)) → xs ++ [] ≡ xs
-        append_lines [] = refl
-        append_lines (x ∷ xs) = ap (λ ys. x ∷ ys) (append_lines xs)
-    none (x ∷ more) is e = absurd (empty x (lines_bytes more) e)
-      where
-        empty : (x rest : List ℕ) → [] ≡ x ++ 10 ∷ rest → ⊥
-        empty [] rest e = cc
-        empty (b ∷ x) rest e = cc
+    none [] is e = is ∙ append-nil (b.first ∷ b.more)
+    none (x ∷ more) is e = absurd (not_nothing x (lines_bytes more) e)
 
     of : LinkId → List Entry → List Event → Script
     of first header events = record { first = first; header = header; events = events }
@@ -179,12 +167,8 @@ script_fine net text s n cause a b =
         let event = among net before line more s.events (rw (← later) a.events) in
         no_other net line cause event.0 c event.1
 
-    nothing : (x rest : List ℕ) → [] ≡ x ++ 10 ∷ rest → ⊥
-    nothing [] rest e = cc
-    nothing (b ∷ x) rest e = cc
-
     left : (before more : List (List ℕ)) (left : List ℕ) → a.first ∷ a.more ≡ before ++ more → left ≡ lines_bytes more → AreLines more → IsFaultLine net before left cause → ⊥
-    left before [] rest is e are (inl f) = nothing f.0 f.1 (sym e ∙ f.2)
+    left before [] rest is e are (inl f) = not_nothing f.0 f.1 (sym e ∙ f.2)
     left before [] rest is e are (inr f) = elim f.2 [ inl some ↦ some e | inr none ↦ empty before none is ]
       where
         empty : (before : List (List ℕ)) → before ≡ [] → a.first ∷ a.more ≡ before ++ [] → ⊥

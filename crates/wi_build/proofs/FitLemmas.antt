@@ -1,18 +1,19 @@
 -- A head has few rules, and their weights fit: what is seen of them is few and fits.
-use Rattle.std.proofs.Common.{ℕ, ◌<◌, ◌^◌, length, map, Contains, ap, subst, arith}
+use Rattle.std.proofs.Common.{◌≡◌, ℕ, true, ◌<◌, ◌^◌, length, map, Contains, ap, subst, arith}
 use Rattle.std.proofs.lemmas.List.{length-map}
 use Rattle.wi_weight.specs.Weights.{EachBelow}
 use Rattle.wi_weight.specs.declared.kinds.Pair.{Pair}
 use Rattle.wi_weight.specs.declared.kinds.Terms.{Terms}
 use Rattle.wi_weight.specs.declared.kinds.Effort.{Effort}
 use Rattle.wi_pds.specs.declared.rule.Rule.{Rule}
+use Rattle.wi_quantity.specs.Vectors.{is_vector}
 use Rattle.wi_quantity.specs.Weighing.{components}
 use Rattle.wi_rules.specs.Numbers.{NumberedRule, seen}
 use Rattle.wi_rules.proofs.Lists.{contains_in, in_contains, in_map}
 use Rattle.wi_setup.proofs.Few as setups
 use Rattle.wi_setup.proofs.Fit.{fits}
 use Rattle.wi_build.specs.Tags.{origin_of}
-use Rattle.wi_build.specs.Systems.{Given, IsGiven, IsInRange, rules_by, setup_given}
+use Rattle.wi_build.specs.Systems.{Given, IsGiven, rules_by, setup_given}
 use Rattle.wi_build.proofs.LawLemmas.{systems}
 
 abbrev seen_of : Rule (Pair Terms Effort) → NumberedRule
@@ -23,9 +24,9 @@ few given k n g =
     let numbered_few = setups.few given.net given.query given.vector given.bounds n g k in
     omega (arith, length-map (rules_by (setup_given given) n g) seen_of, ap length ((systems given k).each n g), numbered_few)
 
-pub fit : (given : Given) → IsGiven given → IsInRange given → (n g : ℕ) (r : Rule (Pair Terms Effort)) → Contains (rules_by (setup_given given) n g) r → EachBelow (2 ^ 64) (components r.weight)
-fit given k range n g r h =
+pub fit : (given : Given) → IsGiven given → is_vector given.vector ≡ true → (n g : ℕ) (r : Rule (Pair Terms Effort)) → Contains (rules_by (setup_given given) n g) r → EachBelow (2 ^ 64) (components r.weight)
+fit given k is n g r h =
     let rules = rules_by (setup_given given) n g in
     let there : Contains (map seen_of rules) (seen_of r) = in_contains (map seen_of rules) (seen_of r) (in_map seen_of rules r (contains_in rules r h)) in
-    fits given.net given.query given.vector given.bounds n g (seen_of r) k range.is_vector_of range.distances
+    fits given.net given.query given.vector given.bounds n g (seen_of r) k is
     (subst (λ xs. Contains xs (seen_of r)) ((systems given k).each n g) there)

@@ -1,15 +1,13 @@
 -- The rules of a network and a query as those of a pushdown system (Schwoon 2002), and their list.
-use Rattle.std.specs.Prelude.{◌≡◌, ℕ, suc, true, nat_lt, ◌+◌, ◌*◌, List, [], ◌∷◌, length, map, slice_index}
-use Rattle.std.specs.List.{flat_map, list_all, range_with_len}
+use Rattle.std.specs.Prelude.{◌≡◌, ℕ, suc, ◌+◌, ◌*◌, List, [], ◌∷◌, length, map, slice_index}
+use Rattle.std.specs.List.{flat_map, range_with_len}
 use Rattle.wi_weight.specs.declared.kinds.Pair.{Pair}
 use Rattle.wi_weight.specs.declared.kinds.Terms.{Terms}
 use Rattle.wi_weight.specs.declared.kinds.Effort.{Effort}
 use Rattle.wi_net.specs.declared.bounds.Bounds.{Bounds}
-use Rattle.wi_net.specs.declared.parts.Link.{Link}
 use Rattle.wi_net.specs.Net.{Net}
 use Rattle.wi_query.specs.declared.query.Query.{Query}
 use Rattle.wi_quantity.specs.declared.vector.Part.{Part}
-use Rattle.wi_quantity.specs.Vectors.{is_vector}
 use Rattle.wi_pds.specs.declared.rule.Rule.{Rule}
 use Rattle.wi_rules.specs.Rules.{Setup}
 use Rattle.wi_rules.specs.Numbers.{Layout, NumberedRule, layout_of, rules_at_number}
@@ -30,11 +28,6 @@ setup_given g = setup_of g.net g.query g.vector g.bounds
 -- the query and the bounds are of the network
 abbrev pub IsGiven : Given → Type 0
 IsGiven g = AreGiven g.net g.query g.bounds
-
--- coefficients and distances are as small as those of every vector and every network in hand
-pub record IsInRange (given : Given) : Type 0 where
-  pub is_vector_of : is_vector given.vector ≡ true
-  pub distances : list_all (λ (l : Link). nat_lt l.distance 4294967296) given.net.links ≡ true
 
 -- the weight of six components
 abbrev pub weight : List ℕ → Pair Terms Effort

@@ -1,11 +1,12 @@
 //! Laws: that the rules are those of a network and a query. Each runs no code.
-ghost use Rattle.std.specs.Prelude.{◌≡◌, ◌<◌, ◌^◌, ℕ, List, length, Contains};
+ghost use Rattle.std.specs.Prelude.{◌≡◌, ◌<◌, ◌^◌, ℕ, List, true, length, Contains};
 ghost use Rattle.wi_weight.specs.Weights.{EachBelow};
 ghost use Rattle.wi_weight.specs.Kinds.{pair_scale, terms_scale, effort_scale};
 ghost use Rattle.wi_weight.specs.declared.kinds.Pair.{Pair};
 ghost use Rattle.wi_weight.specs.declared.kinds.Terms.{Terms};
 ghost use Rattle.wi_weight.specs.declared.kinds.Effort.{Effort};
 ghost use Rattle.wi_pds.specs.declared.rule.Rule.{Rule};
+ghost use Rattle.wi_quantity.specs.Vectors.{is_vector};
 ghost use Rattle.wi_quantity.specs.Weighing.{components};
 ghost use Rattle.wi_pds.specs.Rules.{rules_at};
 ghost use Rattle.wi_pds.specs.Runs.{Pops, PopRun, run_weight};
@@ -14,7 +15,7 @@ ghost use Rattle.wi_rules.specs.Goals.{told_of};
 ghost use Rattle.wi_setup.specs.Answers.{IsAnswering};
 ghost use Rattle.wi_rules.specs.Numbers.{AreRulesOf, told_by};
 ghost use Rattle.wi_build.specs.Tags.{origin_of};
-ghost use Rattle.wi_build.specs.Systems.{Given, IsGiven, IsInRange, setup_given, rules_by, all_rules};
+ghost use Rattle.wi_build.specs.Systems.{Given, IsGiven, setup_given, rules_by, all_rules};
 
 /// The rules on demand are those of the network and the query; their tags say what they stand for.
 pub fn systems_have_the_rules()
@@ -42,5 +43,5 @@ pub fn heads_have_few_rules()
 
 /// The weights of rules fit.
 pub fn weights_fit()
-    ensures { (given : Given) → IsGiven given → IsInRange given → (n g : ℕ) (r : Rule (Pair Terms Effort)) → Contains (rules_by (setup_given given) n g) r → EachBelow (2 ^ 64) (components r.weight) }
+    ensures { (given : Given) → IsGiven given → is_vector given.vector ≡ true → (n g : ℕ) (r : Rule (Pair Terms Effort)) → Contains (rules_by (setup_given given) n g) r → EachBelow (2 ^ 64) (components r.weight) }
 {}

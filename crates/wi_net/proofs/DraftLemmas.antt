@@ -1,5 +1,5 @@
 -- The fields of a builder after a call are those of a draft that is kept.
-use Rattle.std.proofs.Common.{◌≡◌, ℕ, ◌<◌, true, false, List, [], ◌∷◌, ◌++◌, length, position, Option, Some, None, Ok, refl, sym, subst}
+use Rattle.std.proofs.Common.{◌≡◌, ℕ, ◌^◌, ◌<◌, true, false, List, [], ◌∷◌, ◌++◌, length, position, Option, Some, None, Ok, refl, sym, subst}
 use Rattle.std.specs.Prelude.{is_some}
 use Rattle.std.specs.List.{list_all}
 use Rattle.wi_labels.specs.declared.label.Class.{Class}
@@ -41,13 +41,13 @@ pub in_done : (d : Draft) (from out to into : List ℕ) (group : Option (List �
 in_done d from out to into group ends interfaces mid links text in_text n k e same kept is in_is put number = rw (number, put, same, kept, is, in_is) ((free_ends d from out to into group ends k e).1)
 
 -- the links and names after it
-pub link_done : (d : Draft) (from out to into : List ℕ) (distance : ℕ) (group : Option (List ℕ)) (ends : RouterId × RouterId) → IsDraft d → link_ends d from out to into group ≡ Ok ends
+pub link_done : (d : Draft) (from out to into : List ℕ) (distance : ℕ) (group : Option (List ℕ)) (ends : RouterId × RouterId) → IsDraft d → distance < 2 ^ 32 → link_ends d from out to into group ≡ Ok ends
     → (interfaces mid last named named_after : List (List ℕ)) (links after : List Link) (firsts firsts_after : List LinkId) (text in_text : List ℕ) (group_text : Option (List ℕ)) (number n m : ℕ) (risk : LinkId)
     → interfaces ≡ d.net.interfaces → links ≡ d.net.links → named ≡ d.named → firsts ≡ d.firsts → text ≡ out → in_text ≡ into → group_text ≡ group
     → number ≡ length links → n ≡ number_of interfaces text → mid ≡ with_name interfaces text → m ≡ number_of mid in_text → last ≡ with_name mid in_text
     → risk ≡ first_in named firsts (record { 0 = number }) group_text → named_after ≡ named_with named group_text → firsts_after ≡ firsts_with named firsts (record { 0 = number }) group_text
     → after ≡ links ++ record { from = ends.0; out_if = record { 0 = n }; to = ends.1; in_if = record { 0 = m }; distance = distance; risk = risk } ∷ []
     → IsDraft (record { net = record d.net { interfaces = last; links = after }; named = named_after; firsts = firsts_after })
-link_done d from out to into distance group ends k e interfaces mid last named named_after links after firsts firsts_after text in_text group_text number n m risk
+link_done d from out to into distance group ends k small e interfaces mid last named named_after links after firsts firsts_after text in_text group_text number n m risk
     same kept named_same firsts_same is in_is group_is counted out_number put in_number put_in first named_is firsts_is added =
-    rw (added, firsts_is, named_is, first, put_in, in_number, put, out_number, counted, group_is, in_is, is, firsts_same, named_same, kept, same) (link_kept d from out to into distance group ends k e)
+    rw (added, firsts_is, named_is, first, put_in, in_number, put, out_number, counted, group_is, in_is, is, firsts_same, named_same, kept, same) (link_kept d from out to into distance group ends k small e)

@@ -1,5 +1,5 @@
 -- What is kept while a network is being built: each call of the builder keeps it.
-use Rattle.std.proofs.Common.{◌≡◌, ℕ, ◌+◌, ◌<◌, ◌≤◌, true, ◌&&◌, ◌⊎◌, inl, inr, nat_lt, List, [], ◌∷◌, ◌++◌, length, position, slice_get, Option, Some, None, Ok, refl, sym, ap, ◌∙◌, arith, length-append}
+use Rattle.std.proofs.Common.{◌≡◌, ℕ, ◌+◌, ◌^◌, ◌<◌, ◌≤◌, true, ◌&&◌, ◌⊎◌, inl, inr, nat_lt, List, [], ◌∷◌, ◌++◌, length, position, slice_get, Option, Some, None, Ok, refl, sym, ap, ◌∙◌, arith, length-append}
 use Rattle.std.specs.Prelude.{is_none, option_and_then, unwrap_or}
 use Rattle.std.specs.List.{list_all}
 use Rattle.std.specs.Str.{bytes_eq}
@@ -41,6 +41,7 @@ empty_kept = record {
     in_turn = refl;
     links = refl;
     ends = refl;
+    near = refl;
     risks = refl;
     rows = refl;
     rows_apart = refl;
@@ -72,6 +73,7 @@ router_kept d name k room good new =
         in_turn = k.net.in_turn;
         links = links_more d.net ((with_router d name).net) d.net.links g k.net.links;
         ends = k.net.ends;
+        near = k.net.near;
         risks = k.net.risks;
         rows = rows_more d.net ((with_router d name).net) d.net.rows g k.net.rows;
         rows_apart = k.net.rows_apart;
@@ -113,6 +115,7 @@ label_kept d class name k later room good new =
         in_turn = k.net.in_turn;
         links = links_more d.net ((with_label d class name).net) d.net.links g k.net.links;
         ends = k.net.ends;
+        near = k.net.near;
         risks = k.net.risks;
         rows = rows_more d.net ((with_label d class name).net) d.net.rows g k.net.rows;
         rows_apart = k.net.rows_apart;
@@ -225,8 +228,8 @@ firsts_more d l group all is = go group is
     go (Some name) own = by_place name (place d.named name) refl own
 
 -- a link more
-pub link_kept : (d : Draft) (from out to into : List ℕ) (distance : ℕ) (group : Option (List ℕ)) (ends : RouterId × RouterId) → IsDraft d → link_ends d from out to into group ≡ Ok ends → IsDraft (with_new_link d ends.0 out ends.1 into distance group)
-link_kept d from out to into distance group ends k e =
+pub link_kept : (d : Draft) (from out to into : List ℕ) (distance : ℕ) (group : Option (List ℕ)) (ends : RouterId × RouterId) → IsDraft d → distance < 2 ^ 32 → link_ends d from out to into group ≡ Ok ends → IsDraft (with_new_link d ends.0 out ends.1 into distance group)
+link_kept d from out to into distance group ends k small e =
     record {
       net = record {
         routers = k.net.routers;
@@ -237,6 +240,7 @@ link_kept d from out to into distance group ends k e =
         in_turn = turn_push d.net.interfaces out into d.net.links l k.net.in_turn refl refl;
         links = all_push (is_link_of new.net) d.net.links l (links_more d.net new.net d.net.links grows k.net.links) link_is;
         ends = ends_push d.net.links l k.net.ends free.0 free.1;
+        near = all_push (λ (m : Link). nat_lt m.distance (2 ^ 32)) d.net.links l k.net.near (lt-ltb distance (2 ^ 32) small);
         risks = risks_push d.net l k.net.risks (joins_held d group k.firsts);
         rows = rows_more d.net new.net d.net.rows grows k.net.rows;
         rows_apart = k.net.rows_apart;
@@ -332,6 +336,7 @@ row_kept d row k e =
         in_turn = k.net.in_turn;
         links = k.net.links;
         ends = k.net.ends;
+        near = k.net.near;
         risks = k.net.risks;
         rows = all_push (is_row_of d.net) d.net.rows row k.net.rows fits.is;
         rows_apart = rows_apart_push d.net.rows row k.net.rows_apart fits.new;

@@ -1,5 +1,5 @@
 -- What each network keeps.
-use Rattle.std.specs.Prelude.{◌≡◌, ℕ, ◌+◌, ◌*◌, ◌≤◌, ◌<◌, ◌&&◌, ◌==◌, Bool, true, false, nat_lt, nat_le, if◌then◌else◌, Option, Some, None, List, [], ◌∷◌, length, map, slice_get}
+use Rattle.std.specs.Prelude.{◌≡◌, ℕ, ◌+◌, ◌*◌, ◌^◌, ◌≤◌, ◌<◌, ◌&&◌, ◌==◌, Bool, true, false, nat_lt, nat_le, if◌then◌else◌, Option, Some, None, List, [], ◌∷◌, length, map, slice_get}
 use Rattle.std.specs.List.{list_all}
 use Rattle.std.specs.Option.{option_map_or}
 use Rattle.wi_labels.specs.declared.label.Class.{Class}
@@ -95,6 +95,7 @@ pub record IsNetwork (net : Net) : Type 0 where
   pub in_turn : named_after (Some 0) net.links ≡ Some (length net.interfaces)
   pub links : list_all (is_link_of net) net.links ≡ true
   pub ends : are_ends_apart net.links ≡ true
+  pub near : list_all (λ l. nat_lt l.distance (2 ^ 32)) net.links ≡ true
   pub risks : list_all (is_risk_named net) (all_links net) ≡ true
   pub rows : list_all (is_row_of net) net.rows ≡ true
   pub rows_apart : are_rows_apart net.rows ≡ true

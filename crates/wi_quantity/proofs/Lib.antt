@@ -8,3 +8,4 @@ pub mod Residuals
 pub mod Stopping
 pub mod MeaningLemmas
 pub mod TermLemmas
+pub mod Fine

@@ -4,7 +4,10 @@ ghost use Rattle.wi_weight.specs.Weights.{plus};
 ghost use Rattle.wi_net.specs.Net.{Net};
 ghost use Rattle.wi_world.specs.declared.run.Run.{Run};
 ghost use Rattle.wi_world.specs.Runs.{effort_of};
+ghost use Rattle.wi_quantity.specs.declared.fault.WeightFault.{WeightFault};
+ghost use Rattle.wi_quantity.specs.declared.fault.WeightFault.TheVariants.{Memory};
 ghost use Rattle.wi_quantity.specs.declared.vector.Part.{Part};
+ghost use Rattle.wi_quantity.specs.Faults.{Means, IsFault};
 ghost use Rattle.wi_quantity.specs.Vectors.{is_vector};
 ghost use Rattle.wi_quantity.specs.Weighing.{weight_of, first_weight, steps_weight};
 ghost use Rattle.wi_quantity.specs.Written.{Written, Reads};
@@ -12,6 +15,11 @@ ghost use Rattle.wi_quantity.specs.Written.{Written, Reads};
 /// A text is written in one way only, so what it means and its first fault are determined.
 pub fn a_text_is_read_one_way()
     ensures { (text : List ℕ) (v w : Written) → Reads text v → Reads text w → v ≡ w }
+{}
+
+/// A text that means a vector has no fault.
+pub fn a_text_with_a_meaning_has_no_fault()
+    ensures { (text : List ℕ) (vector : List (List Part)) (fault : WeightFault) → Means text vector → IsFault text fault → fault ≡ Memory }
 {}
 
 /// What a run weighs is what its first link weighs and what each of its steps weighs, with its effort last.

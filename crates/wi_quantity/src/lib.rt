@@ -9,7 +9,9 @@ mod vector;
 mod written;
 
 pub use fault::WeightFault;
-pub use laws::{a_text_is_read_one_way, runs_weigh_the_sum_of_their_shares};
+pub use laws::{
+    a_text_is_read_one_way, a_text_with_a_meaning_has_no_fault, runs_weigh_the_sum_of_their_shares,
+};
 pub use read::read_weights;
 pub use share::{Weight, first_weight, hop_weight, step_weight};
 pub use vector::{Part, Vector};

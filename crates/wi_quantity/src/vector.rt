@@ -1,5 +1,6 @@
 //! Weight vectors.
-ghost use Rattle.std.specs.Prelude.{◌≡◌, [], length};
+ghost use Rattle.std.specs.Prelude.{◌≡◌, [], true, length};
+ghost use Rattle.wi_quantity.specs.Vectors.{is_vector};
 
 use std::alloc::Global;
 use std::marker::Model;
@@ -40,6 +41,13 @@ impl Vector {
         Vector {
             terms: Vec::new(alloc),
         }
+    }
+
+    /// What every vector keeps: at most five terms, each of at most five parts, whose coefficients have 16 bits.
+    pub fn keeps(&self)
+        ensures { is_vector self.now ≡ true }
+    {
+        let _terms = &self.terms;
     }
 
     /// How many terms there are. It takes no memory.

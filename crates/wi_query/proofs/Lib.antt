@@ -8,3 +8,4 @@ pub mod LinkSets
 pub mod Known
 pub mod Numbers
 pub mod Queries
+pub mod Fine

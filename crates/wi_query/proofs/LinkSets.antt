@@ -1,7 +1,7 @@
 -- Sets of links, grown from the least link on.
 use Rattle.std.proofs.Common.{◌≡◌, ℕ, ◌+◌, Bool, true, false, not, nat_eq, nat_lt, nat_le, List, [], ◌∷◌, ◌++◌, refl, sym, ap, ◌∙◌, arith, Some, None}
 use Rattle.std.specs.List.{filter, find, list_all}
-use Rattle.std.proofs.lemmas.Bool.{and_parts, and_from, ltb-true, lt-ltb, le-ltb, ne_eqb, not_from_false}
+use Rattle.std.proofs.lemmas.Bool.{and_parts, and_from, ltb-true, lt-ltb, le-ltb, ne_eqb, not_from_false, not-true}
 use Rattle.wi_net.specs.declared.parts.LinkId.{LinkId}
 use Rattle.wi_net.specs.LinkSet.{has, is_apart, links_from, with_link}
 use Rattle.wi_net.specs.Net.{Net, widened, same_risk}
@@ -48,3 +48,9 @@ apart_from_none (x ∷ s) t e = go (has t x) refl e (apart_from_none s t)
     go : (b : Bool) → has t x ≡ b → find (λ e. has t e) (x ∷ s) ≡ None → (find (λ e. has t e) s ≡ None → is_apart s t ≡ true) → is_apart (x ∷ s) t ≡ true
     go true is h more = let some : Some x ≡ None = rw is at h in cc
     go false is h more = let rest : find (λ e. has t e) s ≡ None = rw is at h in and_from (not (has t x)) (is_apart s t) (not_from_false (has t x) is) (more rest)
+
+pub none_from_apart : (s t : List LinkId) → is_apart s t ≡ true → find (λ e. has t e) s ≡ None
+none_from_apart [] t h = refl
+none_from_apart (x ∷ s) t h =
+    let parts = and_parts (not (has t x)) (is_apart s t) h in
+    rw (not-true (has t x) parts.0) (none_from_apart s t parts.1)

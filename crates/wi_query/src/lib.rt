@@ -5,6 +5,7 @@ mod atoms;
 mod bounds;
 mod expression;
 mod fault;
+mod laws;
 mod names;
 mod parts;
 mod query;
@@ -13,6 +14,7 @@ mod tree;
 
 pub use expression::Expression;
 pub use fault::QueryFault;
+pub use laws::a_query_has_no_fault;
 pub use query::{Query, read_query};
 pub use symbols::SymbolSet;
 

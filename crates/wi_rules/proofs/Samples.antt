@@ -63,6 +63,7 @@ base_network = record {
   in_turn = refl;
   links = refl;
   ends = refl;
+  near = refl;
   risks = refl;
   rows = refl;
   rows_apart = refl;

@@ -1,4 +1,4 @@
--- What the rules of a head weigh is below 2^64, where each link's distance is below 2^32.
+-- What the rules of a head weigh is below 2^64.
 use Rattle.std.proofs.Common.{◌≡◌, ℕ, ◌<◌, ◌≤◌, ◌^◌, Bool, true, false, nat_eq, nat_lt, List, [], ◌∷◌, Option, Some, None, length, map, take, replicate, slice_get, refl, arith, subst}
 use Rattle.std.specs.Prelude.{if◌then◌else◌}
 use Rattle.std.specs.List.{Contains, list_all}
@@ -93,10 +93,10 @@ module _ (net : Net) (k : IsNetwork net) (near : are_near net ≡ true) where
       in_groups_below vector (entry net e l) step.group step.member is
       (λ group member g f. kept net k _ member (member_numbered net.rows e l step.group step.member group member g f))
 
-pub fits : (net : Net) (query : Query) (vector : List (List Part)) (bounds : Bounds) (n g : ℕ) (rule : NumberedRule) → AreGiven net query bounds → is_vector vector ≡ true → are_near net ≡ true → Contains (rules_at_number (setup_of net query vector bounds) n g) rule → EachBelow (2 ^ 64) rule.weight
-fits net query vector bounds n g rule k is near h =
+pub fits : (net : Net) (query : Query) (vector : List (List Part)) (bounds : Bounds) (n g : ℕ) (rule : NumberedRule) → AreGiven net query bounds → is_vector vector ≡ true → Contains (rules_at_number (setup_of net query vector bounds) n g) rule → EachBelow (2 ^ 64) rule.weight
+fits net query vector bounds n g rule k is h =
     let s = setup_of net query vector bounds in
     let a = option_in (λ (p : Spot). map (λ (r : SpotRule). numbered s r) (rules_of s p g)) (spot_of (layout_of s) n) rule (contains_in (rules_at_number s n g) rule h) in
     let b = map_in (λ (r : SpotRule). numbered s r) (rules_of s a.0 g) rule a.2 in
-    let share = shares_hold s (sound net query vector bounds k) (λ (share : List ℕ). EachBelow (2 ^ 64) share) (zeros_below (2 ^ 64) 5 (omega arith)) (λ e. first_below net k.network near vector e is) (λ e l step. step_below net k.network near vector e l step is) a.0 g b.0 b.1 in
+    let share = shares_hold s (sound net query vector bounds k) (λ (share : List ℕ). EachBelow (2 ^ 64) share) (zeros_below (2 ^ 64) 5 (omega arith)) (λ e. first_below net k.network k.network.near vector e is) (λ e l step. step_below net k.network k.network.near vector e l step is) a.0 g b.0 b.1 in
     subst (λ (x : NumberedRule). EachBelow (2 ^ 64) x.weight) b.2 (each_below_both (2 ^ 64) b.0.share (1 ∷ []) share (omega arith, tt))

@@ -1,6 +1,6 @@
 //! Laws: what the goal runs of the rules of a network and a query are. Each runs no code.
-ghost use Rattle.std.specs.Prelude.{◌≡◌, ◌<◌, ◌^◌, ℕ, true, nat_lt, List, length};
-ghost use Rattle.std.specs.List.{Contains, list_all};
+ghost use Rattle.std.specs.Prelude.{◌≡◌, ◌<◌, ◌^◌, ℕ, true, List, length};
+ghost use Rattle.std.specs.List.{Contains};
 ghost use Rattle.wi_weight.specs.Weights.{EachBelow};
 ghost use Rattle.wi_pds.specs.declared.rule.Rule.{Rule};
 ghost use Rattle.wi_pds.specs.Runs.{Pops, PopRun, run_weight};
@@ -33,9 +33,8 @@ pub fn goal_runs_are_matching_runs<W: Domain>()
     ensures told { (net : Net) (query : Query) (vector : List (List Part)) (bounds : Bounds) (o : Rule W → Origin) (rules : ℕ → ℕ → List (Rule W)) (rs : List (Rule W)) → AreGiven net query bounds → AreRulesOf (setup_of net query vector bounds) W.components o rules → W.scale.arity ≡ 6 → PopRun rules 0 0 1 rs → (run : Run) × IsAnswering net query vector bounds (run_weight W.scale W.components rs) run × (told_by o rs ≡ told_of run) }
 {}
 
-/// The rules of a head are fewer than 2^32. Where each link's distance is below 2^32, each component of what a rule weighs is
-/// below 2^64.
+/// The rules of a head are fewer than 2^32, and each component of what a rule weighs is below 2^64.
 pub fn rules_are_few_and_fit()
     ensures few { (net : Net) (query : Query) (vector : List (List Part)) (bounds : Bounds) (n g : ℕ) → AreGiven net query bounds → length (rules_at_number (setup_of net query vector bounds) n g) < 2 ^ 32 }
-    ensures fit { (net : Net) (query : Query) (vector : List (List Part)) (bounds : Bounds) (n g : ℕ) (rule : NumberedRule) → AreGiven net query bounds → is_vector vector ≡ true → list_all (λ l. nat_lt l.distance (2 ^ 32)) net.links ≡ true → Contains (rules_at_number (setup_of net query vector bounds) n g) rule → EachBelow (2 ^ 64) rule.weight }
+    ensures fit { (net : Net) (query : Query) (vector : List (List Part)) (bounds : Bounds) (n g : ℕ) (rule : NumberedRule) → AreGiven net query bounds → is_vector vector ≡ true → Contains (rules_at_number (setup_of net query vector bounds) n g) rule → EachBelow (2 ^ 64) rule.weight }
 {}

@@ -1,5 +1,5 @@
 -- Small networks, and runs on them. Packets come from x to a, and go from a to b, or from a by c to b; from b they go to y.
-use Rattle.std.proofs.Common.{◌≡◌, ℕ, ◌*◌, true, nat_le, List, [], ◌∷◌, length, take, Some, refl}
+use Rattle.std.proofs.Common.{◌≡◌, ℕ, ◌*◌, ◌^◌, true, nat_lt, nat_le, List, [], ◌∷◌, length, take, Some, refl}
 use Rattle.std.specs.List.{list_all}
 use Rattle.std.proofs.lemmas.Bool.{leb-true}
 use Rattle.wi_labels.specs.declared.label.Label.{Label}
@@ -78,8 +78,8 @@ net_of links rows = record {
 }
 
 -- tests that compute make such a network one that the laws speak of
-pub sample_network : (links : List Link) (rows : List Row) → are_names (take (length links) routers) ≡ true → named_after (Some 0) links ≡ Some (length (take (length links) routers)) → list_all (is_link_of (net_of links rows)) links ≡ true → are_ends_apart links ≡ true → list_all (is_risk_named (net_of links rows)) (all_links (net_of links rows)) ≡ true → list_all (is_row_of (net_of links rows)) rows ≡ true → are_rows_apart rows ≡ true → nat_le (length (take (length links) routers)) (2 * length links) ≡ true → nat_le (length links) 20000 ≡ true → nat_le (length rows) 200000 ≡ true → nat_le (row_members rows) 400000 ≡ true → IsNetwork (net_of links rows)
-sample_network links rows interfaces in_turn between ends risks tables apart named few_links few_rows few_members = record {
+pub sample_network : (links : List Link) (rows : List Row) → are_names (take (length links) routers) ≡ true → named_after (Some 0) links ≡ Some (length (take (length links) routers)) → list_all (is_link_of (net_of links rows)) links ≡ true → are_ends_apart links ≡ true → list_all (λ (l : Link). nat_lt l.distance (2 ^ 32)) links ≡ true → list_all (is_risk_named (net_of links rows)) (all_links (net_of links rows)) ≡ true → list_all (is_row_of (net_of links rows)) rows ≡ true → are_rows_apart rows ≡ true → nat_le (length (take (length links) routers)) (2 * length links) ≡ true → nat_le (length links) 20000 ≡ true → nat_le (length rows) 200000 ≡ true → nat_le (row_members rows) 400000 ≡ true → IsNetwork (net_of links rows)
+sample_network links rows interfaces in_turn between ends near risks tables apart named few_links few_rows few_members = record {
   routers = refl;
   labels = refl;
   classes = refl;
@@ -88,6 +88,7 @@ sample_network links rows interfaces in_turn between ends risks tables apart nam
   in_turn = in_turn;
   links = between;
   ends = ends;
+  near = near;
   risks = risks;
   rows = tables;
   rows_apart = apart;
@@ -123,28 +124,28 @@ abbrev pub base : Net
 base = net_of (five_links (l 1) (l 2) (l 4)) (tables to_b_or_c end_at_c end_at_b)
 
 pub base_network : IsNetwork base
-base_network = sample_network base.links base.rows refl refl refl refl refl refl refl refl refl refl refl
+base_network = sample_network base.links base.rows refl refl refl refl refl refl refl refl refl refl refl refl
 
 -- l1 and l4 are one risk group
 abbrev pub fiber : Net
 fiber = net_of (five_links (l 1) (l 2) (l 1)) base.rows
 
 pub fiber_network : IsNetwork fiber
-fiber_network = sample_network fiber.links fiber.rows refl refl refl refl refl refl refl refl refl refl refl
+fiber_network = sample_network fiber.links fiber.rows refl refl refl refl refl refl refl refl refl refl refl refl
 
 -- l1 and l2 are one risk group
 abbrev pub shared : Net
 shared = net_of (five_links (l 1) (l 1) (l 4)) base.rows
 
 pub shared_network : IsNetwork shared
-shared_network = sample_network shared.links shared.rows refl refl refl refl refl refl refl refl refl refl refl
+shared_network = sample_network shared.links shared.rows refl refl refl refl refl refl refl refl refl refl refl refl
 
 -- l0 and l1 are one risk group
 abbrev pub shared_first : Net
 shared_first = net_of (five_links (l 0) (l 2) (l 4)) base.rows
 
 pub shared_first_network : IsNetwork shared_first
-shared_first_network = sample_network shared_first.links shared_first.rows refl refl refl refl refl refl refl refl refl refl refl
+shared_first_network = sample_network shared_first.links shared_first.rows refl refl refl refl refl refl refl refl refl refl refl refl
 
 -- a sixth link, b to z, is the second choice of what came by c
 abbrev pub forked : LinkId → Net
@@ -156,14 +157,14 @@ abbrev pub with_z : Net
 with_z = forked (l 4)
 
 pub with_z_network : IsNetwork with_z
-with_z_network = sample_network with_z.links with_z.rows refl refl refl refl refl refl refl refl refl refl refl
+with_z_network = sample_network with_z.links with_z.rows refl refl refl refl refl refl refl refl refl refl refl refl
 
 -- and l1 and l4 are one risk group
 abbrev pub fiber_with_z : Net
 fiber_with_z = forked (l 1)
 
 pub fiber_with_z_network : IsNetwork fiber_with_z
-fiber_with_z_network = sample_network fiber_with_z.links fiber_with_z.rows refl refl refl refl refl refl refl refl refl refl refl
+fiber_with_z_network = sample_network fiber_with_z.links fiber_with_z.rows refl refl refl refl refl refl refl refl refl refl refl refl
 
 -- a sixth link, c to a: what came to c goes back to a under the label 31, and from there to b
 abbrev pub returning : Net
@@ -172,42 +173,42 @@ returning =
     (row 5 t31 (only 1 (Pop ∷ []) ∷ []) ∷ tables to_b_or_c (only 5 (swap t31 ∷ []) ∷ []) end_at_b)
 
 pub returning_network : IsNetwork returning
-returning_network = sample_network returning.links returning.rows refl refl refl refl refl refl refl refl refl refl refl
+returning_network = sample_network returning.links returning.rows refl refl refl refl refl refl refl refl refl refl refl refl
 
 -- both choices at a are l1: first with another ip label, else with an smpls label
 abbrev pub same_link_twice : Net
 same_link_twice = net_of base.links (tables (only 1 (swap ip1 ∷ []) ∷ only 1 (push s10 ∷ []) ∷ []) end_at_c end_at_b)
 
 pub same_link_twice_network : IsNetwork same_link_twice
-same_link_twice_network = sample_network same_link_twice.links same_link_twice.rows refl refl refl refl refl refl refl refl refl refl refl
+same_link_twice_network = sample_network same_link_twice.links same_link_twice.rows refl refl refl refl refl refl refl refl refl refl refl refl
 
 -- the first choice at a would push an mpls label on an ip label
 abbrev pub undefined_first : Net
 undefined_first = net_of base.links (tables (only 1 (push t30 ∷ []) ∷ only 2 (push s10 ∷ push t30 ∷ []) ∷ []) end_at_c end_at_b)
 
 pub undefined_first_network : IsNetwork undefined_first
-undefined_first_network = sample_network undefined_first.links undefined_first.rows refl refl refl refl refl refl refl refl refl refl refl
+undefined_first_network = sample_network undefined_first.links undefined_first.rows refl refl refl refl refl refl refl refl refl refl refl refl
 
 -- both ways from a are of one group
 abbrev pub balanced : Net
 balanced = net_of base.links (tables ((member 1 (push s10 ∷ []) ∷ member 2 (push s10 ∷ push t30 ∷ []) ∷ []) ∷ []) end_at_c end_at_b)
 
 pub balanced_network : IsNetwork balanced
-balanced_network = sample_network balanced.links balanced.rows refl refl refl refl refl refl refl refl refl refl refl
+balanced_network = sample_network balanced.links balanced.rows refl refl refl refl refl refl refl refl refl refl refl refl
 
 -- at c the label 30 is popped and 31 pushed, and at b two labels are popped
 abbrev pub relabelling : Net
 relabelling = net_of base.links (row 3 t31 (only 4 (Pop ∷ Pop ∷ []) ∷ []) ∷ tables to_b_or_c (only 3 (Pop ∷ push t31 ∷ []) ∷ []) end_at_b)
 
 pub relabelling_network : IsNetwork relabelling
-relabelling_network = sample_network relabelling.links relabelling.rows refl refl refl refl refl refl refl refl refl refl refl
+relabelling_network = sample_network relabelling.links relabelling.rows refl refl refl refl refl refl refl refl refl refl refl refl
 
 -- what comes from x goes to b with its header as it is
 abbrev pub untouched : Net
 untouched = net_of base.links (tables (only 1 [] ∷ []) end_at_c end_at_b)
 
 pub untouched_network : IsNetwork untouched
-untouched_network = sample_network untouched.links untouched.rows refl refl refl refl refl refl refl refl refl refl refl
+untouched_network = sample_network untouched.links untouched.rows refl refl refl refl refl refl refl refl refl refl refl refl
 
 -- one link from r to r: it takes 31 for two labels 30, and pops each of those
 abbrev pub looping : Net
@@ -230,6 +231,7 @@ looping_network = record {
   in_turn = refl;
   links = refl;
   ends = refl;
+  near = refl;
   risks = refl;
   rows = refl;
   rows_apart = refl;

@@ -1,0 +1,6 @@
+pub mod OrderLemmas
+pub mod SpellingLemmas
+pub mod RuleLemmas
+pub mod AnswerLemmas
+pub mod Classes
+pub mod ShownLemmas

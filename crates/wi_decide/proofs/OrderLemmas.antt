@@ -1,0 +1,55 @@
+-- The order of weights is the one by which runs are compared.
+use Rattle.std.proofs.Common.{◌≡◌, ℕ, zero, suc, ◌<◌, Bool, true, false, ◌&&◌, nat_eq, nat_lt, List, [], ◌∷◌, take, drop, length, refl, arith, ap, ◌∙◌}
+use Rattle.std.specs.Cmp.Lexicographic.{slice_cmp}
+use Rattle.std.specs.Ordering.{nat_cmp, ordering_then}
+use Rattle.std.specs.declared.cmp.Ordering.{Ordering}
+use Rattle.std.specs.declared.cmp.Ordering.TheVariants.{Less, Equal, Greater}
+use Rattle.std.proofs.lemmas.Bool.{and_parts, eqb-true, ltb-true, false_from_ne_true}
+use Rattle.std.proofs.lemmas.Bool.Decides.{nat_tests}
+use Rattle.wi_weight.specs.Weights.{AtMost}
+use Rattle.wi_weight.specs.Then.{then_tied}
+use Rattle.wi_world.specs.Runs.{is_less}
+use Rattle.wi_decide.specs.Spelled.{scale}
+
+then_assoc : (a b c : Ordering) → ordering_then (ordering_then a b) c ≡ ordering_then a (ordering_then b c)
+then_assoc Less b c = refl
+then_assoc Equal b c = refl
+then_assoc Greater b c = refl
+
+-- the first numbers in dictionary order, and then the others: this is the dictionary order of all
+parts_compared : (n : ℕ) (a b : List ℕ) → length a ≡ length b
+    → ordering_then (slice_cmp nat_cmp (take n a) (take n b)) (slice_cmp nat_cmp (drop n a) (drop n b)) ≡ slice_cmp nat_cmp a b
+parts_compared zero a b h = refl
+parts_compared (suc n) [] [] h = refl
+parts_compared (suc n) [] (y ∷ b) h = absurd (omega (arith, h))
+parts_compared (suc n) (x ∷ a) [] h = absurd (omega (arith, h))
+parts_compared (suc n) (x ∷ a) (y ∷ b) h =
+    then_assoc (nat_cmp x y) (slice_cmp nat_cmp (take n a) (take n b)) (slice_cmp nat_cmp (drop n a) (drop n b))
+    ∙ ap (λ o. ordering_then (nat_cmp x y) o) (parts_compared n a b (omega (arith, h)))
+
+greater_number : (x y : ℕ) → y < x → nat_cmp x y ≡ Greater
+greater_number x y h = grind (arith, nat_tests)
+
+same_number : (x y : ℕ) → y ≡ x → nat_cmp x y ≡ Equal
+same_number x y h = grind (arith, nat_tests)
+
+greater_first : (a b : Ordering) → a ≡ Greater → ordering_then a b ≡ Greater
+greater_first a b h = rw h refl
+
+-- what a list is greater than is less
+less_greater : (a b : List ℕ) → is_less b a ≡ true → slice_cmp nat_cmp a b ≡ Greater
+less_greater [] [] h = cc
+less_greater [] (y ∷ b) h = cc
+less_greater (x ∷ a) [] h = cc
+less_greater (x ∷ a) (y ∷ b) h = go (nat_lt y x) refl (less_greater a b)
+  where
+    go : (c : Bool) → nat_lt y x ≡ c → (is_less b a ≡ true → slice_cmp nat_cmp a b ≡ Greater) → slice_cmp nat_cmp (x ∷ a) (y ∷ b) ≡ Greater
+    go true e ih = greater_first (nat_cmp x y) (slice_cmp nat_cmp a b) (greater_number x y (ltb-true y x e))
+    go false e ih =
+        let both : (nat_eq y x && is_less b a) ≡ true = rw e at h in
+        let p = and_parts (nat_eq y x) (is_less b a) both in
+        then_tied (nat_cmp x y) (slice_cmp nat_cmp a b) (same_number x y (eqb-true y x p.0)) ∙ ih p.1
+
+-- a weight that is no more than another: the other isn't less
+pub not_less : (w x : List ℕ) → length w ≡ length x → AtMost scale w x → is_less x w ≡ false
+not_less w x h most = false_from_ne_true (is_less x w) (λ less. most (parts_compared 5 w x h ∙ less_greater w x less))

@@ -1,0 +1,27 @@
+use Rattle.wi_quantity.specs.Weighing.{components}
+use Rattle.wi_witness.specs.GoalRuns.{IsNamedRun}
+use Rattle.wi_build.specs.Systems.{rules_by, setup_given}
+use Rattle.wi_decide.specs.Spelled.{scale}
+use Rattle.wi_decide.specs.Tables.{asked}
+use Rattle.wi_decide.proofs.AnswerLemmas.{asked_table, rules_for, spelled_least, there}
+use Rattle.wi_decide.proofs.decision.least_run.Goals as goal
+
+pub run_of-requires : goal.run_of-requires
+run_of-requires c =
+    let vector = c.args.system.now.vector in
+    let named = there (λ w. IsNamedRun scale components (rules_by (setup_given c.args.system.now)) 0 0 1 c.in_ok-ids.ids.items (components w)) c.args.table.now.best c.requires.reached (c.in_ok-ids.ensures.run c.args.system.now c.requires.table) in (
+      asked c.args.net.now c.args.query.now vector,
+      components named.0,
+      rules_for c.args.net.now c.args.query.now vector c.args.system.now c.of-layout.result c.keeps.ensures c.requires.query c.requires.system (c.of-layout.ensures vector c.args.query.now.bounds),
+      rw c.as_slice.ensures.value named.1,
+    )
+
+pub returns-clause-run : goal.returns-clause-run
+returns-clause-run c =
+    let vector = c.args.system.now.vector in
+    spelled_least c.args.net.now c.args.query.now vector c.keeps.ensures c.requires.query c.args.table.now (asked_table _ _ _ _ _ c.requires.system c.requires.table)
+    (rules_by (setup_given c.args.system.now)) c.in_ok-ids.ids.items c.in_ok-run_of.field-0 c.requires.reached (c.in_ok-ids.ensures.run c.args.system.now c.requires.table)
+    (λ w named.
+    (c.in_ok-run_of.ensures (asked c.args.net.now c.args.query.now vector) w
+    (rules_for c.args.net.now c.args.query.now vector c.args.system.now c.of-layout.result c.keeps.ensures c.requires.query c.requires.system (c.of-layout.ensures vector c.args.query.now.bounds))
+    (rw c.as_slice.ensures.value named)).0)

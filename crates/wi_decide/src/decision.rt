@@ -1,0 +1,175 @@
+//! Decisions.
+ghost use Rattle.std.specs.Prelude.{◌≡◌, ◌<◌, ◌≤◌, ℕ, List, true, Some, IsSome, IfSome, IfOk, IfErr, OnOk};
+ghost use Rattle.wi_world.specs.Holds.{word_for};
+ghost use Rattle.wi_query.specs.Meaning.{IsQueryOf};
+ghost use Rattle.wi_quantity.specs.declared.vector.Part.{Part};
+ghost use Rattle.wi_quantity.specs.Vectors.{is_vector};
+ghost use Rattle.wi_quantity.specs.Weighing.{components};
+ghost use Rattle.wi_pds.specs.Closed.{AreClosed};
+ghost use Rattle.wi_witness.specs.GoalRuns.{IsNamedRun};
+ghost use Rattle.wi_build.specs.Systems.{Given, IsGiven, setup_given, rules_by};
+ghost use Rattle.wi_decide.specs.Spelled.{scale};
+ghost use Rattle.wi_decide.specs.Tables.{asked, IsTable, HasTable, IsNoTable, IsNotShown, IsLeastRun};
+ghost use Rattle.wi_decide.specs.Decided.{IsDecided};
+ghost use Rattle.wi_decide.specs.Refusals.{IsUndecided, IsUnrefused};
+
+use crate::refused::DecideRefused;
+use crate::spelling::run_of;
+use std::alloc::Global;
+use std::marker::Brand;
+use std::sync::ledger::{Blank, Ledger};
+use wi_base::NoMemory;
+use wi_build::{Layout, LazySystem};
+use wi_net::Network;
+use wi_pds::{Heads, RuleId};
+use wi_quantity::{Vector, Weight};
+use wi_query::Query;
+use wi_reduce::reach;
+use wi_saturate::{LeastRefused, Steps, Table, least};
+use wi_trace::{Answer, verdict};
+use wi_witness::{UnfoldRefused, unfold};
+use wi_world::{Run, Verdict, Word};
+
+/// The most rules that a goal run may have whose run is shown.
+const EFFORT_LIMIT: u64 = 4_096;
+
+/// The answer to a query of the network; runs weigh what the vector says. A run is shown where its effort is at most 4,096.
+pub fn decide(
+    alloc: Global,
+    net: &Network,
+    query: &Query,
+    vector: &Vector,
+) -> Result<Answer, DecideRefused>
+    requires { IsQueryOf net.now query.now }
+    ensures decided { IfOk result (λ answer. IsDecided net.now query.now vector.now answer) }
+    ensures refused { IfErr result (λ refused. IsUndecided net.now query.now vector.now refused) }
+    ensures unrefused { IfOk result (λ answer. IsUnrefused net.now query.now vector.now answer) }
+{
+    net.keeps();
+    vector.keeps();
+    let system = LazySystem::new(alloc, net, query, vector, &query.bounds)?;
+    let heads = reach(alloc, &system)?;
+    let table = table_of::<Brand>(alloc, &system, &heads, Blank::new(1))?;
+    answer_of(alloc, net, query, &system, &table)
+}
+
+// The least summaries of heads, up to the goal. How many turns it takes is counted by the blank's ledger, and not looked at.
+fn table_of<L: Ledger>(
+    alloc: Global,
+    system: &LazySystem<'_>,
+    heads: &Heads,
+    blank: Blank,
+) -> Result<Table<Weight>, DecideRefused>
+    requires name { blank.name ≡ L.name }
+    requires parts { blank.parts ≡ L.parts }
+    requires some { 0 < blank.parts }
+    requires given { IsGiven system.now }
+    requires vector { is_vector system.now.vector ≡ true }
+    requires closed { AreClosed (rules_by (setup_given system.now)) (0, 0) heads.now.heads heads.now.pairs }
+    ensures table { IfOk result (λ table. IsTable system.now heads.now.heads table) }
+    ensures refused { IfErr result (λ refused. IsNoTable system.now heads.now.heads refused) }
+{
+    let mut steps = Steps::<L>::open(blank);
+    match least(alloc, system, heads, (0, 0, 1), None, &mut steps) {
+        Ok(table) => Ok(table),
+        Err(LeastRefused::Overflow { weight, .. }) => Err(DecideRefused::Overflow(weight)),
+        Err(LeastRefused::Memory) => Err(DecideRefused::Memory),
+    }
+}
+
+// The answer that a table gives: without a run to the goal it is a no.
+fn answer_of(
+    alloc: Global,
+    net: &Network,
+    query: &Query,
+    system: &LazySystem<'_>,
+    table: &Table<Weight>,
+) -> Result<Answer, DecideRefused>
+    requires query { IsQueryOf net.now query.now }
+    requires system { system.now ≡ asked net.now query.now system.now.vector }
+    requires table { HasTable system.now table.now }
+    ensures decided { IfOk result (λ answer. IsDecided net.now query.now system.now.vector answer) }
+    ensures refused { IfErr result (λ refused. IsUndecided net.now query.now system.now.vector refused) }
+    ensures unrefused { IfOk result (λ answer. IsUnrefused net.now query.now system.now.vector answer) }
+{
+    net.keeps();
+    let Some(weight) = table.best() else {
+        return Ok(Answer {
+            word: Word::No,
+            weight: None,
+            run: None,
+            verdict: None,
+        });
+    };
+    let run = least_run(alloc, net, query, system, table)?;
+    Ok(judged(alloc, net, query, weight, run)?)
+}
+
+// The run of the network that a table's goal run spells.
+fn least_run(
+    alloc: Global,
+    net: &Network,
+    query: &Query,
+    system: &LazySystem<'_>,
+    table: &Table<Weight>,
+) -> Result<Run, DecideRefused>
+    requires query { IsQueryOf net.now query.now }
+    requires system { system.now ≡ asked net.now query.now system.now.vector }
+    requires table { HasTable system.now table.now }
+    requires reached { IsSome table.now.best }
+    ensures run { IfOk result (λ run. IfSome table.now.best (λ w. IsLeastRun net.now query.now system.now.vector (components w) run)) }
+    ensures short { OnOk result (IfSome table.now.best (λ w. w.second.count ≤ 4096)) }
+    ensures refused { IfErr result (λ refused. IfSome table.now.best (λ w. IsNotShown w.second.count refused)) }
+{
+    net.keeps();
+    let ids = goal_run(alloc, table)?;
+    let layout = Layout::of(net, query);
+    Ok(run_of(alloc, net, &layout, system, ids.as_slice())?)
+}
+
+// The rules of a goal run of the goal's weight, if they aren't too many.
+fn goal_run(alloc: Global, table: &Table<Weight>) -> Result<Vec<RuleId>, DecideRefused>
+    requires table { (given : Given) × HasTable given table.now }
+    requires reached { IsSome table.now.best }
+    ensures run { IfOk result (λ ids. (given : Given) → HasTable given table.now → IfSome table.now.best (λ w. IsNamedRun scale components (rules_by (setup_given given)) 0 0 1 ids.items (components w))) }
+    ensures short { OnOk result (IfSome table.now.best (λ w. w.second.count ≤ 4096)) }
+    ensures refused { IfErr result (λ refused. IfSome table.now.best (λ w. IsNotShown w.second.count refused)) }
+{
+    match unfold(alloc, table, EFFORT_LIMIT) {
+        Ok(ids) => Ok(ids),
+        Err(UnfoldRefused::TooLong { effort }) => Err(DecideRefused::TooLong(effort as u64)),
+        Err(UnfoldRefused::Memory) => Err(DecideRefused::Memory),
+    }
+}
+
+// The answer with a least run, by the verdict on it.
+fn judged(
+    alloc: Global,
+    net: &Network,
+    query: &Query,
+    weight: Weight,
+    run: Run,
+) -> Result<Answer, NoMemory>
+    requires { IsQueryOf net.now query.now }
+    ensures run { IfOk result (λ answer. answer.run ≡ Some run) }
+    ensures decided { IfOk result (λ answer. (vector : List (List Part)) → IsLeastRun net.now query.now vector (components weight) run → IsDecided net.now query.now vector answer) }
+{
+    net.keeps();
+    let verdict = verdict(alloc, net, &run, &query.bounds)?;
+    Ok(Answer {
+        word: word_for(&verdict),
+        weight: Some(weight),
+        run: Some(run),
+        verdict: Some(verdict),
+    })
+}
+
+// The answer's word, by the verdict on a least run.
+fn word_for(verdict: &Verdict) -> Word
+    ensures { result ≡ word_for verdict.now }
+{
+    match verdict {
+        Verdict::Fits(_) => Word::Yes,
+        Verdict::Exceeds(_) | Verdict::UsesFailed(_) => Word::Inconclusive,
+    }
+}

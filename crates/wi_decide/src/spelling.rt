@@ -1,0 +1,138 @@
+//! The run that a goal run of the rules spells.
+ghost use Rattle.std.specs.Prelude.{◌≡◌, ◌∷◌, [], ℕ, List, true, Some, IsSome, IfOk, OnOk};
+ghost use Rattle.std.specs.List.{list_all};
+ghost use Rattle.wi_witness.specs.GoalRuns.{IsNamedRun};
+ghost use Rattle.wi_quantity.specs.Weighing.{components};
+ghost use Rattle.wi_rules.specs.Goals.{told_of};
+ghost use Rattle.wi_rules.specs.Numbers.{told_by};
+ghost use Rattle.wi_setup.specs.Answers.{IsAnswering};
+ghost use Rattle.wi_build.specs.Systems.{Given};
+ghost use Rattle.wi_decide.specs.Spelled.{scale, origin, AreRulesFor, unspelled, with_origin, named, with_rules, is_origin_of, is_named, IsToldRun};
+
+use std::alloc::Global;
+use std::marker::Model;
+use wi_base::{Listed, NoMemory};
+use wi_build::Layout;
+use wi_labels::{Class, Header, Label};
+use wi_net::{LinkId, Network};
+use wi_pds::{Rule, RuleId, System};
+use wi_quantity::Weight;
+use wi_rules::Origin;
+use wi_world::{Run, Step};
+
+// A run as far as rules have told of it.
+#[derive(Drop)]
+struct Spelling {
+    // The labels of the first header: it is made from the bottom up.
+    from_bottom: Vec<(Label, Class)>,
+    first: Option<LinkId>,
+    steps: Vec<Step>,
+}
+
+impl Model for Spelling {
+    ghost use Rattle.wi_decide.specs.Spelled.{Spelled};
+
+    ghost Value = { Spelled };
+
+    ghost view = { λ s. record { from_bottom = s.from_bottom.items; first = s.first; steps = s.steps.items } };
+}
+
+impl Spelling {
+    fn new(alloc: Global) -> Spelling
+        ensures { result ≡ unspelled }
+    {
+        Spelling {
+            from_bottom: Vec::new(alloc),
+            first: None,
+            steps: Vec::new(alloc),
+        }
+    }
+
+    // Reads a rule that stands for this.
+    fn read(&mut self, net: &Network, origin: Origin) -> Result<(), NoMemory>
+        requires { is_origin_of net.now origin ≡ true }
+        ensures { OnOk result (self.new ≡ with_origin net.now self.old origin) }
+    {
+        match origin {
+            Origin::Pushed(label) => self.from_bottom.push((label, net.class(label)))?,
+            Origin::SetOut(link) => self.first = Some(link),
+            Origin::Hop(step) => self.steps.push(step)?,
+            Origin::Operation(_, _) | Origin::Nothing => {}
+        }
+        Ok(())
+    }
+
+    // The run that was told.
+    fn into_run(self, alloc: Global) -> Result<Run, NoMemory>
+        requires { IsSome self.first }
+        ensures { IfOk result (λ run. IsToldRun self run) }
+    {
+        let Spelling {
+            mut from_bottom,
+            first,
+            steps,
+        } = self;
+        from_bottom.reverse();
+        Ok(Run {
+            first: first.unwrap(),
+            header: header_of(alloc, from_bottom.as_slice())?,
+            steps: Listed::of(steps),
+        })
+    }
+}
+
+// The header with these labels, top first.
+fn header_of(alloc: Global, labels: &[(Label, Class)]) -> Result<Header, NoMemory>
+    ensures { IfOk result (λ header. header ≡ labels.now) }
+{
+    match Header::from_labels(alloc, labels) {
+        Ok(header) => Ok(header),
+        Err(wi_labels::NoMemory::Memory) => Err(NoMemory::Memory),
+    }
+}
+
+// The rule that an id names.
+fn named<S: System<Weight>>(alloc: Global, sys: &S, id: RuleId) -> Result<Rule<Weight>, NoMemory>
+    requires { IsSome (named (S.rules sys.now) id) }
+    ensures { IfOk result (λ rule. named (S.rules sys.now) id ≡ Some rule) }
+{
+    let rules = sys.rules_of(alloc, id.p, id.g)?;
+    Ok(rules[id.at as usize])
+}
+
+// What the rules tell that ids name.
+fn spell<S: System<Weight>>(
+    alloc: Global,
+    net: &Network,
+    layout: &Layout,
+    sys: &S,
+    ids: &[RuleId],
+) -> Result<Spelling, NoMemory>
+    requires { list_all (is_named net.now (S.rules sys.now)) ids.now ≡ true }
+    ensures { IfOk result (λ s. s ≡ with_rules net.now (S.rules sys.now) unspelled ids.now) }
+{
+    let mut spelling = Spelling::new(alloc);
+    for id in ids {
+        let rule = named(alloc, sys, *id)?;
+        spelling.read(net, layout.rule_origin(&rule))?;
+    }
+    Ok(spelling)
+}
+
+/// The run of the network that a goal run of its rules spells, by what these stand for: a matching run of the moving world that
+/// weighs what the goal run does. The rules are those of a query within any bounds, from any system that has them.
+pub fn run_of<S: System<Weight>>(
+    alloc: Global,
+    net: &Network,
+    layout: &Layout,
+    sys: &S,
+    ids: &[RuleId],
+) -> Result<Run, NoMemory>
+    requires { (given : Given) × (w : List ℕ) × AreRulesFor given net.now layout.now (S.rules sys.now) × IsNamedRun scale components (S.rules sys.now) 0 0 1 ids.now w }
+    ensures { IfOk result (λ run. (given : Given) (w : List ℕ) → AreRulesFor given net.now layout.now (S.rules sys.now) →
+        (goal : IsNamedRun scale components (S.rules sys.now) 0 0 1 ids.now w) →
+        IsAnswering given.net given.query given.vector given.bounds w run × (told_by origin goal.0 ≡ told_of run)) }
+{
+    let spelling = spell(alloc, net, layout, sys, ids)?;
+    spelling.into_run(alloc)
+}

@@ -1,12 +1,4 @@
-pub mod Tokens
-pub mod Lexing
-pub mod Literal
-pub mod Parsing
-pub mod Question
-pub mod Layers
-pub mod Found
-pub mod Known
-pub mod Report
 pub mod Texts
 pub mod Edges
+pub mod Asked
 pub mod Run

@@ -1,58 +1,29 @@
 -- What the program does: the answers that it prints, why it refuses, and what it leaves.
-use Rattle.std.specs.Prelude.{◌≡◌, ◌⊎◌, ℕ, ◌≤◌, Bool, true, List, [], ◌∷◌, ◌++◌, length, Option, Some, None, Ok}
+use Rattle.std.specs.Prelude.{◌≡◌, ◌⊎◌, ℕ, ◌<◌, ◌≤◌, Bool, true, List, [], ◌∷◌, ◌++◌, length, Option, Some, None, Ok}
 use Rattle.wi_base.specs.declared.shelf.CallKind.{CallKind}
 use Rattle.wi_base.specs.declared.shelf.CallKind.TheVariants.{Fetch}
 use Rattle.wi_base.specs.Shelf.{IsLonger}
-use Rattle.wi_net.specs.declared.parts.LinkId.{LinkId}
 use Rattle.wi_net.specs.Net.{Net}
 use Rattle.wi_net.specs.Network.{IsNetwork}
 use Rattle.wi_netjson.specs.Reading.{Fails}
 use Rattle.wi_netjson.specs.File.{network_of}
 use Rattle.wi_netjson.specs.declared.fault.NetFault.{NetFault}
-use Rattle.wi_world.specs.declared.run.Run.{Run}
 use Rattle.wi_world.specs.declared.world.State.{State}
-use Rattle.wi_world.specs.declared.answer.Word.TheVariants.{Yes, No}
-use Rattle.wi_world.specs.declared.answer.Verdict.TheVariants.{Fits}
-use Rattle.wi_world.specs.Holds.{Holds}
 use Rattle.wi_script.specs.declared.script.Script.{Script}
 use Rattle.wi_script.specs.declared.script.ScriptRefused.{ScriptRefused}
 use Rattle.wi_script.specs.Scripts.{IsScript, IsRefused as IsNoScript}
 use Rattle.wi_trace.specs.Plays.{begin, states_of, IsRefused as IsNotPlayed}
 use Rattle.wi_report.specs.States.{states_shown}
 use Rattle.wi_words.specs.Commands.{Command, Verify, Play, command_of}
-use Rattle.wi_app.specs.Literal.{Asked, IsLiteral}
-use Rattle.wi_app.specs.Question.{question_of, effort_alone}
-use Rattle.wi_app.specs.Report.{yes_report, no_report}
+use Rattle.wi_decide.specs.Refusals.{IsOverflowing, IsTooLong}
+use Rattle.wi_query.specs.declared.query.Query.{Query}
+use Rattle.wi_quantity.specs.declared.vector.Part.{Part}
+use Rattle.wi_app.specs.Asked.{ForAsked, FromTexts, IsAnswer}
 use Rattle.wi_app.specs.Edges.{ShelfSeen, Seen, Untouched, PutAll, PutPart, PutNothing, SaysWhy}
 use Rattle.wi_app.specs.declared.refusal.Refusal.{Refusal}
-use Rattle.wi_app.specs.declared.refusal.Refusal.TheVariants.{Usage, CannotRead, Network, NotLiteral, Script as BadScript, LongScript, CannotPrint, Memory}
+use Rattle.wi_app.specs.declared.refusal.Refusal.TheVariants.{Usage, CannotRead, Network, Script as BadScript, LongScript, CannotPrint, Memory}
 
 -- ---- answers
-
--- a yes that holds, status 0, with its report
-pub record IsYesReport (net : Net) (asked : Asked) (status : ℕ) (text : List ℕ) : Type 0 where
-  pub status_is : status ≡ 0
-  pub effort : ℕ
-  pub run : Run
-  pub fails : List LinkId
-  pub holds : Holds net (question_of net asked) (effort_alone net) Yes (Some (effort ∷ [])) (Some run) (Some (Fits fails))
-  pub text_is : text ≡ yes_report net effort fails run
-
--- a no that holds, status 1, with its report
-pub record IsNoReport (net : Net) (asked : Asked) (status : ℕ) (text : List ℕ) : Type 0 where
-  pub status_is : status ≡ 1
-  pub holds : Holds net (question_of net asked) (effort_alone net) No None None None
-  pub text_is : text ≡ no_report
-
-abbrev pub Reports : Net → Asked → ℕ → List ℕ → Type 0
-Reports net asked status text = IsYesReport net asked status text ⊎ IsNoReport net asked status text
-
--- the report on what a query text asks of a network
-pub record IsAnswer (net : Net) (query : List ℕ) (status : ℕ) (text : List ℕ) : Type 0 where
-  pub network : IsNetwork net
-  pub asked : Asked
-  pub reads : IsLiteral net query asked
-  pub reports : Reports net asked status text
 
 -- the lines of the states of the moving world while bytes, which are a script of the network, are played with at most k risk
 -- groups failed
@@ -72,7 +43,7 @@ HoldsNetwork (Some bytes) net = network_of bytes ≡ Ok net
 
 -- an answer to a command: where the shelf tells, over the files that it holds under the names
 abbrev pub IsAnswered : Bool → (List ℕ → Option (List ℕ)) → Command → ℕ → List ℕ → Type 0
-IsAnswered told file (Verify name query) status text = (net : Net) × (told ≡ true → HoldsNetwork (file name) net) × IsAnswer net query status text
+IsAnswered told file (Verify name query weights) status text = (net : Net) × (told ≡ true → HoldsNetwork (file name) net) × IsAnswer net query weights status text
 IsAnswered told file (Play name script k) status text =
     (net : Net) × (bytes : List ℕ) × (told ≡ true → HoldsNetwork (file name) net) × (told ≡ true → file script ≡ Some bytes) × IsPlay net k bytes text × (status ≡ 0)
 
@@ -99,16 +70,6 @@ FromNetwork told file name before after (Network fault) = (after ≡ before) × 
 FromNetwork told file name before after Memory = after ≡ before
 FromNetwork told file name before after refusal = ⊥
 
--- a text is no literal query of the network
-abbrev pub IsNoLiteral : Net → List ℕ → Type 0
-IsNoLiteral net query = (asked : Asked) → IsLiteral net query asked → ⊥
-
--- the text of the query is the cause
-abbrev pub FromQuery : Net → List ℕ → Refusal → Type 0
-FromQuery net query NotLiteral = IsNoLiteral net query
-FromQuery net query Memory = Unit {0}
-FromQuery net query refusal = ⊥
-
 -- bytes aren't a script of the network, or are one with an event that isn't allowed
 abbrev pub IsBadScript : Net → ℕ → List ℕ → ScriptRefused → Type 0
 IsBadScript net k bytes refused = IsNoScript net bytes refused ⊎ ((script : Script) × IsScript net bytes script × IsNotPlayed net k script refused)
@@ -129,9 +90,9 @@ FromScript told file net name k before after refusal = ⊥
 
 -- the network file is the cause, or, that being a network's, what is asked of it
 abbrev pub FromCommand : Bool → (List ℕ → Option (List ℕ)) → Command → List (CallKind × List ℕ) → List (CallKind × List ℕ) → Refusal → Type 0
-FromCommand told file (Verify name query) before after refusal =
+FromCommand told file (Verify name query weights) before after refusal =
     FromNetwork told (file name) name before after refusal
-    ⊎ ((net : Net) × (told ≡ true → HoldsNetwork (file name) net) × FromQuery net query refusal × (after ≡ before))
+    ⊎ ((net : Net) × (told ≡ true → HoldsNetwork (file name) net) × FromTexts net query weights refusal × (after ≡ before))
 FromCommand told file (Play name script k) before after refusal =
     FromNetwork told (file name) name before after refusal
     ⊎ ((net : Net) × (told ≡ true → HoldsNetwork (file name) net) × FromScript told (file script) net script k before after refusal)
@@ -172,20 +133,29 @@ abbrev pub Does : List (List ℕ) → ShelfSeen → ShelfSeen → Seen → Seen 
 Does words shelf_old shelf_new out_old out_new err_old err_new result =
     IsDone words shelf_old shelf_new out_old out_new err_old err_new result ⊎ IsRefused words shelf_old shelf_new out_old out_new err_old err_new result
 
--- a command can be answered: the shelf holds a network's file, and the text is a literal query; or it holds a script, too, that
--- can be played
+-- a command can be answered: the shelf holds a network's file, and the texts are a query of it and weights; or it holds a
+-- script, too, that can be played
 abbrev pub CanBeAnswered : (List ℕ → Option (List ℕ)) → Command → Type 0
-CanBeAnswered file (Verify name query) = (net : Net) × HoldsNetwork (file name) net × ((asked : Asked) × IsLiteral net query asked)
+CanBeAnswered file (Verify name query weights) = (net : Net) × HoldsNetwork (file name) net × ForAsked net query weights (λ q vector. Unit {0})
 CanBeAnswered file (Play name script k) = (net : Net) × HoldsNetwork (file name) net × ((bytes text : List ℕ) × (file script ≡ Some bytes) × IsPlay net k bytes text)
 
--- the statuses of answers to a command
-abbrev pub IsStatus : Command → ℕ → Type 0
-IsStatus (Verify name query) result = (result ≡ 0) ⊎ (result ≡ 1)
-IsStatus (Play name script k) result = result ≡ 0
+-- how a query may end: with yes or no, with inconclusive where something may fail, or with a refusal that is due
+abbrev pub MayEnd : Net → Query → List (List Part) → ℕ → Type 0
+MayEnd net query vector status =
+    (status ≡ 0)
+    ⊎ (status ≡ 1)
+    ⊎ ((status ≡ 2) × (0 < query.bounds.k))
+    ⊎ ((status ≡ 6) × ((w : List ℕ) × IsOverflowing net query vector w))
+    ⊎ ((status ≡ 7) × ((effort : ℕ) × IsTooLong net query vector effort))
 
--- then it is answered, unless a call fails or memory runs out
+-- the statuses with which a command may end that can be answered
+abbrev pub IsStatus : (List ℕ → Option (List ℕ)) → Command → ℕ → Type 0
+IsStatus file (Verify name query weights) status = (net : Net) × HoldsNetwork (file name) net × ForAsked net query weights (λ q vector. MayEnd net q vector status)
+IsStatus file (Play name script k) status = status ≡ 0
+
+-- it ends with one of those, unless a call fails or memory runs out
 abbrev pub Completes : List (List ℕ) → ShelfSeen → ShelfSeen → Seen → Seen → Seen → Seen → ℕ → Type 0
 Completes words shelf_old shelf_new out_old out_new err_old err_new result =
     (command : Command) → command_of words ≡ Some command → shelf_old.told ≡ true → CanBeAnswered shelf_old.file command
     → shelf_new.failed ≡ shelf_old.failed → out_new.faults ≡ out_old.faults → err_new.faults ≡ err_old.faults
-    → IsStatus command result ⊎ (result ≡ 11)
+    → IsStatus shelf_old.file command result ⊎ (result ≡ 11)

@@ -3,16 +3,22 @@ use Rattle.std.specs.Prelude.{ℕ, List, ◌++◌, codes}
 use Rattle.wi_netjson.specs.declared.fault.NetFault.TheVariants as fault
 use Rattle.wi_script.specs.declared.script.ScriptRefused.TheVariants as script
 use Rattle.wi_report.specs.NetworkFaults.{fault_text}
+use Rattle.wi_quantity.specs.declared.fault.WeightFault.TheVariants as weights
 use Rattle.wi_report.specs.States.{script_fault_text}
+use Rattle.wi_report.specs.WeightFaults.{weight_fault_text}
+use Rattle.wi_report.specs.RefusedDecisions.{overflow_text, too_long_text}
 use Rattle.wi_app.specs.declared.refusal.Refusal.{Refusal}
-use Rattle.wi_app.specs.declared.refusal.Refusal.TheVariants.{Usage, CannotRead, Network, NotLiteral, Script, LongScript, CannotPrint, Memory}
+use Rattle.wi_app.specs.declared.refusal.Refusal.TheVariants.{Usage, CannotRead, Network, Query, Weights, Overflow, TooLong, Script, LongScript, CannotPrint, Memory}
 
 -- what is said
 abbrev pub text_of : Refusal → List ℕ
-text_of Usage = codes "usage: whatif verify NETWORK QUERY\n       whatif play NETWORK SCRIPT K\n"
+text_of Usage = codes "usage: whatif verify NETWORK QUERY [--weights W]\n       whatif play NETWORK SCRIPT K\n"
 text_of (CannotRead name) = codes "whatif: cannot read " ++ name.now ++ codes "\n"
 text_of (Network f) = fault_text f
-text_of NotLiteral = codes "query: not literal\n"
+text_of (Query said) = said
+text_of (Weights f) = weight_fault_text f
+text_of (Overflow w terms) = overflow_text terms w
+text_of (TooLong effort) = too_long_text effort
 text_of (Script refused) = script_fault_text refused
 text_of LongScript = codes "script: over the limit 1048576\n"
 text_of CannotPrint = codes "whatif: cannot print\n"
@@ -24,7 +30,11 @@ status_of Usage = 9
 status_of (CannotRead name) = 10
 status_of (Network fault.Memory) = 11
 status_of (Network f) = 3
-status_of NotLiteral = 4
+status_of (Query said) = 4
+status_of (Weights weights.Memory) = 11
+status_of (Weights f) = 5
+status_of (Overflow w terms) = 6
+status_of (TooLong effort) = 7
 status_of (Script script.Memory) = 11
 status_of (Script refused) = 12
 status_of LongScript = 12

@@ -12,7 +12,7 @@ use wi_base::Shelf;
 use wi_text::Text;
 use wi_words::{Command, command_of};
 
-/// What is to be printed, with the exit status: 1 for a no, and else 0.
+/// What is to be printed, with the exit status: 1 for a no, 2 for an inconclusive, and else 0.
 #[derive(Drop)]
 pub struct Printed {
     pub status: u8,
@@ -48,7 +48,11 @@ fn answer_to<'a, S: Shelf>(
     ensures refused { IfErr result (λ refusal. FromCommand (S.told shelf.old) (S.file shelf.old) (shown command.entry) (S.failed shelf.old) (S.failed shelf.new) refusal) }
 {
     match command {
-        Command::Verify { network, query } => verify(alloc, network, query, shelf),
+        Command::Verify {
+            network,
+            query,
+            weights,
+        } => verify(alloc, network, query, weights, shelf),
         Command::Play { network, script, k } => play(alloc, network, script, k, shelf),
     }
 }

@@ -4,12 +4,8 @@
 mod answer;
 mod app;
 mod fetch;
-mod literal;
 mod play;
 mod refusal;
-mod report;
-mod search;
-mod tokens;
 mod verify;
 
 pub use app::run;

@@ -6,12 +6,15 @@ ghost use Rattle.wi_app.specs.Edges.{Says, SaysWhy, kept, seen};
 use std::alloc::Global;
 use wi_base::{NoMemory, PutRefused, Sink};
 use wi_netjson::NetFault;
-use wi_report::{network_fault_text, script_fault_text};
+use wi_quantity::{Weight, WeightFault};
+use wi_report::{
+    network_fault_text, overflow_text, script_fault_text, too_long_text, weight_fault_text,
+};
 use wi_text::Text;
 use wi_trace::ScriptRefused;
 
 /// Why nothing is printed.
-#[derive(Clone, Copy)]
+#[derive(Drop)]
 pub enum Refusal<'a> {
     /// The words are no command.
     Usage,
@@ -19,8 +22,14 @@ pub enum Refusal<'a> {
     CannotRead(&'a str),
     /// The network file has this fault.
     Network(NetFault),
-    /// The text is no literal query of the network.
-    NotLiteral,
+    /// The text of the query has a fault, of which this is said.
+    Query(Text),
+    /// The text of the weights has this fault.
+    Weights(WeightFault),
+    /// A summary has this weight, which doesn't fit; so many terms of it are shown.
+    Overflow(Weight, usize),
+    /// The least run has this effort, which is too much.
+    TooLong(u64),
     /// The script has this fault, or an event that isn't allowed.
     Script(ScriptRefused),
     /// The script has too many bytes.
@@ -43,13 +52,17 @@ impl From<NoMemory> for Refusal<'_> {
 }
 
 /// The exit status.
-pub fn status_of(refusal: Refusal<'_>) -> u8
-    ensures { result ≡ status_of refusal.entry }
+pub fn status_of(refusal: &Refusal<'_>) -> u8
+    ensures { result ≡ status_of refusal.now }
 {
     match refusal {
         Refusal::Network(NetFault::Memory) => 11,
         Refusal::Network(_) => 3,
-        Refusal::NotLiteral => 4,
+        Refusal::Query(_) => 4,
+        Refusal::Weights(WeightFault::Memory) => 11,
+        Refusal::Weights(_) => 5,
+        Refusal::Overflow(_, _) => 6,
+        Refusal::TooLong(_) => 7,
         Refusal::Usage => 9,
         Refusal::CannotRead(_) => 10,
         Refusal::CannotPrint => 10,
@@ -65,7 +78,7 @@ pub fn say<E: Sink>(alloc: Global, refusal: Refusal<'_>, err: &mut E) -> u8
     requires { E.faults err.old < 2 ^ 64 - 1 }
     ensures { SaysWhy refusal.entry (seen E.told E.written E.faults err.old) (seen E.told E.written E.faults err.new) result }
 {
-    let status = status_of(refusal);
+    let status = status_of(&refusal);
     match text_of(alloc, refusal) {
         Ok(text) => put(text.as_bytes(), status, err),
         Err(NoMemory::Memory) => put(b"whatif: out of memory\n", kept(status), err),
@@ -98,11 +111,14 @@ fn text_of(alloc: Global, refusal: Refusal<'_>) -> Result<Text, NoMemory>
     match refusal {
         Refusal::Usage => words(
             alloc,
-            "usage: whatif verify NETWORK QUERY\n       whatif play NETWORK SCRIPT K\n",
+            "usage: whatif verify NETWORK QUERY [--weights W]\n       whatif play NETWORK SCRIPT K\n",
         ),
         Refusal::CannotRead(name) => cannot_read(alloc, name),
         Refusal::Network(fault) => network_fault_text(alloc, fault),
-        Refusal::NotLiteral => words(alloc, "query: not literal\n"),
+        Refusal::Query(said) => Ok(said),
+        Refusal::Weights(fault) => weight_fault_text(alloc, &fault),
+        Refusal::Overflow(weight, terms) => overflow_text(alloc, &weight, terms),
+        Refusal::TooLong(effort) => too_long_text(alloc, effort),
         Refusal::Script(refused) => script_fault_text(alloc, &refused),
         Refusal::LongScript => words(alloc, "script: over the limit 1048576\n"),
         Refusal::CannotPrint => words(alloc, "whatif: cannot print\n"),

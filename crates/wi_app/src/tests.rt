@@ -1,6 +1,7 @@
 //! The program over files and streams in memory.
 use crate::run;
 use std::alloc::{AllocError, Global};
+use std::process::Abort;
 use std::str::from_utf8;
 use std::test::Fail;
 use wi_base::{FailingPut, MemoryShelf, MemorySink};
@@ -20,20 +21,13 @@ fn n6() -> &'static str {
     r#"{"format":"mpls-whatif-2","routers":["x","a","b","c","y"],"labels":{"mpls":["30"],"smpls":["s10"],"ip":["ip1"]},"links":[{"from":"x","out":"o","to":"a","in":"x","distance":1},{"from":"a","out":"b","to":"b","in":"a","distance":1,"group":"fiber"},{"from":"a","out":"c","to":"c","in":"a","distance":2},{"from":"c","out":"b","to":"b","in":"c","distance":2},{"from":"b","out":"y","to":"y","in":"b","distance":1,"group":"fiber"}],"tables":[{"at":"a","in":"x","label":"ip1","groups":[[{"out":"b","ops":[["push","s10"]]}],[{"out":"c","ops":[["push","s10"],["push","30"]]}]]},{"at":"b","in":"a","label":"s10","groups":[[{"out":"y","ops":[["pop"]]}]]},{"at":"c","in":"a","label":"30","groups":[[{"out":"b","ops":[["pop"]]}]]},{"at":"b","in":"c","label":"s10","groups":[[{"out":"y","ops":[["pop"]]}]]}]}"#
 }
 
-// What is printed for the first path of the network.
-fn first_report() -> &'static str {
-    "answer: yes\nweight: none\neffort: 8\nfailed: none\nmoving: yes\nlinks: 3\nx.o#a.x | ip1\na.b#b.a | s10 ip1 | group 1 member 1\nb.y#y.b | ip1 | group 1 member 1\n"
+// The first network, and a way from b to z for what comes from c.
+fn n2() -> &'static str {
+    r#"{"format":"mpls-whatif-1","routers":["x","a","b","c","y","z"],"labels":{"mpls":["30"],"smpls":["s10"],"ip":["ip1"]},"links":[{"from":"x","out":"o","to":"a","in":"x","distance":1},{"from":"a","out":"b","to":"b","in":"a","distance":1},{"from":"a","out":"c","to":"c","in":"a","distance":2},{"from":"c","out":"b","to":"b","in":"c","distance":2},{"from":"b","out":"y","to":"y","in":"b","distance":1},{"from":"b","out":"z","to":"z","in":"b","distance":1}],"tables":[{"at":"a","in":"x","label":"ip1","groups":[[{"out":"b","ops":[["push","s10"]]}],[{"out":"c","ops":[["push","s10"],["push","30"]]}]]},{"at":"b","in":"a","label":"s10","groups":[[{"out":"y","ops":[["pop"]]}]]},{"at":"c","in":"a","label":"30","groups":[[{"out":"b","ops":[["pop"]]}]]},{"at":"b","in":"c","label":"s10","groups":[[{"out":"y","ops":[["pop"]]}],[{"out":"z","ops":[["pop"]]}]]}]}"#
 }
 
 // What `run` ends with for a no.
-fn ended_with_no() -> &'static str {
-    "1<answer: no\nmoving: no\n><>"
-}
-
-// What `run` ends with for a query that is not literal.
-fn not_literal() -> &'static str {
-    "4<><query: not literal\n>"
-}
+const ENDED_WITH_NO: &str = "1<answer: no\nmoving: no\n><>";
 
 // The status, and what was written on the two streams, the calls on which fail as the lists say.
 fn ran(
@@ -55,18 +49,31 @@ fn ran(
     format!(in alloc; "{status}<{printed}><{said}>")
 }
 
-// The same for a query over the bytes of a network file.
-fn verified(alloc: Global, network: &[u8], query: &str) -> Result<String, Fail> {
+// The same for a query, and weights where there are some, over the bytes of a network file.
+fn weighed(
+    alloc: Global,
+    network: &[u8],
+    query: &str,
+    weights: Option<&str>,
+) -> Result<String, Fail> {
     let mut shelf = MemoryShelf::new(alloc);
     shelf.insert("n", network)?;
-    let words = ["whatif", "verify", "n", query];
-    Ok(ran(
-        alloc,
-        words.as_slice(),
-        &mut shelf,
-        Vec::new(alloc),
-        Vec::new(alloc),
-    )?)
+    let calm = || Vec::new(alloc);
+    let said = match weights {
+        Some(text) => {
+            let words = ["whatif", "verify", "n", query, "--weights", text];
+            ran(alloc, words.as_slice(), &mut shelf, calm(), calm())?
+        }
+        None => {
+            let words = ["whatif", "verify", "n", query];
+            ran(alloc, words.as_slice(), &mut shelf, calm(), calm())?
+        }
+    };
+    Ok(said)
+}
+
+fn verified(alloc: Global, network: &[u8], query: &str) -> Result<String, Fail> {
+    weighed(alloc, network, query, None)
 }
 
 // The same over the network, one part of which was replaced.
@@ -75,51 +82,158 @@ fn verified_with(alloc: Global, old: &str, new: &str, query: &str) -> Result<Str
     verified(alloc, text.as_bytes(), query)
 }
 
+// A query, and weights where there are some, with what `run` is to end with.
+type Case<'a> = (&'a str, Option<&'a str>, &'a str);
+
+fn cases_are(rt: &impl Abort, alloc: Global, network: &str, cases: &[Case]) -> Result<(), Fail> {
+    for (query, weights, wanted) in cases {
+        let said = weighed(alloc, network.as_bytes(), query, *weights)?;
+        assert_eq!(rt; said.as_str(), *wanted, "{query}");
+    }
+    Ok(())
+}
+
 #[test]
-fn the_first_path(rt: HostRuntime) -> Result<(), Fail> {
-    let said = verified(
+fn answers_on_the_first_network(rt: HostRuntime) -> Result<(), Fail> {
+    let round =
+        "0<answer: yes\nweight: none\neffort: 10\nfailed: a.b#b.a\nmoving: yes\nlinks: 4\nx.o#a.x | ip1\na.c#c.a | 30 s10 ip1 | group 2 member 1\nc.b#b.c | s10 ip1 | group 1 member 1\nb.y#y.b | ip1 | group 1 member 1\n><>";
+    let cases: [Case; 10] = [
+        (
+            "<ip1> [x#a] .* [b#y] <ip1> 0",
+            Some("Hops"),
+            "0<answer: yes\nweight: 3\neffort: 8\nfailed: none\nmoving: yes\nlinks: 3\nx.o#a.x | ip1\na.b#b.a | s10 ip1 | group 1 member 1\nb.y#y.b | ip1 | group 1 member 1\n><>",
+        ),
+        // The backup needs a failure.
+        ("<ip1> [x#a] [a#c] .* [b#y] <ip1> 0", None, ENDED_WITH_NO),
+        (
+            "<ip1> [x#a] [a#c] .* [b#y] <ip1> 1",
+            Some("Hops, Distance+3*Tunnels"),
+            "0<answer: yes\nweight: 4 12\neffort: 10\nfailed: a.b#b.a\nmoving: yes\nlinks: 4\nx.o#a.x | ip1\na.c#c.a | 30 s10 ip1 | group 2 member 1\nc.b#b.c | s10 ip1 | group 1 member 1\nb.y#y.b | ip1 | group 1 member 1\n><>",
+        ),
+        (
+            "<s10 ip1> [a#b]+ <smpls ip> 0",
+            None,
+            "0<answer: yes\nweight: none\neffort: 8\nfailed: none\nmoving: yes\nlinks: 1\na.b#b.a | s10 ip1\n><>",
+        ),
+        // The word is in the expression, but it is no valid header.
+        ("<30 ip1> .* <.*> 0", None, ENDED_WITH_NO),
+        // A link known to be down is not counted, one known to be up can't have failed, and none sets out on one that is down.
+        ("<ip1> [x#a] .* [b#y] <ip1> 0 down [a#b]", None, round),
+        (
+            "<ip1> [x#a] [a#c] .* [b#y] <ip1> 5 up [a#b]",
+            None,
+            ENDED_WITH_NO,
+        ),
+        (
+            "<ip1> [x#a] .* [b#y] <ip1> 0 down [x#a]",
+            None,
+            ENDED_WITH_NO,
+        ),
+        (
+            "<ip1> [x#a] .* [b#y] <ip1> 0 down [a#b] up [.#b]",
+            None,
+            "4<><query: link a.b#b.a both down and up\n>",
+        ),
+        ("<ip1> [x#a] [a#c] .* [b#y] <ip1> 65535", None, round),
+    ];
+    cases_are(&rt, rt.alloc(), n1(), cases.as_slice())
+}
+
+#[test]
+fn answers_that_need_two_failures(rt: HostRuntime) -> Result<(), Fail> {
+    let cases: [Case; 3] = [
+        (
+            "<ip1> [x#a] [a#c] .* [b#z] <ip1> 1",
+            None,
+            "2<answer: inconclusive\nweight: none\neffort: 10\nneeds: a.b#b.a b.y#y.b\ncause: needs 2, allowed 1\nmoving: yes\nlinks: 4\nx.o#a.x | ip1\na.c#c.a | 30 s10 ip1 | group 2 member 1\nc.b#b.c | s10 ip1 | group 1 member 1\nb.z#z.b | ip1 | group 2 member 1\n><>",
+        ),
+        (
+            "<ip1> [x#a] [a#c] .* [b#z] <ip1> 2",
+            None,
+            "0<answer: yes\nweight: none\neffort: 10\nfailed: a.b#b.a b.y#y.b\nmoving: yes\nlinks: 4\nx.o#a.x | ip1\na.c#c.a | 30 s10 ip1 | group 2 member 1\nc.b#b.c | s10 ip1 | group 1 member 1\nb.z#z.b | ip1 | group 2 member 1\n><>",
+        ),
+        ("<ip1> [x#a] [a#c] .* [b#z] <ip1> 0", None, ENDED_WITH_NO),
+    ];
+    cases_are(&rt, rt.alloc(), n2(), cases.as_slice())
+}
+
+#[test]
+fn a_run_that_uses_a_link_it_needs_failed(rt: HostRuntime) -> Result<(), Fail> {
+    let cases: [Case; 1] = [(
+        "<ip1> [x#a] [a#c] [c#a] [a#b] .* <ip1> 5",
+        None,
+        "2<answer: inconclusive\nweight: none\neffort: 11\nneeds: a.b#b.a\ncause: uses a.b#b.a\nmoving: yes\nlinks: 5\nx.o#a.x | ip1\na.c#c.a | 30 s10 ip1 | group 2 member 1\nc.a2#a.c2 | 31 s10 ip1 | group 1 member 1\na.b#b.a | s10 ip1 | group 1 member 1\nb.y#y.b | ip1 | group 1 member 1\n><>",
+    )];
+    cases_are(&rt, rt.alloc(), n3(), cases.as_slice())
+}
+
+#[test]
+fn a_risk_group_is_needed_as_a_whole(rt: HostRuntime) -> Result<(), Fail> {
+    let cases: [Case; 1] = [(
+        "<ip1> [x#a] [a#c] .* [b#y] <ip1> 1",
+        None,
+        "2<answer: inconclusive\nweight: none\neffort: 10\nneeds: a.b#b.a b.y#y.b\ncause: uses b.y#y.b\nmoving: yes\nlinks: 4\nx.o#a.x | ip1\na.c#c.a | 30 s10 ip1 | group 2 member 1\nc.b#b.c | s10 ip1 | group 1 member 1\nb.y#y.b | ip1 | group 1 member 1\n><>",
+    )];
+    cases_are(&rt, rt.alloc(), n6(), cases.as_slice())
+}
+
+// A network text of version 2, in which two links are in one risk group.
+fn in_one_group(
+    alloc: Global,
+    network: &str,
+    one: &str,
+    other: &str,
+) -> Result<String, AllocError> {
+    let text = network.replace(alloc, "mpls-whatif-1", "mpls-whatif-2")?;
+    let grouped = format!(in alloc; "{one},\"group\":\"fiber\"")?;
+    let text = text.replace(alloc, one, grouped.as_str())?;
+    let grouped = format!(in alloc; "{other},\"group\":\"fiber\"")?;
+    text.replace(alloc, other, grouped.as_str())
+}
+
+#[test]
+fn risk_groups_are_counted(rt: HostRuntime) -> Result<(), Fail> {
+    let to_b = r#""to":"b","in":"a","distance":1"#;
+    let to_y = r#""to":"y","in":"b","distance":1"#;
+    let to_c = r#""to":"c","in":"a","distance":2"#;
+    let text = in_one_group(rt.alloc(), n2(), to_b, to_y)?;
+    let cases: [Case; 1] = [(
+        "<ip1> [x#a] [a#c] .* [b#z] <ip1> 1",
+        Some("Failures"),
+        "0<answer: yes\nweight: 2\neffort: 10\nfailed: a.b#b.a b.y#y.b\nmoving: yes\nlinks: 4\nx.o#a.x | ip1\na.c#c.a | 30 s10 ip1 | group 2 member 1\nc.b#b.c | s10 ip1 | group 1 member 1\nb.z#z.b | ip1 | group 2 member 1\n><>",
+    )];
+    cases_are(&rt, rt.alloc(), text.as_str(), cases.as_slice())?;
+    // The backup goes out in the cable of what it backs up.
+    let text = in_one_group(rt.alloc(), n1(), to_b, to_c)?;
+    let cases: [Case; 1] = [("<ip1> [x#a] [a#c] .* [b#y] <ip1> 5", None, ENDED_WITH_NO)];
+    cases_are(&rt, rt.alloc(), text.as_str(), cases.as_slice())
+}
+
+#[test]
+fn members_that_can_never_be_used(rt: HostRuntime) -> Result<(), Fail> {
+    let first =
+        r#"[{"out":"b","ops":[["push","s10"]]}],[{"out":"c","ops":[["push","s10"],["push","30"]]}]"#;
+    // Both groups lead onto one link.
+    let said = verified_with(
         rt.alloc(),
-        n1().as_bytes(),
-        "<ip1> [x#a] [a#b] [b#y] <ip1> 0",
+        first,
+        r#"[{"out":"b","ops":[["swap","ip1"]]}],[{"out":"b","ops":[["push","s10"]]}]"#,
+        "<ip1> [x#a] [a#b] <s10 ip1> 5",
     )?;
-    let wanted = format!(in rt.alloc(); "0<{}><>", first_report())?;
-    assert_eq!(rt; said.as_str(), wanted.as_str());
-    Ok(())
-}
-
-#[test]
-fn other_paths_are_none(rt: HostRuntime) -> Result<(), Fail> {
-    let queries = [
-        // the second group isn't used where nothing fails
-        "<ip1> [x#a] [a#c] [c#b] [b#y] <ip1> 0",
-        // the first header is not valid
-        "<30 ip1> [x#a] <ip1> 0",
-        "<30 ip1> [x#a] <30 ip1> 0",
-        // another header comes to the end
-        "<ip1> [x#a] [a#b] [b#y] <s10 ip1> 0",
-        // no entry goes on
-        "<ip1> [x#a] [a#b] [b#y] [y#x] <ip1> 0",
-        "<s10 ip1> [x#a] [a#b] <s10 ip1> 0",
-    ];
-    for query in queries {
-        let said = verified(rt.alloc(), n1().as_bytes(), query)?;
-        assert_eq!(rt; said.as_str(), ended_with_no(), "{query}");
-    }
-    Ok(())
-}
-
-#[test]
-fn an_undefined_operation_is_no_hop(rt: HostRuntime) -> Result<(), Fail> {
-    let old = r#"[["push","s10"]]}],[{"out":"c""#;
-    let new = r#"[["push","30"]]}],[{"out":"c""#;
-    let queries = [
-        "<ip1> [x#a] [a#b] [b#y] <ip1> 0",
-        "<ip1> [x#a] [a#c] [c#b] [b#y] <ip1> 0",
-    ];
-    for query in queries {
-        let said = verified_with(rt.alloc(), old, new, query)?;
-        assert_eq!(rt; said.as_str(), ended_with_no(), "{query}");
-    }
+    assert_eq!(rt; said.as_str(), ENDED_WITH_NO);
+    // The first group is active, and its operation is undefined.
+    let undefined =
+        r#"[{"out":"b","ops":[["push","30"]]}],[{"out":"c","ops":[["push","s10"],["push","30"]]}]"#;
+    let query = "<ip1> [x#a] [a#c] .* [b#y] <ip1> 0";
+    let said = verified_with(rt.alloc(), first, undefined, query)?;
+    assert_eq!(rt; said.as_str(), ENDED_WITH_NO);
+    let query = "<ip1> [x#a] [a#c] .* [b#y] <ip1> 1";
+    let said = verified_with(rt.alloc(), first, undefined, query)?;
+    assert!(rt;
+        said.starts_with(
+            "0<answer: yes\nweight: none\neffort: 10\nfailed: a.b#b.a\nmoving: yes\nlinks: 4\n"
+        )
+    );
     Ok(())
 }
 
@@ -137,15 +251,6 @@ fn a_least_run_is_shown(rt: HostRuntime) -> Result<(), Fail> {
 }
 
 #[test]
-fn one_link_is_a_path(rt: HostRuntime) -> Result<(), Fail> {
-    let said = verified(rt.alloc(), n1().as_bytes(), "<s10 ip1>[a#b]<s10 ip1>0")?;
-    let wanted =
-        "0<answer: yes\nweight: none\neffort: 8\nfailed: none\nmoving: yes\nlinks: 1\na.b#b.a | s10 ip1\n><>";
-    assert_eq!(rt; said.as_str(), wanted);
-    Ok(())
-}
-
-#[test]
 fn names_that_need_quotation_marks(rt: HostRuntime) -> Result<(), Fail> {
     let text = n1().replace(rt.alloc(), "\"ip1\"", "\"ip\"")?;
     let text = text.replace(rt.alloc(), "\"b\"", "\"b-1\"")?;
@@ -158,50 +263,70 @@ fn names_that_need_quotation_marks(rt: HostRuntime) -> Result<(), Fail> {
 }
 
 #[test]
-fn texts_that_are_no_literal_query(rt: HostRuntime) -> Result<(), Fail> {
-    let queries = [
-        "",
-        "<ip1> .* <ip1> 0",
-        "<ip1> [x#a] <ip1>",
-        "<ip1> [x#a] <ip1> 1",
-        "<ip1> [x#a] <ip1> 00",
-        "<ip1> [x#a] <ip1> 0 0",
-        "<ip1> <ip1> 0",
-        "<> [x#a] <ip1> 0",
-        "<ip> [x#a] <ip1> 0",
-        "<nope> [x#a] <ip1> 0",
-        "<ip1> [x#nope] <ip1> 0",
-        "<ip1> [x.o#a] <ip1> 0",
-        "<ip1> [x#a <ip1> 0",
-        "<ip1> [x#a] <\"ip1> 0",
-        "<\"\"> [x#a] <ip1> 0",
-        "ip1 [x#a] <ip1> 0",
+fn faults_of_queries_and_weights(rt: HostRuntime) -> Result<(), Fail> {
+    let good = "<ip1> .* <ip1> 0";
+    let cases: [Case; 14] = [
+        (
+            "<nope> . <ip> 0",
+            None,
+            "4<><query: byte 1: unknown label nope\n>",
+        ),
+        ("<ip1> .* <ip1>", None, "4<><query: byte 14: syntax\n>"),
+        ("<ip1> .* <ip1> 007", None, "4<><query: byte 16: syntax\n>"),
+        ("", None, "4<><query: byte 0: syntax\n>"),
+        (
+            "<ip1> .* <ip1> 65536",
+            None,
+            "4<><query: byte 15: over the limit 65535\n>",
+        ),
+        (
+            "<ip1> [x#nope] <ip1> 0",
+            None,
+            "4<><query: byte 9: unknown router nope\n>",
+        ),
+        (
+            "<ip1> [x.p#a] <ip1> 0",
+            None,
+            "4<><query: byte 9: unknown interface p\n>",
+        ),
+        (good, Some("Hops,"), "5<><weights: byte 5: syntax\n>"),
+        (good, Some(""), "5<><weights: byte 0: syntax\n>"),
+        (
+            good,
+            Some("Speed"),
+            "5<><weights: byte 0: unknown quantity Speed\n>",
+        ),
+        (
+            good,
+            Some("Links,Links,Links,Links,Links,Links"),
+            "5<><weights: 6 terms or parts, limit 5\n>",
+        ),
+        (
+            good,
+            Some("65536*Hops"),
+            "5<><weights: byte 0: over the limit 65535\n>",
+        ),
+        // The query comes before the weights.
+        ("", Some("Speed"), "4<><query: byte 0: syntax\n>"),
+        // It can't be decided, either; but a text with a fault asks nothing.
+        (
+            "<ip1> .* <ip1> 0 down [a#b] up [a#b]",
+            Some(""),
+            "4<><query: link a.b#b.a both down and up\n>",
+        ),
     ];
-    for query in queries {
-        let said = verified(rt.alloc(), n1().as_bytes(), query)?;
-        assert_eq!(rt; said.as_str(), not_literal(), "{query}");
-    }
-    Ok(())
+    cases_are(&rt, rt.alloc(), n1(), cases.as_slice())
 }
 
-// A query whose first header has so many labels and whose path so many links, with some white space at its end.
-fn long_query(
-    alloc: Global,
-    labels: usize,
-    links: usize,
-    spaces: usize,
-) -> Result<String, AllocError> {
-    let mut query = String::from_str(alloc, "<")?;
-    for _ in 0..labels {
-        query.push_str("ip1 ")?;
-    }
-    query.push_str("> ")?;
+// A query whose path has so many links, with some white space at its end.
+fn long_query(alloc: Global, links: usize, spaces: usize) -> Result<String, AllocError> {
+    let mut query = String::from_str(alloc, "<ip1> ")?;
     for _ in 0..links {
-        query.push_str("[x#a]")?;
+        query.push('.')?;
     }
     query.push_str(" <ip1> 0")?;
     for _ in 0..spaces {
-        query.push_str(" ")?;
+        query.push(' ')?;
     }
     Ok(query)
 }
@@ -210,23 +335,79 @@ fn long_query(
 fn the_limits_of_a_query(rt: HostRuntime) -> Result<(), Fail> {
     let alloc = rt.alloc();
     let cases = [
-        (512, 1, 0, ended_with_no()),
-        (513, 1, 0, not_literal()),
-        (1, 100, 0, ended_with_no()),
-        (1, 101, 0, not_literal()),
-        // <ip1 > [x#a] <ip1> 0 has 20 bytes
+        (512, 0, ENDED_WITH_NO),
         (
-            1,
-            1,
-            4076,
-            "0<answer: yes\nweight: none\neffort: 6\nfailed: none\nmoving: yes\nlinks: 1\nx.o#a.x | ip1\n><>",
+            513,
+            0,
+            "4<><query: expression 2 has 513 positions, limit 512\n>",
         ),
-        (1, 1, 4077, "4<><query: not literal\n>"),
+        // `<ip1> . <ip1> 0` has 15 bytes
+        (1, 4082, "4<><query: 4097 bytes, limit 4096\n>"),
     ];
-    for (labels, links, spaces, wanted) in cases {
-        let query = long_query(alloc, labels, links, spaces)?;
+    for (links, spaces, wanted) in cases {
+        let query = long_query(alloc, links, spaces)?;
         let said = verified(alloc, n1().as_bytes(), query.as_str())?;
-        assert_eq!(rt; said.as_str(), wanted, "{labels} {links} {spaces}");
+        assert_eq!(rt; said.as_str(), wanted, "{links} {spaces}");
+    }
+    // One byte less, and there is an answer. Each link is a least run, so no more is said of it.
+    let query = long_query(alloc, 1, 4081)?;
+    let said = verified(alloc, n1().as_bytes(), query.as_str())?;
+    assert!(rt;
+        said.starts_with(
+            "0<answer: yes\nweight: none\neffort: 6\nfailed: none\nmoving: yes\nlinks: 1\n"
+        )
+    );
+    Ok(())
+}
+
+// One router with a link to itself: each label d1, d2 and so on becomes two of the one before, and d0 is popped.
+fn doubling(alloc: Global, most: usize) -> Result<String, AllocError> {
+    let mut names = String::from_str(alloc, "\"d0\"")?;
+    let mut rows = String::from_str(
+        alloc,
+        r#"{"at":"r","in":"i","label":"d0","groups":[[{"out":"o","ops":[["pop"]]}]]}"#,
+    )?;
+    for below in 0..most {
+        let number = below + 1;
+        let name = format!(in alloc; ",\"d{number}\"")?;
+        names.push_str(name.as_str())?;
+        let row = format!(in alloc;
+            r#",{{"at":"r","in":"i","label":"d{number}","groups":[[{{"out":"o","ops":[["swap","d{below}"],["push","d{below}"]]}}]]}}"#
+        )?;
+        rows.push_str(row.as_str())?;
+    }
+    format!(in alloc;
+        r#"{{"format":"mpls-whatif-1","routers":["r"],"labels":{{"mpls":[{names}],"smpls":["s1"],"ip":["ip1"]}},"links":[{{"from":"r","out":"o","to":"r","in":"i","distance":1}}],"tables":[{rows}]}}"#
+    )
+}
+
+#[test]
+fn runs_of_thousands_of_links(rt: HostRuntime) -> Result<(), Fail> {
+    let text = doubling(rt.alloc(), 10)?;
+    let query = "<d10 s1 ip1> .* <s1 ip1> 0";
+    let said = weighed(rt.alloc(), text.as_bytes(), query, Some("Hops"))?;
+    let wanted =
+        "0<answer: yes\nweight: 0\neffort: 3079\nfailed: none\nmoving: yes\nlinks: 2048\nr.o#r.i | d10 s1 ip1\nr.o#r.i | d9 d9 s1 ip1 | group 1 member 1\n";
+    assert!(rt; said.starts_with(wanted));
+    assert!(rt; said.ends_with("\nr.o#r.i | s1 ip1 | group 1 member 1\n><>"));
+    Ok(())
+}
+
+#[test]
+fn runs_that_are_too_long_or_too_heavy(rt: HostRuntime) -> Result<(), Fail> {
+    let cases = [
+        (11, "7<><too long: effort 6151, limit 4096\n>"),
+        (
+            62,
+            "7<><too long: effort 13835058055282163719, limit 4096\n>",
+        ),
+        (63, "6<><overflow: component 1 is 27670116110564327421\n>"),
+    ];
+    for (most, wanted) in cases {
+        let text = doubling(rt.alloc(), most)?;
+        let query = format!(in rt.alloc(); "<d{most} s1 ip1> .* <s1 ip1> 0")?;
+        let said = verified(rt.alloc(), text.as_bytes(), query.as_str())?;
+        assert_eq!(rt; said.as_str(), wanted);
     }
     Ok(())
 }
@@ -324,7 +505,8 @@ fn places_of_faults(rt: HostRuntime) -> Result<(), Fail> {
 #[test]
 fn words_that_are_no_command(rt: HostRuntime) -> Result<(), Fail> {
     let alloc = rt.alloc();
-    let wanted = "9<><usage: whatif verify NETWORK QUERY\n       whatif play NETWORK SCRIPT K\n>";
+    let wanted =
+        "9<><usage: whatif verify NETWORK QUERY [--weights W]\n       whatif play NETWORK SCRIPT K\n>";
     let lists: [&[&str]; 13] = [
         &[],
         &["whatif"],

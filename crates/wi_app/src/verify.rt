@@ -1,69 +1,114 @@
-//! Literal queries, answered on a network.
-ghost use Rattle.std.specs.Prelude.{◌≡◌, ℕ, List, IfOk, IfErr};
+//! Queries, answered on a network.
+ghost use Rattle.std.specs.Prelude.{◌≡◌, ℕ, List, option_map, IfOk, IfErr};
+ghost use Rattle.wi_query.specs.Meaning.{IsQuery, IsQueryOf};
 ghost use Rattle.wi_words.specs.Commands.{Verify};
-ghost use Rattle.wi_app.specs.Literal.{asked_of};
-ghost use Rattle.wi_app.specs.Found.{IsReadable};
-ghost use Rattle.wi_app.specs.Run.{FromCommand, FromQuery, IsAnswer, IsAnswered, Reports};
+ghost use Rattle.wi_app.specs.Asked.{FromDecision, FromTexts, IsAnswer, IsBadQuery, IsBadWeights, IsReported, WeighsBy, status_for};
+ghost use Rattle.wi_app.specs.Run.{FromCommand, IsAnswered};
 
 use crate::answer::Printed;
 use crate::fetch::{discard, network};
-use crate::literal::{Literal, LiteralRefused, read_literal};
 use crate::refusal::Refusal;
-use crate::report::{no_report, yes_report};
-use crate::search::least_run;
 use std::alloc::Global;
-use wi_base::{NoMemory, Shelf};
+use wi_base::Shelf;
+use wi_decide::{DecideRefused, decide};
 use wi_net::Network;
+use wi_quantity::{Vector, WeightFault, read_weights};
+use wi_query::{Query, QueryFault, read_query};
+use wi_report::{query_fault_text, report};
+use wi_world::Word;
 
-/// The report on a query of the network of a file, or why not.
+/// The report on a query of the network of a file, or why not. Runs are weighed by the weights, or by their effort alone.
 pub fn verify<'a, S: Shelf>(
     alloc: Global,
     name: &'a str,
-    query: &'a str,
+    query: &str,
+    weights: Option<&str>,
     shelf: &mut S,
 ) -> Result<Printed, Refusal<'a>>
     ensures files { (other : List ℕ) → S.file shelf.new other ≡ S.file shelf.old other }
     ensures calm { IfOk result (λ _. S.failed shelf.new ≡ S.failed shelf.old) }
-    ensures answered { IfOk result (λ printed. IsAnswered (S.told shelf.old) (S.file shelf.old) (Verify name.now query.now) printed.status printed.text) }
-    ensures refused { IfErr result (λ refusal. FromCommand (S.told shelf.old) (S.file shelf.old) (Verify name.now query.now) (S.failed shelf.old) (S.failed shelf.new) refusal) }
+    ensures answered { IfOk result (λ printed. IsAnswered (S.told shelf.old) (S.file shelf.old) (Verify name.now query.now (option_map (λ s. s.now) weights.entry)) printed.status printed.text) }
+    ensures refused { IfErr result (λ refusal. FromCommand (S.told shelf.old) (S.file shelf.old) (Verify name.now query.now (option_map (λ s. s.now) weights.entry)) (S.failed shelf.old) (S.failed shelf.new) refusal) }
 {
     let net = network(alloc, name, shelf)?;
-    let printed = answer(alloc, &net, query);
+    let printed = answer(alloc, &net, query, weights);
     discard(net);
     printed
 }
 
 // The report on a query of a network.
-fn answer<'a>(alloc: Global, net: &Network, query: &str) -> Result<Printed, Refusal<'a>>
-    ensures answered { IfOk result (λ printed. IsAnswer net.now query.now printed.status printed.text) }
-    ensures refused { IfErr result (λ refusal. FromQuery net.now query.now refusal) }
+fn answer<'a>(
+    alloc: Global,
+    net: &Network,
+    query: &str,
+    weights: Option<&str>,
+) -> Result<Printed, Refusal<'a>>
+    ensures answered { IfOk result (λ printed. IsAnswer net.now query.now (option_map (λ s. s.now) weights.entry) printed.status printed.text) }
+    ensures refused { IfErr result (λ refusal. FromTexts net.now query.now (option_map (λ s. s.now) weights.entry) refusal) }
 {
     net.keeps();
-    let query = match read_literal(alloc, net, query) {
-        Ok(query) => query,
-        Err(LiteralRefused::NotLiteral) => return Err(Refusal::NotLiteral),
-        Err(LiteralRefused::Memory) => return Err(Refusal::Memory),
+    let query = query_of(alloc, net, query)?;
+    let vector = vector_of(alloc, weights)?;
+    reported(alloc, net, &query, &vector)
+}
+
+// The query that a text is, or what is wrong with it.
+fn query_of<'a>(alloc: Global, net: &Network, text: &str) -> Result<Query, Refusal<'a>>
+    ensures read { IfOk result (λ query. IsQuery net.now text.now query) }
+    ensures refused { IfErr result (λ refusal. IsBadQuery net.now text.now refusal) }
+{
+    match read_query(alloc, net, text) {
+        Ok(query) => Ok(query),
+        Err(QueryFault::Memory) => Err(Refusal::Memory),
+        Err(fault) => Err(Refusal::Query(query_fault_text(alloc, net, &fault)?)),
+    }
+}
+
+// What runs are weighed by, or what is wrong with the text.
+fn vector_of<'a>(alloc: Global, weights: Option<&str>) -> Result<Vector, Refusal<'a>>
+    ensures read { IfOk result (λ vector. WeighsBy (option_map (λ s. s.now) weights.entry) vector) }
+    ensures refused { IfErr result (λ refusal. IsBadWeights (option_map (λ s. s.now) weights.entry) refusal) }
+{
+    let Some(text) = weights else {
+        return Ok(Vector::new(alloc));
     };
-    match decided(alloc, net, &query) {
-        Ok(printed) => Ok(printed),
-        Err(NoMemory::Memory) => Err(Refusal::Memory),
+    match read_weights(alloc, text) {
+        Ok(vector) => Ok(vector),
+        Err(fault) => Err(Refusal::Weights(fault)),
     }
 }
 
 // The report on a query that was read.
-fn decided(alloc: Global, net: &Network, query: &Literal) -> Result<Printed, NoMemory>
-    requires { IsReadable net.now (asked_of query.now) }
-    ensures { IfOk result (λ printed. Reports net.now (asked_of query.now) printed.status printed.text) }
+fn reported<'a>(
+    alloc: Global,
+    net: &Network,
+    query: &Query,
+    vector: &Vector,
+) -> Result<Printed, Refusal<'a>>
+    requires { IsQueryOf net.now query.now }
+    ensures reported { IfOk result (λ printed. IsReported net.now query.now vector.now printed.status printed.text) }
+    ensures refused { IfErr result (λ refusal. FromDecision net.now query.now vector.now refusal) }
 {
     net.keeps();
-    match least_run(alloc, net, query)? {
-        Some(found) => {
-            let text = yes_report(alloc, net, &found)?;
-            Ok(Printed { status: 0, text })
+    match decide(alloc, net, query, vector) {
+        Ok(answer) => {
+            let text = report(alloc, net, query, vector, &answer)?;
+            let status = status_for(answer.word);
+            Ok(Printed { status, text })
         }
-        None => {
-            let text = no_report(alloc)?;
-            Ok(Printed { status: 1, text })
-        }
+        Err(DecideRefused::Overflow(weight)) => Err(Refusal::Overflow(weight, vector.len())),
+        Err(DecideRefused::TooLong(effort)) => Err(Refusal::TooLong(effort)),
+        Err(DecideRefused::Memory) => Err(Refusal::Memory),
+    }
+}
+
+// The exit status of an answer.
+fn status_for(word: Word) -> u8
+    ensures { result ≡ status_for word }
+{
+    match word {
+        Word::Yes => 0,
+        Word::No => 1,
+        Word::Inconclusive => 2,
     }
 }

@@ -3,3 +3,5 @@ pub mod States
 pub mod NetworkFaults
 pub mod QueryFaults
 pub mod WeightFaults
+pub mod Reports
+pub mod RefusedDecisions

@@ -1,8 +1,10 @@
-//! What the program prints: how links, headers and faults are written.
+//! What the program prints: how links, headers, answers and faults are written.
 #![tactic(auto)]
 
 mod network_faults;
 mod query_faults;
+mod refused_decisions;
+mod reports;
 mod script_faults;
 mod shown;
 mod state_lines;
@@ -10,6 +12,8 @@ mod weight_faults;
 
 pub use network_faults::network_fault_text;
 pub use query_faults::query_fault_text;
+pub use refused_decisions::{overflow_text, too_long_text};
+pub use reports::report;
 pub use script_faults::script_fault_text;
 pub use shown::put_place;
 pub use state_lines::states;

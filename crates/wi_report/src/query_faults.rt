@@ -5,7 +5,7 @@ ghost use Rattle.wi_text.specs.Names.{shown};
 ghost use Rattle.wi_report.specs.Shown.{label_name_shown, link_shown};
 ghost use Rattle.wi_report.specs.QueryFaults.{byte_text, query_fault_text};
 
-use crate::shown::{put_counted, put_label_name, put_link};
+use crate::shown::{put_counted, put_known, put_label_name};
 use std::alloc::Global;
 use wi_base::NoMemory;
 use wi_net::{LinkId, Network};
@@ -93,16 +93,4 @@ fn down_and_up(net: &Network, link: LinkId, text: &mut Text) -> Result<(), NoMem
     text.put("query: link ")?;
     put_known(net, link, text)?;
     text.put(" both down and up\n")
-}
-
-// Adds a link, or nothing where the network hasn't it.
-#[tactic(auto, using(crate::proofs::ShownLemmas::unknown_link))]
-fn put_known(net: &Network, link: LinkId, text: &mut Text) -> Result<(), NoMemory>
-    ensures { OnOk result (text.new ≡ text.old ++ link_shown net.now link) }
-{
-    if link.0 < net.counts().links {
-        put_link(net, link, text)
-    } else {
-        Ok(())
-    }
 }

@@ -84,8 +84,20 @@ fn put_more(net: &Network, links: &FailSet, text: &mut Text) -> Result<(), NoMem
     Ok(())
 }
 
-/// Adds a link as `A.i#B.j`.
-pub(crate) fn put_link(net: &Network, link: LinkId, text: &mut Text) -> Result<(), NoMemory>
+/// Adds a link, or nothing where the network hasn't it.
+#[tactic(auto, using(crate::proofs::ShownLemmas::unknown_link))]
+pub(crate) fn put_known(net: &Network, link: LinkId, text: &mut Text) -> Result<(), NoMemory>
+    ensures { OnOk result (text.new ≡ text.old ++ link_shown net.now link) }
+{
+    if link.0 < net.counts().links {
+        put_link(net, link, text)
+    } else {
+        Ok(())
+    }
+}
+
+// Adds a link as `A.i#B.j`.
+fn put_link(net: &Network, link: LinkId, text: &mut Text) -> Result<(), NoMemory>
     requires { is_link net.now link ≡ true }
     ensures { OnOk result (text.new ≡ text.old ++ link_shown net.now link) }
 {

@@ -1,20 +1,25 @@
 //! Texts by example.
-ghost use Rattle.std.specs.Prelude.{◌≡◌, []};
+ghost use Rattle.std.specs.Prelude.{◌≡◌, [], IfOk, IfSome};
+ghost use Rattle.wi_query.specs.Meaning.{IsQueryOf};
+ghost use Rattle.wi_report.specs.Reports.{IsKnownRun};
 
 use crate::{
-    network_fault_text, put_place, query_fault_text, script_fault_text, states, weight_fault_text,
+    network_fault_text, overflow_text, put_place, query_fault_text, report, script_fault_text,
+    states, too_long_text, weight_fault_text,
 };
-use std::alloc::Global;
+use std::alloc::{AllocError, Global};
 use std::process::Abort;
 use std::test::Fail;
-use wi_base::NoMemory;
-use wi_labels::Class;
-use wi_net::{BuildRefused, LinkId, Network, NetworkBuilder};
+use wi_base::{Listed, NoMemory};
+use wi_labels::{Class, Label, Op, Ops};
+use wi_net::{BuildRefused, FailSet, Group, LinkId, Member, Network, NetworkBuilder};
 use wi_netjson::{LinkPart, NetFault, Place};
-use wi_quantity::WeightFault;
-use wi_query::QueryFault;
+use wi_quantity::{Vector, Weight, WeightFault, read_weights};
+use wi_query::{Query, QueryFault, read_query};
 use wi_text::Text;
-use wi_trace::{ScriptCause, ScriptRefused, play, read_script};
+use wi_trace::{Answer, ScriptCause, ScriptRefused, play, read_script};
+use wi_weight::{Effort, Pair, Terms};
+use wi_world::{Run, Step, Verdict, Word};
 
 #[tactic(auto, unfolding(wi_net::specs::Builder::add_label))]
 fn add_labels(builder: &mut NetworkBuilder) -> Result<(), BuildRefused>
@@ -333,4 +338,455 @@ fn faults_of_weights_have_texts(rt: HostRuntime) -> Result<(), Fail> {
         "weights: byte 0: over the limit 65535\n",
     )?;
     weights_say(&rt, alloc, &WeightFault::Memory, "whatif: out of memory\n")
+}
+
+// From a router by an interface to a router by one, and the distance.
+type Line<'a> = (&'a str, &'a str, &'a str, &'a str, u32);
+
+// A member: its link and its operations.
+type Way<'a> = (u32, &'a [Op]);
+
+// A link, a label, and groups of members.
+type RowOf<'a> = (u32, u32, &'a [&'a [Way<'a>]]);
+
+// The link that a network has besides those of all networks here, and its rows.
+struct Shape<'a> {
+    sixth: Option<Line<'a>>,
+    rows: &'a [RowOf<'a>],
+}
+
+const PUSH_30: Op = Op::Push(Label(0), Class::Mpls);
+
+const SWAP_31: Op = Op::Swap(Label(1), Class::Mpls);
+
+const PUSH_S10: Op = Op::Push(Label(2), Class::Smpls);
+
+// Packets come from x to a, and go from a to b, or from a by c to b; from b they go to y.
+const LINES: &[Line] = &[
+    ("x", "o", "a", "x", 1),
+    ("a", "b", "b", "a", 1),
+    ("a", "c", "c", "a", 2),
+    ("c", "b", "b", "c", 2),
+    ("b", "y", "y", "b", 1),
+];
+
+// First to b, else by c in a tunnel.
+const AT_A: RowOf = (0, 3, &[&[(1, &[PUSH_S10])], &[(2, &[PUSH_S10, PUSH_30])]]);
+
+const FROM_A: RowOf = (1, 2, &[&[(4, &[Op::Pop])]]);
+
+const AT_C: RowOf = (2, 0, &[&[(3, &[Op::Pop])]]);
+
+const FROM_C: RowOf = (3, 2, &[&[(4, &[Op::Pop])]]);
+
+// From there to y, else to z.
+const FROM_C_OR_Z: RowOf = (3, 2, &[&[(4, &[Op::Pop])], &[(5, &[Op::Pop])]]);
+
+const SMALL: Shape = Shape {
+    sixth: None,
+    rows: &[AT_A, FROM_A, AT_C, FROM_C],
+};
+
+// From b there is a second way for packets from c, to z.
+const LARGE: Shape = Shape {
+    sixth: Some(("b", "z", "z", "b", 1)),
+    rows: &[AT_A, FROM_A, AT_C, FROM_C_OR_Z],
+};
+
+// What came to c goes back to a with 31, and from there to b.
+const RETURNING: Shape = Shape {
+    sixth: Some(("c", "a2", "a", "c2", 1)),
+    rows: &[
+        AT_A,
+        FROM_A,
+        (2, 0, &[&[(5, &[SWAP_31])]]),
+        FROM_C,
+        (5, 1, &[&[(1, &[Op::Pop])]]),
+    ],
+};
+
+fn add_line(builder: &mut NetworkBuilder, line: Line) -> Result<(), BuildRefused> {
+    let (from, out, to, into, distance) = line;
+    builder.link(from, out, to, into, distance, None)?;
+    Ok(())
+}
+
+fn add_lines(builder: &mut NetworkBuilder, sixth: Option<Line>) -> Result<(), BuildRefused> {
+    for name in ["x", "a", "b", "c", "y", "z"] {
+        builder.router(name)?;
+    }
+    for line in LINES {
+        add_line(builder, *line)?;
+    }
+    match sixth {
+        Some(line) => add_line(builder, line),
+        None => Ok(()),
+    }
+}
+
+fn group(alloc: Global, ways: &[Way]) -> Result<Group, Fail> {
+    let mut members = Vec::new(alloc);
+    for (link, ops) in ways {
+        let member = Member {
+            link: LinkId(*link),
+            ops: Ops::from_slice(alloc, ops)?,
+        };
+        members.push(member).map_err(AllocError::from)?;
+    }
+    Ok(Listed::of(members))
+}
+
+fn groups(alloc: Global, ways: &[&[Way]]) -> Result<Vec<Group>, Fail> {
+    let mut groups = Vec::new(alloc);
+    for members in ways {
+        groups
+            .push(group(alloc, members)?)
+            .map_err(AllocError::from)?;
+    }
+    Ok(groups)
+}
+
+fn add_rows(alloc: Global, builder: &mut NetworkBuilder, rows: &[RowOf]) -> Result<(), Fail> {
+    for (link, label, ways) in rows {
+        let groups = groups(alloc, ways)?;
+        builder.table(LinkId(*link), Label(*label), groups)?;
+    }
+    Ok(())
+}
+
+// The label 31 is in use where packets return to a.
+#[tactic(auto, unfolding(wi_net::specs::Builder::add_label))]
+fn add_four_labels(builder: &mut NetworkBuilder) -> Result<(), BuildRefused>
+    requires { builder.old.net.classes ≡ [] }
+{
+    builder.label(Class::Mpls, "30")?;
+    builder.label(Class::Mpls, "31")?;
+    builder.label(Class::Smpls, "s10")?;
+    builder.label(Class::Ip, "ip1")?;
+    Ok(())
+}
+
+fn fill(alloc: Global, builder: &mut NetworkBuilder, shape: &Shape) -> Result<(), Fail>
+    requires { builder.old.net.classes ≡ [] }
+{
+    add_four_labels(builder)?;
+    add_lines(builder, shape.sixth)?;
+    add_rows(alloc, builder, shape.rows)
+}
+
+fn finished(builder: NetworkBuilder) -> Result<Network, Fail> {
+    Ok(builder.finish()?)
+}
+
+fn network(alloc: Global, shape: &Shape) -> Result<Network, Fail> {
+    let mut builder = NetworkBuilder::new(alloc);
+    fill(alloc, &mut builder, shape)?;
+    finished(builder)
+}
+
+// What a verdict is.
+#[derive(Clone, Copy)]
+enum Judged<'a> {
+    Fits(&'a [u32]),
+    Exceeds(usize),
+    UsesFailed(u32),
+}
+
+// What an answer shows: the terms and the effort, where the run begins, as a line of a script, its steps, and the verdict.
+#[derive(Clone, Copy)]
+struct Shown<'a> {
+    word: Word,
+    terms: [u128; 5],
+    effort: u128,
+    begins: &'a str,
+    steps: &'a [(u32, u32)],
+    verdict: Judged<'a>,
+}
+
+// A query, what runs are weighed by, what the answer shows, unless it is a no, and the report.
+type Case<'a> = (&'a str, Option<&'a str>, Option<Shown<'a>>, &'a str);
+
+fn query_of(alloc: Global, net: &Network, text: &str) -> Result<Query, Fail>
+    ensures { IfOk result (λ query. IsQueryOf net.now query) }
+{
+    match read_query(alloc, net, text) {
+        Ok(query) => Ok(query),
+        Err(_) => Err(Fail::new("no query")),
+    }
+}
+
+// What runs are weighed by: the effort alone, where no text is given.
+fn vector_of(alloc: Global, weights: Option<&str>) -> Result<Vector, Fail> {
+    match weights {
+        Some(text) => Ok(read_weights(alloc, text)?),
+        None => Ok(Vector::new(alloc)),
+    }
+}
+
+fn steps_of(alloc: Global, steps: &[(u32, u32)]) -> Result<Listed<Step>, Fail> {
+    let mut all = Vec::new(alloc);
+    for (group, member) in steps {
+        all.push(Step {
+            group: *group,
+            member: *member,
+        })?;
+    }
+    Ok(Listed::of(all))
+}
+
+fn run_of(alloc: Global, net: &Network, shown: &Shown) -> Result<Run, Fail>
+    ensures { IfOk result (IsKnownRun net.now) }
+{
+    let steps = steps_of(alloc, shown.steps)?;
+    match read_script(alloc, net, shown.begins.as_bytes()) {
+        Ok(script) => Ok(Run {
+            first: script.first,
+            header: script.header,
+            steps,
+        }),
+        Err(_) => Err(Fail::new("no start")),
+    }
+}
+
+fn set_of(alloc: Global, links: &[u32]) -> Result<FailSet, Fail> {
+    let mut set = FailSet::new(alloc);
+    for link in links {
+        let _new = set.insert(LinkId(*link))?;
+    }
+    Ok(set)
+}
+
+fn verdict_of(alloc: Global, judged: Judged) -> Result<Verdict, Fail> {
+    match judged {
+        Judged::Fits(links) => Ok(Verdict::Fits(set_of(alloc, links)?)),
+        Judged::Exceeds(count) => Ok(Verdict::Exceeds(count)),
+        Judged::UsesFailed(link) => Ok(Verdict::UsesFailed(LinkId(link))),
+    }
+}
+
+fn weight_of(parts: [u128; 5], count: u128) -> Weight {
+    Pair {
+        first: Terms { parts },
+        second: Effort { count },
+    }
+}
+
+fn shown_answer(alloc: Global, net: &Network, shown: &Shown) -> Result<Answer, Fail>
+    ensures { IfOk result (λ answer. IfSome answer.run (IsKnownRun net.now)) }
+{
+    let run = run_of(alloc, net, shown)?;
+    let verdict = verdict_of(alloc, shown.verdict)?;
+    Ok(Answer {
+        word: shown.word,
+        weight: Some(weight_of(shown.terms, shown.effort)),
+        run: Some(run),
+        verdict: Some(verdict),
+    })
+}
+
+fn answer_of(alloc: Global, net: &Network, shown: &Option<Shown>) -> Result<Answer, Fail>
+    ensures { IfOk result (λ answer. IfSome answer.run (IsKnownRun net.now)) }
+{
+    match shown {
+        Some(shown) => shown_answer(alloc, net, shown),
+        None => Ok(Answer {
+            word: Word::No,
+            weight: None,
+            run: None,
+            verdict: None,
+        }),
+    }
+}
+
+fn let_go(_query: Query, _vector: Vector, _answer: Answer) {}
+
+fn report_is(rt: &impl Abort, alloc: Global, net: &Network, case: &Case) -> Result<(), Fail> {
+    let (text, weights, shown, said) = case;
+    let query = query_of(alloc, net, text)?;
+    let vector = vector_of(alloc, *weights)?;
+    let answer = answer_of(alloc, net, shown)?;
+    let is = says(rt, report(alloc, net, &query, &vector, &answer), said);
+    let_go(query, vector, answer);
+    is
+}
+
+fn reports_are(rt: &impl Abort, alloc: Global, net: &Network, cases: &[Case]) -> Result<(), Fail> {
+    for case in cases {
+        report_is(rt, alloc, net, case)?;
+    }
+    Ok(())
+}
+
+// The reports on answers to queries of a network.
+fn network_reports(
+    rt: &impl Abort,
+    alloc: Global,
+    shape: &Shape,
+    cases: &[Case],
+) -> Result<(), Fail> {
+    let net = network(alloc, shape)?;
+    let are = reports_are(rt, alloc, &net, cases);
+    discard(net);
+    are
+}
+
+const NO_TERM: [u128; 5] = [0; 5];
+
+const AT_X: &str = "at x.o#a.x ip1\n";
+
+// By c and b to y, or to z.
+const AROUND: &[(u32, u32)] = &[(1, 0), (0, 0), (0, 0)];
+
+const AROUND_TO_Z: &[(u32, u32)] = &[(1, 0), (0, 0), (1, 0)];
+
+const SMALL_CASES: &[Case] = &[
+    (
+        "<ip1> [x#a] .* [b#y] <ip1> 0",
+        Some("Hops"),
+        Some(Shown {
+            word: Word::Yes,
+            terms: [3, 0, 0, 0, 0],
+            effort: 8,
+            begins: AT_X,
+            steps: &[(0, 0), (0, 0)],
+            verdict: Judged::Fits(&[]),
+        }),
+        "answer: yes\nweight: 3\neffort: 8\nfailed: none\nmoving: yes\nlinks: 3\nx.o#a.x | ip1\na.b#b.a | s10 ip1 | group 1 member 1\nb.y#y.b | ip1 | group 1 member 1\n",
+    ),
+    (
+        "<ip1> [x#a] [a#c] .* [b#y] <ip1> 0",
+        None,
+        None,
+        "answer: no\nmoving: no\n",
+    ),
+    (
+        "<ip1> [x#a] [a#c] .* [b#y] <ip1> 1",
+        Some("Hops, Distance+3*Tunnels"),
+        Some(Shown {
+            word: Word::Yes,
+            terms: [4, 12, 0, 0, 0],
+            effort: 10,
+            begins: AT_X,
+            steps: AROUND,
+            verdict: Judged::Fits(&[1]),
+        }),
+        "answer: yes\nweight: 4 12\neffort: 10\nfailed: a.b#b.a\nmoving: yes\nlinks: 4\nx.o#a.x | ip1\na.c#c.a | 30 s10 ip1 | group 2 member 1\nc.b#b.c | s10 ip1 | group 1 member 1\nb.y#y.b | ip1 | group 1 member 1\n",
+    ),
+    (
+        "<s10 ip1> [a#b]+ <smpls ip> 0",
+        None,
+        Some(Shown {
+            word: Word::Yes,
+            terms: NO_TERM,
+            effort: 8,
+            begins: "at a.b#b.a s10 ip1\n",
+            steps: &[],
+            verdict: Judged::Fits(&[]),
+        }),
+        "answer: yes\nweight: none\neffort: 8\nfailed: none\nmoving: yes\nlinks: 1\na.b#b.a | s10 ip1\n",
+    ),
+    // The link to b is known to be down.
+    (
+        "<ip1> [x#a] .* [b#y] <ip1> 0 down [a#b]",
+        None,
+        Some(Shown {
+            word: Word::Yes,
+            terms: NO_TERM,
+            effort: 10,
+            begins: AT_X,
+            steps: AROUND,
+            verdict: Judged::Fits(&[1]),
+        }),
+        "answer: yes\nweight: none\neffort: 10\nfailed: a.b#b.a\nmoving: yes\nlinks: 4\nx.o#a.x | ip1\na.c#c.a | 30 s10 ip1 | group 2 member 1\nc.b#b.c | s10 ip1 | group 1 member 1\nb.y#y.b | ip1 | group 1 member 1\n",
+    ),
+];
+
+#[test]
+fn a_yes_shows_what_must_fail_and_a_no_shows_nothing(rt: HostRuntime) -> Result<(), Fail> {
+    network_reports(&rt, rt.alloc(), &SMALL, SMALL_CASES)
+}
+
+const LARGE_CASES: &[Case] = &[
+    (
+        "<ip1> [x#a] [a#c] .* [b#z] <ip1> 1",
+        None,
+        Some(Shown {
+            word: Word::Inconclusive,
+            terms: NO_TERM,
+            effort: 10,
+            begins: AT_X,
+            steps: AROUND_TO_Z,
+            verdict: Judged::Exceeds(2),
+        }),
+        "answer: inconclusive\nweight: none\neffort: 10\nneeds: a.b#b.a b.y#y.b\ncause: needs 2, allowed 1\nmoving: yes\nlinks: 4\nx.o#a.x | ip1\na.c#c.a | 30 s10 ip1 | group 2 member 1\nc.b#b.c | s10 ip1 | group 1 member 1\nb.z#z.b | ip1 | group 2 member 1\n",
+    ),
+    (
+        "<ip1> [x#a] [a#c] .* [b#z] <ip1> 2",
+        None,
+        Some(Shown {
+            word: Word::Yes,
+            terms: NO_TERM,
+            effort: 10,
+            begins: AT_X,
+            steps: AROUND_TO_Z,
+            verdict: Judged::Fits(&[1, 4]),
+        }),
+        "answer: yes\nweight: none\neffort: 10\nfailed: a.b#b.a b.y#y.b\nmoving: yes\nlinks: 4\nx.o#a.x | ip1\na.c#c.a | 30 s10 ip1 | group 2 member 1\nc.b#b.c | s10 ip1 | group 1 member 1\nb.z#z.b | ip1 | group 2 member 1\n",
+    ),
+];
+
+const RETURNING_CASES: &[Case] = &[(
+    "<ip1> [x#a] [a#c] [c#a] [a#b] .* <ip1> 5",
+    None,
+    Some(Shown {
+        word: Word::Inconclusive,
+        terms: NO_TERM,
+        effort: 11,
+        begins: AT_X,
+        steps: &[(1, 0), (0, 0), (0, 0), (0, 0)],
+        verdict: Judged::UsesFailed(1),
+    }),
+    "answer: inconclusive\nweight: none\neffort: 11\nneeds: a.b#b.a\ncause: uses a.b#b.a\nmoving: yes\nlinks: 5\nx.o#a.x | ip1\na.c#c.a | 30 s10 ip1 | group 2 member 1\nc.a2#a.c2 | 31 s10 ip1 | group 1 member 1\na.b#b.a | s10 ip1 | group 1 member 1\nb.y#y.b | ip1 | group 1 member 1\n",
+)];
+
+#[test]
+fn an_inconclusive_shows_why(rt: HostRuntime) -> Result<(), Fail> {
+    network_reports(&rt, rt.alloc(), &LARGE, LARGE_CASES)?;
+    network_reports(&rt, rt.alloc(), &RETURNING, RETURNING_CASES)
+}
+
+// 2^64
+const TOO_LARGE: u128 = 18_446_744_073_709_551_616;
+
+#[test]
+fn refused_decisions_have_texts(rt: HostRuntime) -> Result<(), Fail> {
+    let alloc = rt.alloc();
+    for (parts, effort, terms, said) in [
+        (
+            NO_TERM,
+            27_670_116_110_564_327_421,
+            0,
+            "overflow: component 1 is 27670116110564327421\n",
+        ),
+        (
+            [1, TOO_LARGE, 0, 0, 0],
+            TOO_LARGE + 1,
+            2,
+            "overflow: component 2 is 18446744073709551616\n",
+        ),
+        (
+            [1, 0, 0, 0, 0],
+            TOO_LARGE,
+            1,
+            "overflow: component 2 is 18446744073709551616\n",
+        ),
+    ] {
+        let weight = weight_of(parts, effort);
+        says(&rt, overflow_text(alloc, &weight, terms), said)?;
+    }
+    says(
+        &rt,
+        too_long_text(alloc, 6151),
+        "too long: effort 6151, limit 4096\n",
+    )
 }

@@ -14,9 +14,13 @@ use Rattle.wi_text.specs.Characters.{is_number}
 abbrev pub operand : Text → Rule
 operand id = record (new_rule id) { required = true; action = Some Set }
 
--- `verify NETWORK QUERY` and `play NETWORK SCRIPT K`
+-- `--NAME VALUE`, which may be left out
+abbrev pub option : Text → Rule
+option name = record (new_rule name) { long = Some name; action = Some Set }
+
+-- `verify NETWORK QUERY [--weights W]` and `play NETWORK SCRIPT K`
 abbrev pub verify : Shape
-verify = record (new_shape (codes "verify")) { rules = operand (codes "NETWORK") ∷ operand (codes "QUERY") ∷ [] }
+verify = record (new_shape (codes "verify")) { rules = operand (codes "NETWORK") ∷ operand (codes "QUERY") ∷ option (codes "weights") ∷ [] }
 
 abbrev pub play : Shape
 play = record (new_shape (codes "play")) { rules = operand (codes "NETWORK") ∷ operand (codes "SCRIPT") ∷ operand (codes "K") ∷ [] }
@@ -33,9 +37,9 @@ is_empty (x ∷ xs) = false
 abbrev pub are_taken : List Text → Bool
 are_taken words = is_empty (fault_of program words)
 
--- a command, with what was given to it: the names of files, the text of a query, how many risk groups may fail
+-- a command, with what was given to it: the names of files, the texts of a query and of weights, how many risk groups may fail
 pub data Command : Type 0 where
-  Verify : (network query : Text) → Command
+  Verify : (network query : Text) (weights : Option Text) → Command
   Play : (network script : Text) (k : ℕ) → Command
 
 -- a number of risk groups: a decimal from 0 to 65,535, without leading zeros
@@ -44,7 +48,7 @@ most_failed s = if is_number s && nat_le (digits_value 10 s) 65535 then Some (di
 
 -- the command of a subcommand's entries
 abbrev pub verify_of : List Row → Option Command
-verify_of rows = option_and_then (λ network. option_map (λ query. Verify network query) (first_of (codes "QUERY") rows)) (first_of (codes "NETWORK") rows)
+verify_of rows = option_and_then (λ network. option_map (λ query. Verify network query (first_of (codes "weights") rows)) (first_of (codes "QUERY") rows)) (first_of (codes "NETWORK") rows)
 
 abbrev pub play_of : List Row → Option Command
 play_of rows =

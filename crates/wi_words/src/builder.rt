@@ -2,7 +2,7 @@
 ghost use Rattle.std.specs.Prelude.{◌≡◌, IfOk, false};
 ghost use Rattle.clap.specs.Words.{app_of, rule_of, shape_of};
 ghost use Rattle.clap.specs.declared.builder.command.Command.TheViews.{out-Command as fields_of};
-ghost use Rattle.wi_words.specs.Commands.{operand, play, program, verify};
+ghost use Rattle.wi_words.specs.Commands.{operand, option, play, program, verify};
 
 use clap::{Arg, ArgAction, Command};
 use std::alloc::{AllocError, Global};
@@ -15,14 +15,26 @@ fn operand<'a>(alloc: Global, id: &'a str) -> Arg<'a>
     Arg::new(alloc, id).required(true).action(ArgAction::Set)
 }
 
-// `verify NETWORK QUERY`
+// `--NAME VALUE`, which may be left out.
+fn option<'a>(alloc: Global, name: &'a str) -> Arg<'a>
+    ensures rule { rule_of result ≡ option name.entry.now }
+    ensures local { result.global ≡ false }
+{
+    Arg::new(alloc, name).long(name).action(ArgAction::Set)
+}
+
+// `verify NETWORK QUERY [--weights W]`
 fn verify<'a>(alloc: Global) -> Result<Command<'a>, AllocError>
     ensures shape { IfOk result (λ c. shape_of c ≡ verify) }
     ensures local { IfOk result (λ c. (fields_of c).has_globals ≡ false) }
 {
     let network = operand(alloc, "NETWORK");
     let query = operand(alloc, "QUERY");
-    let command = Command::new(alloc, "verify").arg(network)?.arg(query)?;
+    let weights = option(alloc, "weights");
+    let command = Command::new(alloc, "verify")
+        .arg(network)?
+        .arg(query)?
+        .arg(weights)?;
     Ok(command)
 }
 

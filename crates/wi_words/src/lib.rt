@@ -17,10 +17,11 @@ use wi_base::NoMemory;
 /// What the program is asked to do.
 #[derive(Clone, Copy, Debug)]
 pub enum Command<'a> {
-    /// `verify NETWORK QUERY`: the name of the network file, and the text of the query.
+    /// `verify NETWORK QUERY [--weights W]`: the name of the network file, the text of the query, and that of the weights.
     Verify {
         network: &'a str,
         query: &'a str,
+        weights: Option<&'a str>,
     },
     /// `play NETWORK SCRIPT K`: the names of the network file and of the script, and how many risk groups may be failed.
     Play {

@@ -48,7 +48,11 @@ fn verify_of<'a>(matches: &ArgMatches<'a>) -> Option<Command<'a>>
 {
     let network = value_of(matches, "NETWORK")?;
     let query = value_of(matches, "QUERY")?;
-    Some(Command::Verify { network, query })
+    Some(Command::Verify {
+        network,
+        query,
+        weights: value_of(matches, "weights"),
+    })
 }
 
 fn play_of<'a>(matches: &ArgMatches<'a>) -> Option<Command<'a>>

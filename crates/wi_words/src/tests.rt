@@ -18,6 +18,7 @@ fn is_verify(
     text: &str,
     network: &str,
     query: &str,
+    weights: Option<&str>,
 ) -> Result<(), Fail> {
     let words = words_of(alloc, text)?;
     match command_of(alloc, words.as_slice())? {
@@ -25,8 +26,9 @@ fn is_verify(
             Command::Verify {
                 network: n,
                 query: q,
+                weights: w,
             },
-        ) => assert!(rt; n == network && q == query, "{text}"),
+        ) => assert!(rt; n == network && q == query && w == weights, "{text}"),
         _ => assert!(rt; false, "{text}"),
     }
     Ok(())
@@ -68,7 +70,35 @@ fn operands_are_found(rt: HostRuntime) -> Result<(), Fail> {
         ("whatif|verify|n|q|--", "n", "q"),
         ("whatif|verify|--|--|-h", "--", "-h"),
     ] {
-        is_verify(&rt, rt.alloc(), text, network, query)?;
+        is_verify(&rt, rt.alloc(), text, network, query, None)?;
+    }
+    Ok(())
+}
+
+#[test]
+fn weights_are_found(rt: HostRuntime) -> Result<(), Fail> {
+    for (text, network, weights) in [
+        ("whatif|verify|n|q|--weights|Hops", "n", "Hops"),
+        ("whatif|verify|--weights|Hops|n|q", "n", "Hops"),
+        ("whatif|verify|n|--weights|Hops|q", "n", "Hops"),
+        (
+            "whatif|verify|n|q|--weights=Hops, Distance+3*Tunnels",
+            "n",
+            "Hops, Distance+3*Tunnels",
+        ),
+        ("whatif|verify|n|q|--weights=a=b", "n", "a=b"),
+        // An empty text is a text, and so is a single hyphen.
+        ("whatif|verify|n|q|--weights=", "n", ""),
+        ("whatif|verify|n|q|--weights|", "n", ""),
+        ("whatif|verify|n|q|--weights|-", "n", "-"),
+        ("whatif|verify|n|q|--weights=-1", "n", "-1"),
+        (
+            "whatif|verify|--weights|Hops|--|--weights|q",
+            "--weights",
+            "Hops",
+        ),
+    ] {
+        is_verify(&rt, rt.alloc(), text, network, "q", Some(weights))?;
     }
     Ok(())
 }
@@ -134,7 +164,20 @@ fn other_words_are_no_command(rt: HostRuntime) -> Result<(), Fail> {
         "whatif|play|n|s| 1",
         "whatif|play|n|s|1x",
         "whatif|play|n|s|1.0",
+        // No value for the weights, or two, or one that begins like an option.
+        "whatif|verify|n|q|--weights",
+        "whatif|verify|n|--weights|q",
+        "whatif|verify|n|q|--weights|a|--weights|b",
+        "whatif|verify|n|q|--weights=a|--weights=a",
+        "whatif|verify|n|q|--weights|-1",
+        "whatif|verify|n|q|--weights|--|a",
+        "whatif|verify|n|q|a|--weights",
         // Options that there are not.
+        "whatif|verify|n|q|--weight|a",
+        "whatif|verify|n|q|--WEIGHTS|a",
+        "whatif|verify|n|q|-weights|a",
+        "whatif|verify|n|q|-w|a",
+        "whatif|play|n|s|1|--weights|a",
         "whatif|verify|n|q|--certificate|f",
         "whatif|verify|n|q|--=W",
         "whatif|verify|-n|q",

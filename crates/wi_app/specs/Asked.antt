@@ -1,0 +1,98 @@
+-- What is asked of a network by texts, the answers to it, and why there is none.
+use Rattle.std.specs.Prelude.{◌≡◌, ◌⊎◌, ℕ, List, [], length, Option, Some, None}
+use Rattle.wi_net.specs.Net.{Net}
+use Rattle.wi_net.specs.Network.{IsNetwork}
+use Rattle.wi_world.specs.declared.answer.Word.{Word}
+use Rattle.wi_world.specs.declared.answer.Word.TheVariants.{Yes, No, Inconclusive}
+use Rattle.wi_query.specs.declared.query.Query.{Query}
+use Rattle.wi_query.specs.declared.fault.QueryFault.{QueryFault}
+use Rattle.wi_query.specs.declared.fault.QueryFault.TheVariants as query_fault
+use Rattle.wi_query.specs.Meaning.{IsQuery}
+use Rattle.wi_query.specs.Faults.{IsFault as IsQueryFault}
+use Rattle.wi_quantity.specs.declared.vector.Part.{Part}
+use Rattle.wi_quantity.specs.Faults.{Means, IsFault as IsWeightsFault}
+use Rattle.wi_quantity.specs.Weighing.{components}
+use Rattle.wi_trace.specs.declared.answer.Answer.{Answer}
+use Rattle.wi_decide.specs.Decided.{IsDecided}
+use Rattle.wi_decide.specs.Refusals.{IsOverflowing, IsTooLong, IsUnrefused}
+use Rattle.wi_report.specs.QueryFaults.{query_fault_text}
+use Rattle.wi_report.specs.Reports.{report_of}
+use Rattle.wi_app.specs.declared.refusal.Refusal.{Refusal}
+use Rattle.wi_app.specs.declared.refusal.Refusal.TheVariants.{Query as BadQuery, Weights as BadWeights, Overflow, TooLong, Memory}
+
+-- the exit status of an answer
+abbrev pub status_for : Word → ℕ
+status_for Yes = 0
+status_for No = 1
+status_for Inconclusive = 2
+
+-- what runs are weighed by: what the weights mean, or the effort alone where there are none
+abbrev pub WeighsBy : Option (List ℕ) → List (List Part) → Type 0
+WeighsBy None vector = vector ≡ []
+WeighsBy (Some text) vector = Means text vector
+
+-- texts are this query of the network, and these weights
+pub record IsAsked (net : Net) (text : List ℕ) (weights : Option (List ℕ)) (query : Query) (vector : List (List Part)) : Type 0 where
+  pub network : IsNetwork net
+  pub reads : IsQuery net text query
+  pub weighs : WeighsBy weights vector
+
+-- ---- answers
+
+-- the report on an answer that holds and can be shown, with its status
+pub record IsReported (net : Net) (query : Query) (vector : List (List Part)) (status : ℕ) (report : List ℕ) : Type 0 where
+  pub answer : Answer
+  pub holds : IsDecided net query vector answer
+  pub shown : IsUnrefused net query vector answer
+  pub status_is : status ≡ status_for answer.word
+  pub report_is : report ≡ report_of net query.bounds (length vector) answer
+
+-- the report on what texts ask of a network
+pub record IsAnswer (net : Net) (text : List ℕ) (weights : Option (List ℕ)) (status : ℕ) (report : List ℕ) : Type 0 where
+  pub query : Query
+  pub vector : List (List Part)
+  pub asked : IsAsked net text weights query vector
+  pub reported : IsReported net query vector status report
+
+-- ---- causes of refusals
+
+-- the text has this first fault as a query, and this is said of it
+pub record HasFault (net : Net) (text said : List ℕ) : Type 0 where
+  pub fault : QueryFault
+  pub first : IsQueryFault net text fault
+  pub due : fault ≡ query_fault.Memory → ⊥
+  pub said_is : said ≡ query_fault_text net fault
+
+-- the text of the query is the cause
+abbrev pub IsBadQuery : Net → List ℕ → Refusal → Type 0
+IsBadQuery net text (BadQuery said) = HasFault net text said
+IsBadQuery net text Memory = Unit {0}
+IsBadQuery net text refusal = ⊥
+
+-- the text of the weights is the cause
+abbrev pub IsBadWeights : Option (List ℕ) → Refusal → Type 0
+IsBadWeights weights (BadWeights fault) = (text : List ℕ) × (weights ≡ Some text) × IsWeightsFault text fault
+IsBadWeights weights Memory = Unit {0}
+IsBadWeights weights refusal = ⊥
+
+-- there is an answer, but a summary's weight doesn't fit, or else the least run is too long
+abbrev pub FromDecision : Net → Query → List (List Part) → Refusal → Type 0
+FromDecision net query vector (Overflow w terms) = IsOverflowing net query vector (components w) × (terms ≡ length vector)
+FromDecision net query vector (TooLong effort) = IsTooLong net query vector effort
+FromDecision net query vector Memory = Unit {0}
+FromDecision net query vector refusal = ⊥
+
+-- a text is a query of the network, and this follows
+abbrev pub ForQuery : Net → List ℕ → (Query → Type 0) → Type 0
+ForQuery net text P = (query : Query) × IsQuery net text query × P query
+
+-- and weights are these, and this follows
+abbrev pub ForAsked : Net → List ℕ → Option (List ℕ) → (Query → List (List Part) → Type 0) → Type 0
+ForAsked net text weights P = (query : Query) × (vector : List (List Part)) × IsAsked net text weights query vector × P query vector
+
+-- the texts are the cause, one after the other, or what they ask
+abbrev pub FromTexts : Net → List ℕ → Option (List ℕ) → Refusal → Type 0
+FromTexts net text weights refusal =
+    IsBadQuery net text refusal
+    ⊎ ForQuery net text (λ query. IsBadWeights weights refusal)
+    ⊎ ForAsked net text weights (λ query vector. FromDecision net query vector refusal)

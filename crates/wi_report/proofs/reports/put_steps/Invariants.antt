@@ -1,0 +1,11 @@
+use Rattle.std.proofs.Common.{◌≡◌, ◌++◌, drop, true}
+use Rattle.wi_net.specs.Net.{is_link, labels_known}
+use Rattle.wi_report.specs.Reports.{steps_shown}
+use Rattle.wi_report.proofs.reports.put_steps.Given as goal
+
+abbrev pub invariant-loop-step : goal.invariant-loop-step
+invariant-loop-step l = record {
+  link : is_link l.net l.link ≡ true;
+  header : labels_known l.net l.header ≡ true;
+  text : l.text ++ steps_shown l.net (l.link, l.header) (drop l.step-index l.steps) ≡ l.initial.text ++ steps_shown l.net (l.initial.link, l.initial.header) l.steps;
+}

@@ -1,0 +1,79 @@
+-- The report on an answer, as bytes.
+use Rattle.std.specs.Prelude.{◌≡◌, ℕ, ◌+◌, ◌==◌, true, if◌then◌else◌, List, [], ◌∷◌, ◌++◌, length, take, codes, Option, Some}
+use Rattle.std.specs.Option.{option_map_or}
+use Rattle.std.specs.Fmt.{decimal}
+use Rattle.wi_weight.specs.declared.kinds.Pair.{Pair}
+use Rattle.wi_weight.specs.declared.kinds.Terms.{Terms}
+use Rattle.wi_weight.specs.declared.kinds.Effort.{Effort}
+use Rattle.wi_net.specs.declared.parts.LinkId.{LinkId}
+use Rattle.wi_net.specs.declared.bounds.Bounds.{Bounds}
+use Rattle.wi_net.specs.Net.{Net, is_link, labels_known}
+use Rattle.wi_world.specs.declared.run.Run.{Run}
+use Rattle.wi_world.specs.declared.run.Step.{Step}
+use Rattle.wi_world.specs.declared.answer.Word.{Word}
+use Rattle.wi_world.specs.declared.answer.Word.TheVariants.{Yes, No, Inconclusive}
+use Rattle.wi_world.specs.declared.answer.Verdict.{Verdict}
+use Rattle.wi_world.specs.declared.answer.Verdict.TheVariants.{Fits, Exceeds, UsesFailed}
+use Rattle.wi_world.specs.Moves.{Place, moved}
+use Rattle.wi_world.specs.Runs.{needs}
+use Rattle.wi_quantity.specs.Weighing.{components}
+use Rattle.wi_trace.specs.declared.answer.Answer.{Answer}
+use Rattle.wi_report.specs.Shown.{link_shown, links_shown, place_shown}
+
+-- numbers, each after a space
+abbrev pub numbers_shown : List ℕ → List ℕ
+numbers_shown [] = []
+numbers_shown (n ∷ ns) = codes " " ++ decimal n ++ numbers_shown ns
+
+-- the values of so many terms, or `none`
+abbrev pub terms_shown : ℕ → List ℕ → List ℕ
+terms_shown terms values = if terms == 0 then codes " none" else numbers_shown (take terms values)
+
+-- what a run weighs: its terms, and its effort
+abbrev pub weight_shown : ℕ → Pair Terms Effort → List ℕ
+weight_shown terms w = codes "weight:" ++ terms_shown terms (components w) ++ codes "\neffort: " ++ decimal w.second.count ++ codes "\n"
+
+-- how a run fares that needs these links to fail, where k risk groups may
+abbrev pub verdict_shown : Net → ℕ → List LinkId → Verdict → List ℕ
+verdict_shown net k needs (Fits fails) = codes "failed: " ++ links_shown net needs ++ codes "\n"
+verdict_shown net k needs (Exceeds n) =
+    codes "needs: " ++ links_shown net needs ++ codes "\ncause: needs " ++ decimal n ++ codes ", allowed " ++ decimal k ++ codes "\n"
+verdict_shown net k needs (UsesFailed e) = codes "needs: " ++ links_shown net needs ++ codes "\ncause: uses " ++ link_shown net e ++ codes "\n"
+
+-- the group and the member of a step, from 1
+abbrev pub step_shown : Step → List ℕ
+step_shown step = codes " | group " ++ decimal (step.group + 1) ++ codes " member " ++ decimal (step.member + 1)
+
+-- a line for each step: where it leads, and its group and member
+abbrev pub steps_shown : Net → Place → List Step → List ℕ
+steps_shown net at [] = []
+steps_shown net at (step ∷ steps) = option_map_or (λ next. place_shown net next ++ step_shown step ++ codes "\n" ++ steps_shown net next steps) (moved net at step) []
+
+-- a line for each link of a run
+abbrev pub run_shown : Net → Run → List ℕ
+run_shown net run = place_shown net (run.first, run.header) ++ codes "\n" ++ steps_shown net (run.first, run.header) run.steps
+
+-- that there is a run, how many links it has, and these
+abbrev pub moving_shown : Net → Run → List ℕ
+moving_shown net run = codes "moving: yes\nlinks: " ++ decimal (length run.steps + 1) ++ codes "\n" ++ run_shown net run
+
+-- a run with what it weighs and how it fares; where there is none, that nothing moves so
+abbrev pub found_shown : Net → Bounds → ℕ → Option (Pair Terms Effort) → Option Run → Option Verdict → List ℕ
+found_shown net bounds terms (Some w) (Some run) (Some verdict) =
+    weight_shown terms w ++ verdict_shown net bounds.k (needs net bounds run) verdict ++ moving_shown net run
+found_shown net bounds terms _ _ _ = codes "moving: no\n"
+
+-- the answer's word
+abbrev pub word_shown : Word → List ℕ
+word_shown Yes = codes "yes"
+word_shown No = codes "no"
+word_shown Inconclusive = codes "inconclusive"
+
+-- the report on an answer, where runs are weighed by so many terms
+abbrev pub report_of : Net → Bounds → ℕ → Answer → List ℕ
+report_of net bounds terms a = codes "answer: " ++ word_shown a.word ++ codes "\n" ++ found_shown net bounds terms a.weight a.run a.verdict
+
+-- where a run begins: the link and the labels of the header are the network's
+pub record IsKnownRun (net : Net) (run : Run) : Type 0 where
+  pub link : is_link net run.first ≡ true
+  pub header : labels_known net run.header ≡ true

@@ -1,0 +1,319 @@
+//! The report on an answer.
+ghost use Rattle.std.specs.Prelude.{◌≡◌, ◌++◌, ◌+◌, true, length, slice_get, codes, Some, None, IfOk, OnOk, IfSome};
+ghost use Rattle.std.specs.List.{list_all};
+ghost use Rattle.std.specs.Option.{option_map};
+ghost use Rattle.std.specs.Fmt.{decimal};
+ghost use Rattle.wi_net.specs.Net.{is_link, labels_known};
+ghost use Rattle.wi_world.specs.Moves.{AreBounds, moved};
+ghost use Rattle.wi_world.specs.Runs.{needs};
+ghost use Rattle.wi_quantity.specs.Weighing.{components};
+ghost use Rattle.wi_report.specs.Shown.{link_shown, links_shown, place_shown};
+ghost use Rattle.wi_report.specs.Reports.{IsKnownRun, numbers_shown, terms_shown, weight_shown, verdict_shown, step_shown, steps_shown, run_shown, moving_shown, found_shown, word_shown, report_of};
+
+use crate::shown::{put_counted, put_known, put_links, put_place};
+use std::alloc::Global;
+use wi_base::NoMemory;
+use wi_labels::{Applied, Header};
+use wi_net::{Bounds, FailSet, LinkId, Network};
+use wi_quantity::{Vector, Weight};
+use wi_query::Query;
+use wi_text::Text;
+use wi_trace::{Answer, needs};
+use wi_world::{Run, Step, Verdict, Word};
+
+/// The report on an answer to a query, where runs are weighed by a vector. Its first line is `answer:` and the answer's word.
+/// Where the answer shows a run, then come `weight:` and the values of the vector's terms, or `none` where it has no term;
+/// `effort:`; `failed:` and the links that must fail, or `needs:` and these and then `cause:` and why they may not;
+/// `moving: yes`; `links:` and how many links the run has; and a line for each of these: the link, the header, and the group
+/// and the member, from 1, that led there. Where it shows none, the second line is `moving: no`.
+pub fn report(
+    alloc: Global,
+    net: &Network,
+    query: &Query,
+    vector: &Vector,
+    answer: &Answer,
+) -> Result<Text, NoMemory>
+    requires bounds { AreBounds net.now query.now.bounds }
+    requires run { IfSome answer.now.run (IsKnownRun net.now) }
+    ensures { IfOk result (λ text. text ≡ report_of net.now query.now.bounds (length vector.now) answer.now) }
+{
+    let mut text = Text::new(alloc);
+    text.put("answer: ")?;
+    put_word(answer.word, &mut text)?;
+    text.put("\n")?;
+    put_found(alloc, net, &query.bounds, vector.len(), answer, &mut text)?;
+    Ok(text)
+}
+
+fn put_word(word: Word, text: &mut Text) -> Result<(), NoMemory>
+    ensures { OnOk result (text.new ≡ text.old ++ word_shown word) }
+{
+    match word {
+        Word::Yes => text.put("yes"),
+        Word::No => text.put("no"),
+        Word::Inconclusive => text.put("inconclusive"),
+    }
+}
+
+// Adds what an answer shows besides its word.
+fn put_found(
+    alloc: Global,
+    net: &Network,
+    bounds: &Bounds,
+    terms: usize,
+    answer: &Answer,
+    text: &mut Text,
+) -> Result<(), NoMemory>
+    requires bounds { AreBounds net.now bounds.now }
+    requires run { IfSome answer.now.run (IsKnownRun net.now) }
+    ensures { OnOk result (text.new ≡ text.old ++ found_shown net.now bounds.now terms answer.now.weight answer.now.run answer.now.verdict) }
+{
+    match (&answer.weight, &answer.run, &answer.verdict) {
+        (Some(weight), Some(run), Some(verdict)) => {
+            put_weight(terms, weight, text)?;
+            put_verdict(alloc, net, bounds, run, verdict, text)?;
+            put_moving(net, run, text)
+        }
+        _ => text.put("moving: no\n"),
+    }
+}
+
+// Adds what a run weighs.
+fn put_weight(terms: usize, weight: &Weight, text: &mut Text) -> Result<(), NoMemory>
+    ensures { OnOk result (text.new ≡ text.old ++ weight_shown terms weight.now) }
+{
+    text.put("weight:")?;
+    put_terms(terms, weight, text)?;
+    text.put("\neffort: ")?;
+    text.put_number(weight.second.count)?;
+    text.put("\n")
+}
+
+// Adds the values of so many terms.
+fn put_terms(terms: usize, weight: &Weight, text: &mut Text) -> Result<(), NoMemory>
+    ensures { OnOk result (text.new ≡ text.old ++ terms_shown terms (components weight.now)) }
+{
+    if terms == 0 {
+        return text.put(" none");
+    }
+    let all = components_of(weight);
+    put_numbers(&all[..terms.min(all.len())], text)
+}
+
+/// The values of five terms, and then the effort. It takes no memory.
+pub(crate) fn components_of(weight: &Weight) -> [u128; 6]
+    ensures { result ≡ components weight.now }
+{
+    let [a, b, c, d, e] = weight.first.parts;
+    [a, b, c, d, e, weight.second.count]
+}
+
+// Adds numbers, each after a space.
+fn put_numbers(numbers: &[u128], text: &mut Text) -> Result<(), NoMemory>
+    ensures { OnOk result (text.new ≡ text.old ++ numbers_shown numbers.now) }
+{
+    for number in numbers {
+        text.put(" ")?;
+        text.put_number(*number)?;
+    }
+    Ok(())
+}
+
+// Adds how a run fares.
+#[tactic(auto, using(crate::proofs::ReportLemmas::needs_known))]
+fn put_verdict(
+    alloc: Global,
+    net: &Network,
+    bounds: &Bounds,
+    run: &Run,
+    verdict: &Verdict,
+    text: &mut Text,
+) -> Result<(), NoMemory>
+    requires { AreBounds net.now bounds.now }
+    ensures { OnOk result (text.new ≡ text.old ++ verdict_shown net.now bounds.now.k (needs net.now bounds.now run.now) verdict.now) }
+{
+    let needs = needs(alloc, net, run, bounds)?;
+    put_judged(net, bounds.k, &needs, verdict, text)
+}
+
+// Adds how a run fares that needs these links to fail, where k risk groups may.
+fn put_judged(
+    net: &Network,
+    k: u32,
+    needs: &FailSet,
+    verdict: &Verdict,
+    text: &mut Text,
+) -> Result<(), NoMemory>
+    requires { list_all (is_link net.now) needs.now ≡ true }
+    ensures { OnOk result (text.new ≡ text.old ++ verdict_shown net.now k needs.now verdict.now) }
+{
+    match verdict {
+        Verdict::Fits(_) => put_fits(net, needs, text),
+        Verdict::Exceeds(count) => put_exceeds(net, needs, *count, k, text),
+        Verdict::UsesFailed(link) => put_uses_failed(net, needs, *link, text),
+    }
+}
+
+fn put_fits(net: &Network, needs: &FailSet, text: &mut Text) -> Result<(), NoMemory>
+    requires { list_all (is_link net.now) needs.now ≡ true }
+    ensures { OnOk result (text.new ≡ text.old ++ (codes "failed: " ++ links_shown net.now needs.now ++ codes "\n")) }
+{
+    text.put("failed: ")?;
+    put_links(net, needs, text)?;
+    text.put("\n")
+}
+
+fn put_exceeds(
+    net: &Network,
+    needs: &FailSet,
+    count: usize,
+    k: u32,
+    text: &mut Text,
+) -> Result<(), NoMemory>
+    requires { list_all (is_link net.now) needs.now ≡ true }
+    ensures { OnOk result (text.new ≡ text.old ++ (codes "needs: " ++ links_shown net.now needs.now ++ codes "\ncause: needs " ++ decimal count ++ codes ", allowed " ++ decimal k ++ codes "\n")) }
+{
+    text.put("needs: ")?;
+    put_links(net, needs, text)?;
+    text.put("\ncause: needs ")?;
+    text.put_number(count as u128)?;
+    text.put(", allowed ")?;
+    text.put_number(u128::from(k))?;
+    text.put("\n")
+}
+
+fn put_uses_failed(
+    net: &Network,
+    needs: &FailSet,
+    link: LinkId,
+    text: &mut Text,
+) -> Result<(), NoMemory>
+    requires { list_all (is_link net.now) needs.now ≡ true }
+    ensures { OnOk result (text.new ≡ text.old ++ (codes "needs: " ++ links_shown net.now needs.now ++ codes "\ncause: uses " ++ link_shown net.now link ++ codes "\n")) }
+{
+    text.put("needs: ")?;
+    put_links(net, needs, text)?;
+    text.put("\ncause: uses ")?;
+    put_known(net, link, text)?;
+    text.put("\n")
+}
+
+// Adds that there is a run, how many links it has, and these.
+fn put_moving(net: &Network, run: &Run, text: &mut Text) -> Result<(), NoMemory>
+    requires { IsKnownRun net.now run.now }
+    ensures { OnOk result (text.new ≡ text.old ++ moving_shown net.now run.now) }
+{
+    put_length(run.steps.as_slice(), text)?;
+    put_run(net, run, text)
+}
+
+// Adds that there is a run, and how many links it has: one more than steps.
+fn put_length(steps: &[Step], text: &mut Text) -> Result<(), NoMemory>
+    ensures { OnOk result (text.new ≡ text.old ++ (codes "moving: yes\nlinks: " ++ decimal (length steps.now + 1) ++ codes "\n")) }
+{
+    put_counted("moving: yes\nlinks: ", steps.len() + 1, "\n", text)
+}
+
+// Adds a line for each link of a run.
+fn put_run(net: &Network, run: &Run, text: &mut Text) -> Result<(), NoMemory>
+    requires { IsKnownRun net.now run.now }
+    ensures { OnOk result (text.new ≡ text.old ++ run_shown net.now run.now) }
+{
+    put_place(net, run.first, &run.header, text)?;
+    text.put("\n")?;
+    let header = twin_of(&run.header)?;
+    put_steps(net, run.first, header, run.steps.as_slice(), text)
+}
+
+fn twin_of(header: &Header) -> Result<Header, NoMemory>
+    ensures { IfOk result (λ twin. twin ≡ header.now) }
+{
+    match header.twin() {
+        Ok(header) => Ok(header),
+        Err(_) => Err(NoMemory::Memory),
+    }
+}
+
+// Adds a line for each step from a place on.
+fn put_steps(
+    net: &Network,
+    first: LinkId,
+    mut header: Header,
+    steps: &[Step],
+    text: &mut Text,
+) -> Result<(), NoMemory>
+    requires link { is_link net.now first ≡ true }
+    requires header { labels_known net.now header ≡ true }
+    ensures { OnOk result (text.new ≡ text.old ++ steps_shown net.now (first, header) steps.now) }
+{
+    net.keeps();
+    let mut link = first;
+    for step in steps {
+        let Some(next) = hop(net, link, &mut header, *step)? else {
+            return Ok(());
+        };
+        link = next;
+        put_step_line(net, link, &header, *step, text)?;
+    }
+    Ok(())
+}
+
+// Where a step leads: the header changes, and the answer is the link that the packet is on then.
+fn hop(
+    net: &Network,
+    link: LinkId,
+    header: &mut Header,
+    step: Step,
+) -> Result<Option<LinkId>, NoMemory>
+    ensures { IfOk result (λ next. moved net.now (link, header.old) step ≡ option_map (λ e. (e, header.new)) next) }
+{
+    let Some((top, _)) = header.at(0) else {
+        return Ok(None);
+    };
+    let Some(group) = nth(net.entry(link, top), step.group) else {
+        return Ok(None);
+    };
+    let Some(member) = nth(group.as_slice(), step.member) else {
+        return Ok(None);
+    };
+    match header.apply(member.ops.as_slice()) {
+        Ok(Applied::Done) => Ok(Some(member.link)),
+        Ok(Applied::Undefined(_)) => Ok(None),
+        Err(_) => Err(NoMemory::Memory),
+    }
+}
+
+// The element of a list with this number, the first one's being 0.
+fn nth<T>(items: &[T], number: u32) -> Option<&T>
+    ensures some { IfSome result (λ item. slice_get items.now number ≡ Some item.now) }
+    ensures none { result ≡ None → slice_get items.now number ≡ None }
+{
+    items.get(number as usize)
+}
+
+// Adds the line of a step that led here.
+fn put_step_line(
+    net: &Network,
+    link: LinkId,
+    header: &Header,
+    step: Step,
+    text: &mut Text,
+) -> Result<(), NoMemory>
+    requires link { is_link net.now link ≡ true }
+    requires header { labels_known net.now header.now ≡ true }
+    ensures { OnOk result (text.new ≡ text.old ++ (place_shown net.now (link, header.now) ++ step_shown step ++ codes "\n")) }
+{
+    put_place(net, link, header, text)?;
+    put_step(step, text)?;
+    text.put("\n")
+}
+
+// Adds the group and the member of a step, from 1.
+fn put_step(step: Step, text: &mut Text) -> Result<(), NoMemory>
+    ensures { OnOk result (text.new ≡ text.old ++ step_shown step) }
+{
+    text.put(" | group ")?;
+    text.put_number(step.group as u128 + 1)?;
+    text.put(" member ")?;
+    text.put_number(step.member as u128 + 1)
+}

@@ -426,6 +426,17 @@ fn faults_of_the_network_file(rt: HostRuntime) -> Result<(), Fail> {
 }
 
 #[test]
+fn the_name_of_a_risk_group_is_a_text(rt: HostRuntime) -> Result<(), Fail> {
+    let text = n6().replace(rt.alloc(), r#""group":"fiber""#, r#""group":5"#)?;
+    let said = verified(rt.alloc(), text.as_bytes(), "<ip1> . <ip1> 0")?;
+    assert_eq!(rt;
+        said.as_str(),
+        "3<><network: links[1].group: wrong shape\n>"
+    );
+    Ok(())
+}
+
+#[test]
 fn a_file_of_67108865_bytes_is_too_long(rt: HostRuntime) -> Result<(), Fail> {
     let bytes = vec![in rt.alloc(); b'x'; 67_108_865]?;
     let said = verified(rt.alloc(), bytes.as_slice(), "<ip1> [x#a] <ip1> 0")?;

@@ -82,17 +82,13 @@ FromDecision net query vector (TooLong effort) = IsTooLong net query vector effo
 FromDecision net query vector Memory = Unit {0}
 FromDecision net query vector refusal = ⊥
 
--- a text is a query of the network, and this follows
-abbrev pub ForQuery : Net → List ℕ → (Query → Type 0) → Type 0
-ForQuery net text P = (query : Query) × IsQuery net text query × P query
-
--- and weights are these, and this follows
+-- texts are a query of the network and weights, and this holds of them
 abbrev pub ForAsked : Net → List ℕ → Option (List ℕ) → (Query → List (List Part) → Type 0) → Type 0
 ForAsked net text weights P = (query : Query) × (vector : List (List Part)) × IsAsked net text weights query vector × P query vector
 
--- the texts are the cause, one after the other, or what they ask
+-- the text of the query is the cause; or, that being a query, the text of the weights; or else what both ask
 abbrev pub FromTexts : Net → List ℕ → Option (List ℕ) → Refusal → Type 0
 FromTexts net text weights refusal =
     IsBadQuery net text refusal
-    ⊎ ForQuery net text (λ query. IsBadWeights weights refusal)
+    ⊎ ((query : Query) × IsQuery net text query × IsBadWeights weights refusal)
     ⊎ ForAsked net text weights (λ query vector. FromDecision net query vector refusal)

@@ -18,7 +18,7 @@ use Rattle.wi_words.specs.Commands.{Command, Verify, Play, command_of}
 use Rattle.wi_decide.specs.Refusals.{IsOverflowing, IsTooLong}
 use Rattle.wi_query.specs.declared.query.Query.{Query}
 use Rattle.wi_quantity.specs.declared.vector.Part.{Part}
-use Rattle.wi_app.specs.Asked.{ForAsked, FromTexts, IsAnswer}
+use Rattle.wi_app.specs.Asked.{ForAsked, FromTexts, IsAnswer, IsAsked}
 use Rattle.wi_app.specs.Edges.{ShelfSeen, Seen, Untouched, PutAll, PutPart, PutNothing, SaysWhy}
 use Rattle.wi_app.specs.declared.refusal.Refusal.{Refusal}
 use Rattle.wi_app.specs.declared.refusal.Refusal.TheVariants.{Usage, CannotRead, Network, Script as BadScript, LongScript, CannotPrint, Memory}
@@ -136,7 +136,7 @@ Does words shelf_old shelf_new out_old out_new err_old err_new result =
 -- a command can be answered: the shelf holds a network's file, and the texts are a query of it and weights; or it holds a
 -- script, too, that can be played
 abbrev pub CanBeAnswered : (List ℕ → Option (List ℕ)) → Command → Type 0
-CanBeAnswered file (Verify name query weights) = (net : Net) × HoldsNetwork (file name) net × ForAsked net query weights (λ q vector. Unit {0})
+CanBeAnswered file (Verify name text weights) = (net : Net) × HoldsNetwork (file name) net × ((query : Query) × (vector : List (List Part)) × IsAsked net text weights query vector)
 CanBeAnswered file (Play name script k) = (net : Net) × HoldsNetwork (file name) net × ((bytes text : List ℕ) × (file script ≡ Some bytes) × IsPlay net k bytes text)
 
 -- how a query may end: with yes or no, with inconclusive where something may fail, or with a refusal that is due
@@ -150,7 +150,7 @@ MayEnd net query vector status =
 
 -- the statuses with which a command may end that can be answered
 abbrev pub IsStatus : (List ℕ → Option (List ℕ)) → Command → ℕ → Type 0
-IsStatus file (Verify name query weights) status = (net : Net) × HoldsNetwork (file name) net × ForAsked net query weights (λ q vector. MayEnd net q vector status)
+IsStatus file (Verify name text weights) status = (net : Net) × HoldsNetwork (file name) net × ForAsked net text weights (λ query vector. MayEnd net query vector status)
 IsStatus file (Play name script k) status = status ≡ 0
 
 -- it ends with one of those, unless a call fails or memory runs out

@@ -7,9 +7,7 @@ use Rattle.std.proofs.lemmas.Bool.{and_parts, and_from, lt-ltb}
 use Rattle.std.proofs.lemmas.List.{append-nil, reverse-append, reverse-reverse}
 use Rattle.std.proofs.lemmas.List.Folds.{list_all-append}
 use Rattle.std.proofs.lemmas.Option.{slice_get_within}
-use Rattle.wi_labels.specs.declared.label.Class.{Class}
-use Rattle.wi_labels.specs.declared.label.Class.TheVariants.{Mpls, Smpls, Ip}
-use Rattle.wi_labels.specs.Header.{Entry, is_valid_header, same_class}
+use Rattle.wi_labels.specs.Header.{Entry, is_valid_header}
 use Rattle.wi_weight.specs.declared.kinds.Pair.{Pair}
 use Rattle.wi_weight.specs.declared.kinds.Terms.{Terms}
 use Rattle.wi_weight.specs.declared.kinds.Effort.{Effort}
@@ -27,6 +25,7 @@ use Rattle.wi_rules.specs.declared.spot.Origin.{Origin}
 use Rattle.wi_rules.specs.declared.spot.Origin.TheVariants.{Pushed, SetOut, Hop, Operation, Nothing}
 use Rattle.wi_rules.specs.Goals.{telling, told_of, hops_of}
 use Rattle.wi_rules.specs.Numbers.{Layout, told_by}
+use Rattle.wi_rules.proofs.Ops.{class_known}
 use Rattle.wi_setup.specs.Answers.{IsAnswering}
 use Rattle.wi_build.specs.Systems.{Given, IsGiven, rules_by, setup_given}
 use Rattle.wi_decide.specs.Spelled.{AreRulesFor, IsToldRun, Spelled, classed, is_named, is_origin_of, named, origin, scale, unspelled, with_origin, with_rules}
@@ -41,33 +40,12 @@ abbrev with_all : Net → Spelled → List Origin → Spelled
 with_all net s [] = s
 with_all net s (o ∷ os) = with_all net (with_origin net s o) os
 
--- a label that the network knows has its class there
+-- a label that the network knows has its class there, and a name
 classed_is : (net : Net) (l : Entry) → label_known net.classes l ≡ true → classed net l.0 ≡ l
-classed_is net l h = go (slice_get net.classes l.0.0) refl
-  where
-    same : (c d : Class) → same_class c d ≡ true → c ≡ d
-    same Mpls Mpls e = refl
-    same Smpls Smpls e = refl
-    same Ip Ip e = refl
-    same Mpls Smpls e = cc
-    same Mpls Ip e = cc
-    same Smpls Mpls e = cc
-    same Smpls Ip e = cc
-    same Ip Mpls e = cc
-    same Ip Smpls e = cc
-
-    go : (o : Option Class) → slice_get net.classes l.0.0 ≡ o → classed net l.0 ≡ l
-    go None e = let none : false ≡ true = rw e at h in cc
-    go (Some c) e =
-        let is : same_class c l.1 ≡ true = rw e at h in
-        rw e (ap (λ (d : Class). (l.0, d)) (same c l.1 is))
+classed_is net l h = rw (class_known net.classes l h) refl
 
 known_there : (net : Net) (l : Entry) → IsNetwork net → label_known net.classes l ≡ true → l.0.0 < length net.labels
-known_there net l k h = go (slice_get net.classes l.0.0) refl
-  where
-    go : (o : Option Class) → slice_get net.classes l.0.0 ≡ o → l.0.0 < length net.labels
-    go None e = let none : false ≡ true = rw e at h in cc
-    go (Some c) e = let within = slice_get_within net.classes l.0.0 c e in omega (arith, within, k.classes)
+known_there net l k h = let within = slice_get_within net.classes l.0.0 l.1 (class_known net.classes l h) in omega (arith, within, k.classes)
 
 module _ (net : Net) where
   -- the labels of a header, from the bottom

@@ -6,6 +6,7 @@ mod file;
 mod labels;
 mod links;
 mod operations;
+mod room;
 mod routers;
 mod shape;
 mod tables;

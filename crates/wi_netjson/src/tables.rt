@@ -7,6 +7,7 @@ ghost use Rattle.wi_netjson.specs.Tables.{member_at, way_at, group_at, group_mem
 
 use crate::fault::{MemberPart, NetFault, Place, TablePart};
 use crate::operations::operations;
+use crate::room::push;
 use crate::shape::{limited, list, object, text};
 use serde_json::Value;
 use std::alloc::Global;
@@ -106,7 +107,7 @@ fn groups(
     for (j, value) in values.iter().enumerate() {
         let group = group(alloc, builder, router, members, i, j, value)?;
         let count = group.len();
-        groups.push(Listed::of(group))?;
+        push(&mut groups, Listed::of(group))?;
         members += count;
     }
     Ok((groups, members))
@@ -151,7 +152,7 @@ fn members(
     for (m, value) in values.iter().enumerate() {
         let before = members.len();
         let member = member(alloc, builder, router, so_far + before, i, j, m, value)?;
-        members.push(member)?;
+        push(&mut members, member)?;
     }
     Ok(members)
 }

@@ -6,7 +6,7 @@ use Rattle.wi_netjson.proofs.tables.groups.Goals as goal
 
 pub loop-j-preserved : goal.loop-j-preserved
 loop-j-preserved c =
-    let pushed : c.push.new.self.items ≡ c.loop-j.groups.items ++ c.in_ok-group.group.items ∷ [] = c.in_ok-push.ensures.items ∙ ap (λ g. c.loop-j.groups.items ++ g ∷ []) c.of.ensures in
+    let pushed : c.push.new.list.items ≡ c.loop-j.groups.items ++ c.in_ok-group.group.items ∷ [] = c.in_ok-push.ensures ∙ ap (λ g. c.loop-j.groups.items ++ g ∷ []) c.of.ensures in
     let len : c.len-count.result ≡ length c.in_ok-group.group.items = search rules in
     rw pushed (record {
       walk = goes_on (group_at c.args.builder.now.net c.args.router c.args.so_far c.args.i) c.loop-j.groups.items (c.loop-j.groups.items ++ c.in_ok-group.group.items ∷ []) c.loop-j.j c.args.values.now c.index-values-j.result _ c.loop-j-test.true c.index-values-j.is

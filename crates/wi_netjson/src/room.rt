@@ -1,0 +1,15 @@
+//! Lists that take little more room than they need.
+ghost use Rattle.std.specs.Prelude.{◌≡◌, ◌++◌, ◌∷◌, [], OnOk};
+
+use wi_base::NoMemory;
+
+/// Adds an element at the end. Most lists of a file are short, so a list begins with room for one, and doubles it.
+pub fn push<T: Drop>(list: &mut Vec<T>, item: T) -> Result<(), NoMemory>
+    ensures { OnOk result (list.new.items ≡ list.old.items ++ item ∷ []) }
+{
+    if list.len() == list.capacity() {
+        list.reserve_exact(list.len().max(1))?;
+    }
+    list.push(item)?;
+    Ok(())
+}

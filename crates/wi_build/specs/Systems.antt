@@ -1,6 +1,7 @@
 -- The rules of a network and a query as those of a pushdown system (Schwoon 2002), and their list.
-use Rattle.std.specs.Prelude.{◌≡◌, ℕ, suc, ◌+◌, ◌*◌, List, [], ◌∷◌, length, map, slice_index}
-use Rattle.std.specs.List.{flat_map, range_with_len}
+use Rattle.std.specs.Prelude.{◌≡◌, refl, ℕ, suc, ◌+◌, ◌*◌, List, [], length, map, slice_index}
+use Rattle.std.specs.List.{All, flat_map, range_with_len}
+use Rattle.std.proofs.lemmas.List.Elements.{All-map, All-from_get_or}
 use Rattle.wi_weight.specs.declared.kinds.Pair.{Pair}
 use Rattle.wi_weight.specs.declared.kinds.Terms.{Terms}
 use Rattle.wi_weight.specs.declared.kinds.Effort.{Effort}
@@ -8,7 +9,10 @@ use Rattle.wi_net.specs.declared.bounds.Bounds.{Bounds}
 use Rattle.wi_net.specs.Net.{Net}
 use Rattle.wi_query.specs.declared.query.Query.{Query}
 use Rattle.wi_quantity.specs.declared.vector.Part.{Part}
+use Rattle.wi_pds.specs.declared.rule.Word2.TheVariants.{Empty}
 use Rattle.wi_pds.specs.declared.rule.Rule.{Rule}
+use Rattle.wi_pds.specs.Rules.{IsOf}
+use Rattle.wi_rules.specs.declared.spot.Origin.TheVariants.{Nothing}
 use Rattle.wi_rules.specs.Rules.{Setup}
 use Rattle.wi_rules.specs.Numbers.{Layout, NumberedRule, layout_of, rules_at_number}
 use Rattle.wi_setup.specs.Setups.{setup_of}
@@ -32,7 +36,13 @@ IsGiven g = AreGiven g.net g.query g.bounds
 -- the weight of six components
 abbrev pub weight : List ℕ → Pair Terms Effort
 weight xs = record {
-  first = record { parts = slice_index xs 0 ∷ slice_index xs 1 ∷ slice_index xs 2 ∷ slice_index xs 3 ∷ slice_index xs 4 ∷ [] };
+  first = record {
+    first = slice_index xs 0;
+    second = slice_index xs 1;
+    third = slice_index xs 2;
+    fourth = slice_index xs 3;
+    fifth = slice_index xs 4;
+  };
   second = record { count = slice_index xs 5 };
 }
 
@@ -43,6 +53,12 @@ rule_at n g r = record { from = n; top = g; to = r.to; word = r.word; weight = w
 -- the rules of a head, in order
 abbrev pub rules_by : Setup → ℕ → ℕ → List (Rule (Pair Terms Effort))
 rules_by s n g = map (λ r. rule_at n g r) (rules_at_number s n g)
+
+-- each of them names the head
+pub rules_name_heads : (s : Setup) (n g : ℕ) → All (IsOf n g) (rules_by s n g)
+rules_name_heads s n g =
+    All-map (IsOf n g) (λ r. rule_at n g r) (rules_at_number s n g)
+    (All-from_get_or (λ r. IsOf n g (rule_at n g r)) (rules_at_number s n g) (record { to = 0; word = Empty; weight = []; origin = Nothing }) (λ i low. (refl, refl)))
 
 -- how many numbers of spots there are
 abbrev pub spot_count : Layout → ℕ

@@ -101,6 +101,7 @@ impl<'a> LazySystem<'a> {
         requires { head.symbol ≡ suc top.0 }
         ensures { OnOk result (rules.new.items ≡ rules.old.items ++ rules_for (setup_given self.now) head (flat_map (set_out_rules (setup_given self.now) top.0) (links_where self.now.net (λ e. not (has self.now.bounds.down e))))) }
     {
+        rules.reserve(self.links() as usize)?;
         for link in 0..self.links() {
             self.push_first_link(rules, head, top, LinkId(link))?;
         }

@@ -175,6 +175,10 @@ impl<'a> LazySystem<'a> {
     }
 
     /// Puts the rules of a head at the end of a list.
+    ///
+    /// What it costs: one walk over what these rules are of, with the states that come after or before: all labels where a
+    /// header is made, all links where the packet sets out, and on a link the groups of its row, as far as what must have failed
+    /// may be down. What the groups before need is carried along.
     pub(crate) fn push_head(
         &self,
         alloc: Global,
@@ -197,11 +201,15 @@ impl<'a> LazySystem<'a> {
 }
 
 impl<'a> System<Weight> for LazySystem<'a> {
-    ghost use Rattle.wi_build.specs.Systems.{setup_given, rules_by};
+    ghost use Rattle.wi_build.specs.Systems.{setup_given, rules_by, rules_name_heads};
 
     ghost start_head = { λ s. (0, 0) };
 
     ghost rules = { λ s. rules_by (setup_given s) };
+
+    ghost may_ask = { λ s p g. Unit {0} };
+
+    ghost names_head = { λ s. rules_name_heads (setup_given s) };
 
     fn start(&self) -> (u64, u32) {
         (0, 0)

@@ -286,7 +286,7 @@ fn query_of(alloc: Global, net: &Network, text: &str) -> Result<Query, Fail>
 }
 
 fn weight_is(rt: &impl Abort, weight: Weight, terms: [u128; 5]) {
-    assert_eq!(rt; weight.first.parts, terms);
+    assert_eq!(rt; weight.first.parts(), terms);
     assert_eq!(rt; weight.second.count, 1);
 }
 
@@ -322,16 +322,16 @@ fn heads_are(
     Ok(())
 }
 
-// Whether two systems have the same rules at the head of a rule, in the same order.
-fn same_at<S: System<Weight>, T: System<Weight>>(
+// Whether the system's rules at the head of a rule are the listed ones, in their order.
+fn same_at(
     rt: &impl Abort,
     alloc: Global,
-    one: &S,
-    other: &T,
+    list: &RuleList<Weight>,
+    system: &LazySystem<'_>,
     rule: &Rule<Weight>,
 ) -> Result<(), Fail> {
-    let listed = one.rules_of(alloc, rule.from, rule.top)?;
-    let made = other.rules_of(alloc, rule.from, rule.top)?;
+    let listed = list.rules_of(alloc, rule.from, rule.top)?;
+    let made = system.rules_of(alloc, rule.from, rule.top)?;
     assert_eq!(rt; listed.len(), made.len());
     for (one, other) in listed.iter().zip(made.iter()) {
         assert!(rt; *one == *other);

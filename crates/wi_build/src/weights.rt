@@ -13,11 +13,8 @@ const ONE: Effort = Effort { count: 1 };
 pub(crate) fn counted(share: Weight) -> Weight
     ensures { result ≡ weight (take 5 (components share) ++ 1 ∷ []) }
 {
-    let [a, b, c, d, e] = share.first.parts;
     Pair {
-        first: Terms {
-            parts: [a, b, c, d, e],
-        },
+        first: share.first,
         second: ONE,
     }
 }
@@ -27,9 +24,7 @@ pub(crate) fn effort() -> Weight
     ensures { result ≡ weight (replicate 5 0 ++ 1 ∷ []) }
 {
     Pair {
-        first: Terms {
-            parts: [0, 0, 0, 0, 0],
-        },
+        first: Terms::of([0, 0, 0, 0, 0]),
         second: ONE,
     }
 }

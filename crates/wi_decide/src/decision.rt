@@ -49,20 +49,25 @@ pub fn decide(
     vector.keeps();
     let system = LazySystem::new(alloc, net, query, vector, &query.bounds)?;
     let heads = reach(alloc, &system)?;
-    let table = table_of::<Brand>(alloc, &system, &heads, Blank::new(1))?;
+    let table = table_of::<Brand, Brand>(alloc, &system, &heads, Blank::new(1), Blank::new(1))?;
     answer_of(alloc, net, query, &system, &table)
 }
 
-// The least summaries of heads, up to the goal. How many turns it takes is counted by the blank's ledger, and not looked at.
-fn table_of<L: Ledger>(
+// The least summaries of heads, up to the goal. How many rows are settled and how many candidates are tried is counted by the
+// blanks' ledgers, and not looked at.
+fn table_of<L: Ledger, M: Ledger>(
     alloc: Global,
     system: &LazySystem<'_>,
     heads: &Heads,
     blank: Blank,
+    other: Blank,
 ) -> Result<Table<Weight>, DecideRefused>
     requires name { blank.name ≡ L.name }
     requires parts { blank.parts ≡ L.parts }
     requires some { 0 < blank.parts }
+    requires other_name { other.name ≡ M.name }
+    requires other_parts { other.parts ≡ M.parts }
+    requires other_some { 0 < other.parts }
     requires given { IsGiven system.now }
     requires vector { is_vector system.now.vector ≡ true }
     requires closed { AreClosed (rules_by (setup_given system.now)) (0, 0) heads.now.heads heads.now.pairs }
@@ -70,7 +75,16 @@ fn table_of<L: Ledger>(
     ensures refused { IfErr result (λ refused. IsNoTable system.now heads.now.heads refused) }
 {
     let mut steps = Steps::<L>::open(blank);
-    match least(alloc, system, heads, (0, 0, 1), None, &mut steps) {
+    let mut tries = Steps::<M>::open(other);
+    match least(
+        alloc,
+        system,
+        heads,
+        (0, 0, 1),
+        None,
+        &mut steps,
+        &mut tries,
+    ) {
         Ok(table) => Ok(table),
         Err(LeastRefused::Overflow { weight, .. }) => Err(DecideRefused::Overflow(weight)),
         Err(LeastRefused::Memory) => Err(DecideRefused::Memory),

@@ -1,6 +1,6 @@
 //! The run that a goal run of the rules spells.
 ghost use Rattle.std.specs.Prelude.{◌≡◌, ◌∷◌, [], ℕ, List, true, Some, IsSome, IfOk, OnOk};
-ghost use Rattle.std.specs.List.{list_all};
+ghost use Rattle.std.specs.List.{list_all, All};
 ghost use Rattle.wi_witness.specs.GoalRuns.{IsNamedRun};
 ghost use Rattle.wi_quantity.specs.Weighing.{components};
 ghost use Rattle.wi_rules.specs.Goals.{told_of};
@@ -93,7 +93,8 @@ fn header_of(alloc: Global, labels: &[(Label, Class)]) -> Result<Header, NoMemor
 
 // The rule that an id names.
 fn named<S: System<Weight>>(alloc: Global, sys: &S, id: RuleId) -> Result<Rule<Weight>, NoMemory>
-    requires { IsSome (named (S.rules sys.now) id) }
+    requires names { IsSome (named (S.rules sys.now) id) }
+    requires asked { S.may_ask sys.now id.p id.g }
     ensures { IfOk result (λ rule. named (S.rules sys.now) id ≡ Some rule) }
 {
     let rules = sys.rules_of(alloc, id.p, id.g)?;
@@ -108,7 +109,8 @@ fn spell<S: System<Weight>>(
     sys: &S,
     ids: &[RuleId],
 ) -> Result<Spelling, NoMemory>
-    requires { list_all (is_named net.now (S.rules sys.now)) ids.now ≡ true }
+    requires names { list_all (is_named net.now (S.rules sys.now)) ids.now ≡ true }
+    requires asked { All (λ id. S.may_ask sys.now id.p id.g) ids.now }
     ensures { IfOk result (λ s. s ≡ with_rules net.now (S.rules sys.now) unspelled ids.now) }
 {
     let mut spelling = Spelling::new(alloc);
@@ -120,7 +122,8 @@ fn spell<S: System<Weight>>(
 }
 
 /// The run of the network that a goal run of its rules spells, by what these stand for: a matching run of the moving world that
-/// weighs what the goal run does. The rules are those of a query within any bounds, from any system that has them.
+/// weighs what the goal run does. The rules are those of a query within any bounds, from any system that has them; it is asked
+/// for those of the heads that the ids name, and of no other.
 pub fn run_of<S: System<Weight>>(
     alloc: Global,
     net: &Network,
@@ -128,7 +131,8 @@ pub fn run_of<S: System<Weight>>(
     sys: &S,
     ids: &[RuleId],
 ) -> Result<Run, NoMemory>
-    requires { (given : Given) × (w : List ℕ) × AreRulesFor given net.now layout.now (S.rules sys.now) × IsNamedRun scale components (S.rules sys.now) 0 0 1 ids.now w }
+    requires spells { (given : Given) × (w : List ℕ) × AreRulesFor given net.now layout.now (S.rules sys.now) × IsNamedRun scale components (S.rules sys.now) 0 0 1 ids.now w }
+    requires asked { All (λ id. S.may_ask sys.now id.p id.g) ids.now }
     ensures { IfOk result (λ run. (given : Given) (w : List ℕ) → AreRulesFor given net.now layout.now (S.rules sys.now) →
         (goal : IsNamedRun scale components (S.rules sys.now) 0 0 1 ids.now w) →
         IsAnswering given.net given.query given.vector given.bounds w run × (told_by origin goal.0 ≡ told_of run)) }

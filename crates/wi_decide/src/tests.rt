@@ -341,7 +341,7 @@ fn verdict_is(rt: &impl Abort, verdict: &Verdict, expected: Judged) {
 
 fn weight_is(rt: &impl Abort, weight: Option<Weight>, shown: &Shown) {
     let expected = Pair {
-        first: Terms { parts: shown.terms },
+        first: Terms::of(shown.terms),
         second: Effort {
             count: shown.effort,
         },
@@ -728,7 +728,13 @@ fn doubling_refuses(
 }
 
 const OVERFLOW: Weight = Pair {
-    first: Terms { parts: NO_TERM },
+    first: Terms {
+        first: 0,
+        second: 0,
+        third: 0,
+        fourth: 0,
+        fifth: 0,
+    },
     second: Effort {
         count: 27_670_116_110_564_327_421,
     },

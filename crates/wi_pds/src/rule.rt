@@ -10,14 +10,15 @@ pub enum Word2 {
 
 /// A rule of the head (`from`, `top`): in state `from`, with `top` on top of the stack, it writes `word` in the place of `top`
 /// and goes to state `to`. The tag is its maker's own; runs don't read it.
+// The widest fields come first, since fields lie as they are declared.
 #[derive(Clone, Copy, Debug, PartialEq, Eq)]
 pub struct Rule<W> {
-    pub from: u64,
-    pub top: u32,
-    pub to: u64,
-    pub word: Word2,
     pub weight: W,
+    pub from: u64,
+    pub to: u64,
     pub tag: u64,
+    pub top: u32,
+    pub word: Word2,
 }
 
 /// The rule at place `at`, from 0, among the rules of the head (`p`, `g`).

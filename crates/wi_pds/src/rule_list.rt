@@ -13,11 +13,15 @@ pub struct RuleList<W> {
 
 impl<W: Copy> System<W> for RuleList<W> {
     ghost use Rattle.std.specs.Prelude.{ℕ, List};
-    ghost use Rattle.wi_pds.specs.Rules.{rules_at};
+    ghost use Rattle.wi_pds.specs.Rules.{rules_at, listed_name_heads};
 
     ghost start_head = { λ s. s.start };
 
     ghost rules = { λ s. rules_at s.rules };
+
+    ghost may_ask = { λ s p g. Unit {0} };
+
+    ghost names_head = { λ s. listed_name_heads s.rules };
 
     fn start(&self) -> (u64, u32) {
         self.start

@@ -1,6 +1,8 @@
 //! What a pushdown system is.
 ghost use Rattle.std.specs.Prelude.{◌≡◌, ℕ, List, IfOk};
+ghost use Rattle.std.specs.List.{All};
 ghost use Rattle.wi_pds.specs.declared.rule.Rule.{Rule};
+ghost use Rattle.wi_pds.specs.Rules.{IsOf};
 
 use crate::rule::Rule;
 use std::alloc::Global;
@@ -14,11 +16,18 @@ pub trait System<W: Copy> {
     /// The rules of a head, in order.
     ghost rules: { Self → ℕ → ℕ → List (Rule W) };
 
+    /// The heads whose rules may be asked for.
+    ghost may_ask: { Self → ℕ → ℕ → Type 0 };
+
     /// The head that runs start at. It takes no memory.
     fn start(&self) -> (u64, u32)
         ensures { result ≡ start_head self.now };
 
     /// The rules of the head (p, g), in order. It has none where the system knows nothing of the head.
     fn rules_of(&self, alloc: Global, p: u64, g: u32) -> Result<Vec<Rule<W>>, NoMemory>
+        requires { may_ask self.now p g }
         ensures { IfOk result (λ list. list.items ≡ rules self.now p g) };
+
+    /// Each rule names the head that it is of.
+    ghost names_head: { (s : Self) (p g : ℕ) → All (IsOf p g) (rules s p g) };
 }

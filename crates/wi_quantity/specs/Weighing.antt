@@ -1,5 +1,5 @@
 -- What runs weigh by a vector: for each of five terms the sum of its parts, then the effort. Terms that aren't there are 0.
-use Rattle.std.specs.Prelude.{ℕ, ◌+◌, ◌-◌, ◌*◌, Bool, true, false, ◌&&◌, nat_le, List, [], ◌∷◌, ◌++◌, length, map, take, replicate, filter, slice_index, slice_get, Option}
+use Rattle.std.specs.Prelude.{ℕ, ◌+◌, ◌-◌, ◌*◌, Bool, true, false, ◌&&◌, nat_le, List, [], ◌∷◌, ◌++◌, length, map, take, replicate, filter, slice_get, Option}
 use Rattle.std.specs.List.{sum}
 use Rattle.std.specs.Option.{option_map_or, option_and_then}
 use Rattle.wi_labels.specs.declared.ops.Op.{Op}
@@ -20,9 +20,7 @@ use Rattle.wi_quantity.specs.declared.vector.Part.{Part}
 
 -- the six components of a weight
 abbrev pub components : Pair Terms Effort → List ℕ
-components w =
-    slice_index w.first.parts 0 ∷ slice_index w.first.parts 1 ∷ slice_index w.first.parts 2 ∷ slice_index w.first.parts 3
-    ∷ slice_index w.first.parts 4 ∷ w.second.count ∷ []
+components w = w.first.first ∷ w.first.second ∷ w.first.third ∷ w.first.fourth ∷ w.first.fifth ∷ w.second.count ∷ []
 
 -- a term's value, where each quantity has a value
 abbrev pub term_value : (Quantity → ℕ) → List Part → ℕ

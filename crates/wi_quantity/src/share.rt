@@ -88,15 +88,14 @@ fn weighed(vector: &Vector, shares: Shares) -> Weight
     ensures fits { EachBelow (2 ^ 64) (components result) }
 {
     let terms = vector.terms.as_slice();
-    let parts = [
-        value_at(terms, 0, shares),
-        value_at(terms, 1, shares),
-        value_at(terms, 2, shares),
-        value_at(terms, 3, shares),
-        value_at(terms, 4, shares),
-    ];
     Pair {
-        first: Terms { parts },
+        first: Terms {
+            first: value_at(terms, 0, shares),
+            second: value_at(terms, 1, shares),
+            third: value_at(terms, 2, shares),
+            fourth: value_at(terms, 3, shares),
+            fifth: value_at(terms, 4, shares),
+        },
         second: Effort { count: 0 },
     }
 }

@@ -247,7 +247,7 @@ fn network(alloc: Global) -> Result<Network, Fail> {
 // The weight of these terms.
 fn weight(parts: [u128; 5]) -> Weight {
     Pair {
-        first: Terms { parts },
+        first: Terms::of(parts),
         second: Effort { count: 0 },
     }
 }

@@ -1,7 +1,7 @@
 //! Reachable heads.
-ghost use Rattle.std.specs.Prelude.{◌≡◌, IfOk};
-ghost use Rattle.wi_reduce.specs.Least.{AreLeastClosed};
-ghost use Rattle.wi_reduce.specs.Kept.{IsSearch, IsStep};
+ghost use Rattle.std.specs.Prelude.{ℕ, IfOk};
+ghost use Rattle.wi_reduce.specs.Least.{AreLeastClosed, IsReached};
+ghost use Rattle.wi_reduce.specs.Kept.{IsSearch, IsStep, AreSame};
 
 use crate::search::Search;
 use std::alloc::Global;
@@ -9,18 +9,22 @@ use wi_base::{Listed, NoMemory};
 use wi_pds::{Heads, System};
 
 /// The least heads and pairs that are closed: the start's head, and what each rule of each of them leads to.
-/// The rules are asked for only of heads that are in the answer, once of each. The time grows with the number of these rules
-/// and, for each symbol, with the number of pairs below it times the number of rules' ends that hand them on.
+/// Only heads that are in the answer are asked for their rules.
+///
+/// What it costs: each of these heads is asked once; each of their rules is looked at once; and for each symbol, each pop of it
+/// and each other symbol in its place meets each pair below it once. Each meeting is a look-up in a hashed set. The heads and
+/// the pairs are sorted once, at the end. It keeps a head twice and a pair three times while it runs, and once in the answer.
 pub fn reach<W: Copy, S: System<W>>(alloc: Global, sys: &S) -> Result<Heads, NoMemory>
+    requires { (p g : ℕ) → IsReached (S.rules sys.now) (S.start_head sys.now) p g → S.may_ask sys.now p g }
     ensures { IfOk result (λ found. AreLeastClosed (S.rules sys.now) (S.start_head sys.now) found.heads found.pairs) }
 {
     let mut search = Search::new(alloc);
     search.heads.add(sys.start())?;
     while step(alloc, sys, &mut search)? {
         // Its bound shows that the search ends.
-        let _size = search.size();
+        let _followed = search.followed();
     }
-    sorted(alloc, search)
+    Ok(sorted(search))
 }
 
 // Follows something that was found and that is still to be followed, if there is any. Says whether there was.
@@ -29,37 +33,38 @@ fn step<W: Copy, S: System<W>>(
     sys: &S,
     search: &mut Search,
 ) -> Result<bool, NoMemory>
-    requires { IsSearch (S.rules sys.now) (S.start_head sys.now) search.old }
+    requires search { IsSearch (S.rules sys.now) (S.start_head sys.now) search.old }
+    requires asked { (p g : ℕ) → IsReached (S.rules sys.now) (S.start_head sys.now) p g → S.may_ask sys.now p g }
     ensures { IfOk result (IsStep (S.rules sys.now) (S.start_head sys.now) search.old search.new) }
 {
     if let Some((p, g)) = search.heads.next() {
         search.follow_head(alloc, sys, p, g)?;
         return Ok(true);
     }
-    if let Some((g, x)) = search.pairs.next() {
-        search.follow_pair(alloc, g, x)?;
+    if let Some((g, x)) = search.pairs.next(alloc)? {
+        search.follow_pair(g, x)?;
         return Ok(true);
     }
-    if let Some((g, to)) = search.pops.next() {
-        search.follow_pop(alloc, g, to)?;
+    if let Some((g, to)) = search.pops.next(alloc)? {
+        search.follow_pop(g, to)?;
         return Ok(true);
     }
-    if let Some((g, v)) = search.swaps.next() {
-        search.follow_swap(alloc, g, v)?;
+    if let Some((g, v)) = search.swaps.next(alloc)? {
+        search.follow_swap(g, v)?;
         return Ok(true);
     }
     Ok(false)
 }
 
 // The heads and pairs that were found, in order.
-fn sorted(alloc: Global, search: Search) -> Result<Heads, NoMemory>
-    ensures heads { IfOk result (λ found. found.heads ≡ search.heads.0) }
-    ensures pairs { IfOk result (λ found. found.pairs ≡ search.pairs.0) }
+fn sorted(search: Search) -> Heads
+    ensures heads { AreSame search.heads result.heads }
+    ensures pairs { AreSame search.pairs result.pairs }
 {
-    let heads = search.heads.into_sorted(alloc)?;
-    let pairs = search.pairs.into_sorted(alloc)?;
-    Ok(Heads {
+    let heads = search.heads.into_sorted();
+    let pairs = search.pairs.into_sorted();
+    Heads {
         heads: Listed::of(heads),
         pairs: Listed::of(pairs),
-    })
+    }
 }

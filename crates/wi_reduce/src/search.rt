@@ -1,13 +1,11 @@
 //! The search for what a pushdown system may reach.
-ghost use Rattle.std.specs.Prelude.{◌≡◌, ◌<◌, ◌+◌, ◌^◌, true, [], map, length, IfOk, OnOk};
-ghost use Rattle.wi_reduce.specs.Searches.{noted, noted_all, pair_followed, pop_followed, swap_followed};
-ghost use Rattle.std.specs.List.{Contains};
-ghost use Rattle.std.specs.Ordering.{is_le, nat_cmp};
-ghost use Rattle.wi_reduce.specs.Worklists.{added_all, by_parts, seconds};
+ghost use Rattle.std.specs.Prelude.{◌≡◌, ◌<◌, ◌^◌, [], OnOk};
+ghost use Rattle.wi_reduce.specs.Kept.{followed, Has};
+ghost use Rattle.wi_reduce.specs.Searches.{noted, noted_all, swap_noted, pair_followed, pop_followed, swap_followed};
 
-use crate::worklist::Worklist;
+use crate::relation::Relation;
+use crate::worklist::{Worklist, add_above, add_below};
 use std::alloc::Global;
-use std::collections::BTreeSet;
 use wi_base::NoMemory;
 use wi_pds::{Rule, System, Word2};
 
@@ -17,56 +15,11 @@ pub(crate) struct Search {
     /// States, each with a symbol on top.
     pub(crate) heads: Worklist<(u64, u32)>,
     /// Symbols, each with one that may stand right below it.
-    pub(crate) pairs: Worklist<(u32, u32)>,
+    pub(crate) pairs: Relation<u32>,
     /// Symbols, each with a state that a rule goes to that takes the symbol away.
-    pub(crate) pops: Worklist<(u32, u64)>,
+    pub(crate) pops: Relation<u64>,
     /// Symbols, each with the lowest one that a rule writes in its place: what stands below the first may stand below the second.
-    pub(crate) swaps: Worklist<(u32, u32)>,
-}
-
-// The second parts of the keys with the first part of `from`, whose second part is the least that there is.
-fn seconds<T: Ord + Copy + Drop>(
-    alloc: Global,
-    keys: &BTreeSet<(u32, T)>,
-    from: (u32, T),
-) -> Result<Vec<T>, NoMemory>
-    requires { (other : T) → is_le (T.cmp from.1 other) ≡ true }
-    ensures { IfOk result (λ list. list.items ≡ seconds from.0 keys.now.keys) }
-{
-    let list = keys
-        .range(from..)
-        .take_while(|key| key.0 == from.0)
-        .map(|key| key.1)
-        .collect(alloc)?;
-    Ok(list)
-}
-
-// Adds each of some first parts with one second part.
-fn add_above<T: Ord + Copy + Drop>(
-    found: &mut Worklist<(T, u32)>,
-    uppers: &[T],
-    lower: u32,
-) -> Result<(), NoMemory>
-    ensures { OnOk result (found.new ≡ added_all (by_parts T.cmp nat_cmp) found.old (map (λ upper. (upper, lower)) uppers.now)) }
-{
-    for upper in uppers {
-        found.add((*upper, lower))?;
-    }
-    Ok(())
-}
-
-// Adds one first part with each of some second parts.
-fn add_below<T: Ord + Copy + Drop>(
-    found: &mut Worklist<(T, u32)>,
-    upper: T,
-    lowers: &[u32],
-) -> Result<(), NoMemory>
-    ensures { OnOk result (found.new ≡ added_all (by_parts T.cmp nat_cmp) found.old (map (λ lower. (upper, lower)) lowers.now)) }
-{
-    for lower in lowers {
-        found.add((upper, *lower))?;
-    }
-    Ok(())
+    pub(crate) swaps: Relation<u32>,
 }
 
 impl Search {
@@ -75,21 +28,31 @@ impl Search {
     {
         Search {
             heads: Worklist::new(alloc),
-            pairs: Worklist::new(alloc),
-            pops: Worklist::new(alloc),
-            swaps: Worklist::new(alloc),
+            pairs: Relation::new(alloc),
+            pops: Relation::new(alloc),
+            swaps: Relation::new(alloc),
         }
     }
 
-    /// How many keys were found. The count bounds how often the search goes on.
-    pub(crate) fn size(&self) -> u128
-        ensures count { result ≡ length self.now.heads.0 + length self.now.pairs.0 + length self.now.pops.0 + length self.now.swaps.0 }
-        ensures bound { result < 2 ^ 65 }
+    /// How many keys were followed. The count bounds how often the search goes on.
+    pub(crate) fn followed(&self) -> u128
+        ensures count { result ≡ followed self.now }
+        ensures bound { result < 2 ^ 66 }
     {
-        self.heads.len() as u128
-            + self.pairs.len() as u128
-            + self.pops.len() as u128
-            + self.swaps.len() as u128
+        self.heads.followed() as u128
+            + self.pairs.followed() as u128
+            + self.pops.followed() as u128
+            + self.swaps.followed() as u128
+    }
+
+    // Notes that u is written in the place of g. A symbol hands nothing on to itself.
+    fn note_swap(&mut self, g: u32, u: u32) -> Result<(), NoMemory>
+        ensures { OnOk result (self.new ≡ swap_noted self.old g u) }
+    {
+        if g == u {
+            return Ok(());
+        }
+        self.swaps.add(g, u)
     }
 
     // Notes what a rule over g leads to that goes to a state and writes a word.
@@ -97,15 +60,15 @@ impl Search {
         ensures { OnOk result (self.new ≡ noted self.old g to word) }
     {
         match word {
-            Word2::Empty => self.pops.add((g, to)),
+            Word2::Empty => self.pops.add(g, to),
             Word2::One(u) => {
                 self.heads.add((to, u))?;
-                self.swaps.add((g, u))
+                self.note_swap(g, u)
             }
             Word2::Two(u, v) => {
                 self.heads.add((to, u))?;
-                self.pairs.add((u, v))?;
-                self.swaps.add((g, v))
+                self.pairs.add(u, v)?;
+                self.note_swap(g, v)
             }
         }
     }
@@ -128,7 +91,8 @@ impl Search {
         p: u64,
         g: u32,
     ) -> Result<(), NoMemory>
-        requires { Contains self.old.heads.0 (p, g) }
+        requires found { Has self.old.heads (p, g) }
+        requires asked { S.may_ask sys.now p g }
         ensures { OnOk result (self.new ≡ noted_all self.old g (S.rules sys.now p g)) }
     {
         let rules = sys.rules_of(alloc, p, g)?;
@@ -136,28 +100,24 @@ impl Search {
     }
 
     // What the pair of g and x leads to: x under whatever a rule over g leaves.
-    pub(crate) fn follow_pair(&mut self, alloc: Global, g: u32, x: u32) -> Result<(), NoMemory>
+    pub(crate) fn follow_pair(&mut self, g: u32, x: u32) -> Result<(), NoMemory>
         ensures { OnOk result (self.new ≡ pair_followed self.old g x) }
     {
-        let states = seconds(alloc, self.pops.known(), (g, 0))?;
-        add_above(&mut self.heads, states.as_slice(), x)?;
-        let uppers = seconds(alloc, self.swaps.known(), (g, 0))?;
-        add_above(&mut self.pairs, uppers.as_slice(), x)
+        add_above(&mut self.heads, self.pops.seconds(g), x)?;
+        self.pairs.add_above(self.swaps.seconds(g), x)
     }
 
     // What a pop of g to a state leads to: that state with whatever may stand below g.
-    pub(crate) fn follow_pop(&mut self, alloc: Global, g: u32, to: u64) -> Result<(), NoMemory>
+    pub(crate) fn follow_pop(&mut self, g: u32, to: u64) -> Result<(), NoMemory>
         ensures { OnOk result (self.new ≡ pop_followed self.old g to) }
     {
-        let lowers = seconds(alloc, self.pairs.known(), (g, 0))?;
-        add_below(&mut self.heads, to, lowers.as_slice())
+        add_below(&mut self.heads, to, self.pairs.seconds(g))
     }
 
     // What v in the place of g leads to: v over whatever may stand below g.
-    pub(crate) fn follow_swap(&mut self, alloc: Global, g: u32, v: u32) -> Result<(), NoMemory>
+    pub(crate) fn follow_swap(&mut self, g: u32, v: u32) -> Result<(), NoMemory>
         ensures { OnOk result (self.new ≡ swap_followed self.old g v) }
     {
-        let lowers = seconds(alloc, self.pairs.known(), (g, 0))?;
-        add_below(&mut self.pairs, v, lowers.as_slice())
+        self.pairs.hand_on(g, v)
     }
 }

@@ -1,80 +1,126 @@
 //! Keys that were found, of which some are still to be followed.
-ghost use Rattle.std.specs.Prelude.{◌≡◌, ◌≤◌, ◌<◌, ◌^◌, ◌++◌, ◌∷◌, [], length, None, IfOk, OnOk, IfSome};
-ghost use Rattle.std.specs.List.Sorted.{IsStrictlySortedBy};
-ghost use Rattle.wi_reduce.specs.Worklists.{added};
+ghost use Rattle.std.specs.Prelude.{◌≡◌, ◌++◌, ◌∷◌, [], List, length, map, nat_eq, OnOk, MatchOption};
+ghost use Rattle.std.specs.List.Sorted.{IsPermutation, IsSorted};
+ghost use Rattle.std.specs.List.{IsDistinct};
+ghost use Rattle.wi_reduce.specs.Worklists.{added, added_all, eq_by_parts, IsTaken};
 
 use std::alloc::Global;
-use std::collections::BTreeSet;
+use std::collections::HashSet;
+use std::hash::Hash;
 use std::marker::Model;
 use wi_base::NoMemory;
 
-/// The keys that were found, and those of them that are still to be followed.
+/// The keys that were found, each once, in the order in which they were found. The first of them were followed.
 #[derive(Drop)]
-pub(crate) struct Worklist<K: Ord> {
-    known: BTreeSet<K>,
-    todo: Vec<K>,
+pub(crate) struct Worklist<K: Eq + Hash> {
+    known: HashSet<K>,
+    found: Vec<K>,
+    followed: usize,
 }
 
-impl<K: Ord> Model for Worklist<K> {
-    ghost use Rattle.std.specs.Prelude.{List};
+/// The keys that were followed, and those that are still to be followed.
+impl<K: Eq + Hash> Model for Worklist<K> {
+    ghost use Rattle.std.specs.Prelude.{List, ◌≤◌, take, drop, length};
+    ghost use Rattle.std.specs.List.Sorted.{IsPermutation};
     ghost use Rattle.std.specs.Coded.{coded×, coded_list};
 
     ghost Value = { List K × List K };
 
     ghost coded = { coded× (coded_list K.code) (coded_list K.code) };
 
-    ghost view = { λ w. (w.known.keys, w.todo.items) };
+    ghost view = { λ w. (take w.followed w.found.items, drop w.followed w.found.items) };
+
+    ghost invariant = { λ w. (w.followed ≤ length w.found.items) × IsPermutation w.found.items w.known.keys };
 }
 
-impl<K: Ord + Copy> Worklist<K> {
+impl<K: Eq + Hash + Copy> Worklist<K> {
     pub(crate) fn new(alloc: Global) -> Self
         ensures { result ≡ ([], []) }
     {
         Worklist {
-            known: BTreeSet::new(alloc),
-            todo: Vec::new(alloc),
+            known: HashSet::new(alloc),
+            found: Vec::new(alloc),
+            followed: 0,
         }
     }
 
     /// Adds a key; a new one is to be followed.
     pub(crate) fn add(&mut self, key: K) -> Result<(), NoMemory>
-        ensures { OnOk result (self.new ≡ added K.cmp self.old key) }
+        ensures added { OnOk result (self.new ≡ added K.eq self.old key) }
+        ensures followed { self.new.0 ≡ self.old.0 }
     {
+        self.found.reserve(1)?;
         if self.known.insert(key)? {
-            self.todo.push(key)?;
+            self.found.push(key)?;
         }
         Ok(())
     }
 
-    /// Takes a key that is still to be followed.
+    /// The key that is to be followed next.
+    pub(crate) fn first(&self) -> Option<K>
+        ensures { MatchOption result (self.now.1 ≡ []) (λ key. (later : List K) × (self.now.1 ≡ key ∷ later)) }
+    {
+        self.found.get(self.followed).copied()
+    }
+
+    /// Takes the key that is to be followed next.
     pub(crate) fn next(&mut self) -> Option<K>
-        ensures some { IfSome result (λ key. (self.new.0 ≡ self.old.0) × (self.old.1 ≡ self.new.1 ++ key ∷ [])) }
-        ensures none { result ≡ None → (self.new ≡ self.old) × (self.old.1 ≡ []) }
+        ensures { MatchOption result ((self.new ≡ self.old) × (self.old.1 ≡ [])) (IsTaken self.old self.new) }
     {
-        self.todo.pop()
+        let key = self.first()?;
+        self.followed += 1;
+        Some(key)
     }
 
-    /// The keys that were found.
-    pub(crate) fn known(&self) -> &BTreeSet<K>
-        ensures { result.now.keys ≡ self.now.0 }
+    /// How many keys were followed.
+    pub(crate) fn followed(&self) -> usize
+        ensures { result ≡ length self.now.0 }
     {
-        &self.known
-    }
-
-    /// How many keys were found.
-    pub(crate) fn len(&self) -> usize
-        ensures count { result ≡ length self.now.0 }
-        ensures bound { result < 2 ^ 63 }
-    {
-        self.known.len()
+        self.followed
     }
 
     /// The keys that were found, in order.
-    pub(crate) fn into_sorted(self, alloc: Global) -> Result<Vec<K>, NoMemory>
-        ensures keys { IfOk result (λ keys. keys.items ≡ self.0) }
-        ensures rise { IfOk result (λ keys. IsStrictlySortedBy K.cmp keys.items) }
+    pub(crate) fn into_sorted(self) -> Vec<K>
+    where
+        K: Ord,
+        ensures keys { IsPermutation (self.0 ++ self.1) result.items }
+        ensures distinct { IsDistinct K.eq result.items }
+        ensures rise { IsSorted K.cmp result.items }
     {
-        let keys = self.known.into_iter().collect(alloc)?;
-        Ok(keys)
+        let _unique = self.known.len();
+        let mut keys = self.found;
+        keys.shrink_to_fit();
+        keys.sort_unstable();
+        keys
     }
+}
+
+/// Adds each of some first parts with one second part.
+pub(crate) fn add_above<T: Eq + Hash + Copy + Drop>(
+    keys: &mut Worklist<(T, u32)>,
+    uppers: &[T],
+    lower: u32,
+) -> Result<(), NoMemory>
+    ensures added { OnOk result (keys.new ≡ added_all (eq_by_parts T.eq nat_eq) keys.old (map (λ upper. (upper, lower)) uppers.now)) }
+    ensures followed { keys.new.0 ≡ keys.old.0 }
+{
+    for upper in uppers {
+        keys.add((*upper, lower))?;
+    }
+    Ok(())
+}
+
+/// Adds one first part with each of some second parts.
+pub(crate) fn add_below<T: Eq + Hash + Copy + Drop>(
+    keys: &mut Worklist<(T, u32)>,
+    upper: T,
+    lowers: &[u32],
+) -> Result<(), NoMemory>
+    ensures added { OnOk result (keys.new ≡ added_all (eq_by_parts T.eq nat_eq) keys.old (map (λ lower. (upper, lower)) lowers.now)) }
+    ensures followed { keys.new.0 ≡ keys.old.0 }
+{
+    for lower in lowers {
+        keys.add((upper, *lower))?;
+    }
+    Ok(())
 }

@@ -54,7 +54,7 @@ abbrev around : Run
 around = record { first = id 0; header = (label 2, Ip) ∷ []; steps = step 1 0 ∷ step 0 0 ∷ step 0 0 ∷ [] }
 
 abbrev weight : ℕ → ℕ → ℕ → Pair Terms Effort
-weight a b effort = record { first = record { parts = a ∷ b ∷ 0 ∷ 0 ∷ 0 ∷ [] }; second = record { count = effort } }
+weight a b effort = record { first = record { first = a; second = b; third = 0; fourth = 0; fifth = 0 }; second = record { count = effort } }
 
 abbrev bounds : Bounds
 bounds = record { k = 1; down = []; up = [] }

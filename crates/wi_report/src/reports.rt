@@ -104,7 +104,7 @@ fn put_terms(terms: usize, weight: &Weight, text: &mut Text) -> Result<(), NoMem
 pub(crate) fn components_of(weight: &Weight) -> [u128; 6]
     ensures { result ≡ components weight.now }
 {
-    let [a, b, c, d, e] = weight.first.parts;
+    let [a, b, c, d, e] = weight.first.parts();
     [a, b, c, d, e, weight.second.count]
 }
 

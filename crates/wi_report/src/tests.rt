@@ -566,7 +566,7 @@ fn verdict_of(alloc: Global, judged: Judged) -> Result<Verdict, Fail> {
 
 fn weight_of(parts: [u128; 5], count: u128) -> Weight {
     Pair {
-        first: Terms { parts },
+        first: Terms::of(parts),
         second: Effort { count },
     }
 }

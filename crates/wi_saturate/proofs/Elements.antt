@@ -1,7 +1,9 @@
 -- Elements of lists by their places.
 use Rattle.std.specs.Prelude.{◌≡◌, ℕ, zero, suc, ◌+◌, ◌<◌, ◌≤◌, ◌⊎◌, List, [], ◌∷◌, ◌++◌, Option, Some, None, take, length, slice_get, get_or, refl}
+use Rattle.std.specs.Prelude.{Result, OnOk}
+use Rattle.std.specs.declared.result.Result.TheVariants.{Ok, Err}
 use Rattle.std.specs.List.{Contains}
-use Rattle.std.proofs.Common.{option_map, IsTrue, true, false, ◌↔◌, sym, ap, ◌∙◌, subst, inl, inr, arith}
+use Rattle.std.proofs.Common.{option_map, IsTrue, false, ◌↔◌, sym, ap, ◌∙◌, subst, inl, inr, arith}
 use Rattle.std.proofs.lemmas.Option.{slice_get_within, slice_get-get_or, get_or_from_slice_get, slice_get-map, slice_get_read}
 use Rattle.std.proofs.lemmas.List.{take-append-le}
 use Rattle.std.proofs.Math.Seq.{take-append_seam}
@@ -14,18 +16,6 @@ same_some h = cc
 
 earlier_or_here : (i n : ℕ) → i < n + 1 → (i < n) ⊎ (i ≡ n)
 earlier_or_here i n h = grind arith
-
--- one place more
-pub before_more : {X : Type 0} (P : ℕ → X → Type 0) (xs : List X) (n : ℕ) (y : X) → n < length xs → y ≡ get_or xs n y
-    → ((i : ℕ) (x : X) → i < n → slice_get xs i ≡ Some x → P i x) → P n y
-    → (i : ℕ) (x : X) → i < n + 1 → slice_get xs i ≡ Some x → P i x
-before_more P xs n y within read before here i x h e = elim (earlier_or_here i n h) [
-  | inl less ↦ before i x less e
-  | inr same ↦
-      let at_n : slice_get xs n ≡ Some x = subst (λ k. slice_get xs k ≡ Some x) same e in
-      let alike : y ≡ x = same_some (sym (slice_get_read xs _ n y refl within read) ∙ at_n) in
-      subst (λ k. P k x) (sym same) (subst (λ z. P n z) alike here)
-]
 
 pub contains_from_get : {X : Type 0} (xs : List X) (i : ℕ) (x : X) → slice_get xs i ≡ Some x → Contains xs x
 contains_from_get xs i x h = (i, slice_get_within xs i x h, get_or_from_slice_get xs i x x h)
@@ -54,14 +44,8 @@ module _ {W : Type 0} (c : W → List ℕ) where
       let made = some_mapped (summary c) (slice_get rows at.0) _ (sym (slice_get-map (summary c) rows at.0) ∙ at.1) in
       (at.0, (made.0, made.1, (ap (λ s. s.p) made.2, ap (λ s. s.g) made.2, ap (λ s. s.q) made.2), ap (λ s. s.weight) made.2))
 
-pub true_when : {P : Type 0} → P → IsTrue true ↔ P
-true_when h = (λ _. h, λ _. refl)
-
 pub false_when : {P : Type 0} → (P → ⊥) → IsTrue false ↔ P
 false_when h = (λ e. cc, λ p. absurd (h p))
-
-pub contains_pair : (heads : List (ℕ × ℕ)) (h : ℕ × ℕ) (p g : ℕ) → Contains heads h → p ≡ h.0 → g ≡ h.1 → Contains heads (p, g)
-contains_pair heads h p g at e f = subst (λ x. Contains heads (x, g)) (sym e) (subst (λ x. Contains heads (h.0, x)) (sym f) at)
 
 -- an element of a list with one more: it is of the list, or the last
 pub get_push : {X : Type 0} (xs : List X) (y : X) (i : ℕ) (x : X) → slice_get (xs ++ y ∷ []) i ≡ Some x → ((i < length xs) × (slice_get xs i ≡ Some x)) ⊎ ((i ≡ length xs) × (y ≡ x))
@@ -93,3 +77,32 @@ each_after_push P xs y each here i x h = elim (get_push xs y i x h) [
   | inl k ↦ let less : i ≤ length xs = omega (arith, k.0) in subst (λ zs. P zs x) (sym (take-append-le i xs (y ∷ []) less)) (each i x k.1)
   | inr k ↦ subst (λ j. P (take j (xs ++ y ∷ [])) x) (sym k.0) (subst (λ zs. P zs x) (sym (take-append_seam xs (y ∷ []))) (subst (λ z. P xs z) k.1 here))
 ]
+
+-- what follows where a call answers Ok
+pub on_ok : {T E : Type 0} {P Q : Type 0} (r : Result T E) → (P → Q) → OnOk r P → OnOk r Q
+on_ok (Ok x) f h = f h
+on_ok (Err e) f h = tt
+
+-- an element that was read is the one that stands there
+pub read_there : {X : Type 0} (xs : List X) (i : ℕ) (x y : X) → slice_get xs i ≡ Some y → x ≡ get_or xs i x → slice_get xs i ≡ Some x
+read_there xs i x y at is = slice_get_read xs (length xs) i x refl (slice_get_within xs i y at) is
+
+pub got_there : {X : Type 0} (xs : List X) (i : ℕ) (d y : X) → slice_get xs i ≡ Some y → slice_get xs i ≡ Some (get_or xs i d)
+got_there xs i d y at = slice_get-get_or xs i d (slice_get_within xs i y at)
+
+-- there is an element at each place of a list
+pub some_there : {X : Type 0} (xs : List X) (i : ℕ) → i < length xs → (x : X) × (slice_get xs i ≡ Some x)
+some_there [] i within = absurd (omega arith)
+some_there (x ∷ xs) zero within = (x, refl)
+some_there (x ∷ xs) (suc i) within = some_there xs i (omega arith)
+
+pub same_item : {X : Type 0} (xs : List X) (i : ℕ) (x y : X) → slice_get xs i ≡ Some x → slice_get xs i ≡ Some y → x ≡ y
+same_item xs i x y at at' = same_some (sym at ∙ at')
+
+pub on_ok_both : {T E : Type 0} {P Q R : Type 0} (r : Result T E) → (P → Q → R) → OnOk r P → OnOk r Q → OnOk r R
+on_ok_both (Ok x) f h k = f h k
+on_ok_both (Err e) f h k = tt
+
+pub on_any : {T E : Type 0} {P : Type 0} (r : Result T E) → P → OnOk r P
+on_any (Ok x) h = h
+on_any (Err e) h = tt

@@ -1,6 +1,14 @@
 pub mod Elements
 pub mod Best
-pub mod Rules
+pub mod RuleRows
 pub mod Settle
 pub mod Turns
 pub mod RuleLists
+pub mod Walks
+pub mod Lookups
+pub mod Pushes
+pub mod Waiting
+pub mod Made
+pub mod Searching
+pub mod Counts
+pub mod Shown

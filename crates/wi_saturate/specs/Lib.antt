@@ -2,3 +2,11 @@ pub mod Rows
 pub mod Candidates
 pub mod LeastTables
 pub mod Refusals
+pub mod Chains
+pub mod WaitLists
+pub mod Heaps
+pub mod Rulings
+pub mod SmallRules
+pub mod Indexes
+pub mod Searches
+pub mod Tries

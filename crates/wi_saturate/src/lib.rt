@@ -3,15 +3,28 @@
 //!
 //! A summary is a state p, a symbol g and a state q such that some run leads from p with g alone to q with nothing.
 //! Its least weight is that of the lightest such run.
+//!
+//! Rows are settled one by one, the lightest first. What a rule and settled rows make is a candidate for the next one, and lies
+//! on a heap. A row that is settled meets the rules that lead to its head, which an index finds, and the rules that have a row
+//! for their first symbol and wait for its head as that of their second. Rules, rows and what waits are numbered, and each lies
+//! at the place of a head among the listed ones, in a chain from the last to the first.
 #![tactic(auto)]
 
-mod candidates;
+mod chains;
+mod heap;
+mod index;
+mod joins;
+mod pairs;
 mod refused;
 mod row;
+mod rules;
 mod saturation;
+mod search;
 mod steps;
 mod table;
+mod waits;
 
+pub use heap::{Candidate, Heap};
 pub use refused::LeastRefused;
 pub use row::Row;
 pub use saturation::least;

@@ -1,14 +1,17 @@
 //! Saturation.
-ghost use Rattle.std.specs.Prelude.{◌≡◌, ◌+◌, true, false, IsSomeAnd, IfOk, IfErr, option_map, length};
+ghost use Rattle.std.specs.Prelude.{◌≡◌, ℕ, ◌+◌, ◌≤◌, true, false, IsSomeAnd, IfOk, IfErr, option_map, length};
+ghost use Rattle.std.specs.List.{Contains};
 ghost use Rattle.wi_weight.specs.Weights.{AtMost};
 ghost use Rattle.wi_pds.specs.Closed.{AreClosed, Within};
 ghost use Rattle.wi_saturate.specs.Rows.{IsFor};
 ghost use Rattle.wi_saturate.specs.LeastTables.{AreReady, IsLeastTable};
+ghost use Rattle.wi_saturate.specs.Tries.{candidates};
 ghost use Rattle.wi_saturate.specs.Refusals.{IsRefusal};
 
-use crate::candidates::next_row;
+use crate::index::Index;
 use crate::refused::LeastRefused;
 use crate::row::Row;
+use crate::search::Search;
 use crate::steps::Steps;
 use crate::table::Table;
 use std::alloc::Global;
@@ -44,29 +47,41 @@ fn is_for<W>(row: &Row<W>, goal: (u64, u32, u64)) -> bool
 /// state.
 ///
 /// Each turn settles a lightest row that a rule and settled rows make, and adds one to `steps`; which of several lightest rows
-/// comes first is not said. A turn goes through all rules of all heads, and for a rule that writes two symbols through all
-/// pairs of rows.
+/// comes first is not said. What a rule makes of rows is put on a heap once, when the last of these rows is settled, and adds
+/// one to `tries`; the lightest of the heap is settled next. The system is asked for the rules of each head once.
+///
+/// What it costs: each listed head is asked for its rules once, before the first turn. Each candidate is pushed and taken at
+/// most once, at the logarithm of the heap's length. The place of a head among the heads is looked up for each rule and each rule
+/// that begins to wait, at the logarithm of the number of heads. Whether a summary is settled is looked for along
+/// the rows of its head. Each rule is kept without its head's numbers, and its weight mostly once for many rules; besides, each
+/// row, each candidate that wasn't taken, and an entry for each rule that waits.
 ///
 /// `Overflow` tells the lightest summary that doesn't fit and would have been settled. It may come where the goal's own
-/// weight would fit. Where the call is refused, `steps` may have risen.
-pub fn least<W: Domain, S: System<W>, L: Ledger>(
+/// weight would fit. Where the call is refused, `steps` and `tries` may have risen.
+pub fn least<W: Domain, S: System<W>, L: Ledger, M: Ledger>(
     alloc: Global,
     sys: &S,
     heads: &Heads,
     goal: (u64, u32, u64),
     cut: Option<W>,
     steps: &mut Steps<L>,
+    tries: &mut Steps<M>,
 ) -> Result<Table<W>, LeastRefused<W>>
     requires closed { AreClosed (S.rules sys.now) (S.start_head sys.now) heads.now.heads heads.now.pairs }
     requires ready { AreReady W.components (S.rules sys.now) heads.now.heads }
     requires start { S.start_head sys.now ≡ (goal.0, goal.1) }
+    requires asked { (p g : ℕ) → Contains heads.now.heads (p, g) → S.may_ask sys.now p g }
     ensures table { IfOk result (λ t. IsLeastTable W.scale W.components (S.rules sys.now) heads.now.heads goal (option_map W.components cut) t.rows (option_map W.components t.best)) }
     ensures steps { IfOk result (λ t. steps.new ≡ steps.old + length t.rows) }
+    ensures tried { IfOk result (λ t. tries.old + length t.rows ≤ tries.new) }
+    ensures tries { IfOk result (λ t. tries.new ≤ tries.old + candidates (S.rules sys.now) heads.now.heads t.rows) }
     ensures refusal { IfErr result (IsRefusal W.scale W.components (S.rules sys.now) heads.now.heads goal (option_map W.components cut)) }
 {
+    let index = Index::new(alloc, sys, heads)?;
+    let mut search = Search::new(alloc, &index, heads, tries)?;
     let mut rows: Vec<Row<W>> = Vec::new(alloc);
     'turns: loop {
-        let Some(next) = next_row(alloc, sys, heads.heads.as_slice(), &rows)? else {
+        let Some((place, next)) = search.next_row(sys, &index, heads, &rows) else {
             return Ok(Table { rows, best: None });
         };
         if is_cut(cut, next.weight) {
@@ -87,5 +102,7 @@ pub fn least<W: Domain, S: System<W>, L: Ledger>(
                 best: Some(next.weight),
             });
         }
+        let last = rows.len() - 1;
+        search.extend(&index, heads, &rows, last, place, tries)?;
     }
 }

@@ -1,18 +1,12 @@
 -- The order of two weights side by side.
-use Rattle.std.specs.Prelude.{◌≡◌, ◌≢◌, ℕ, List, ◌++◌, length, take, drop, refl}
+use Rattle.std.specs.Prelude.{◌≡◌, ◌≢◌, ℕ, List, ◌++◌, refl}
 use Rattle.std.specs.declared.cmp.Ordering.TheVariants.{Equal}
 use Rattle.std.specs.Ordering.{ordering_then}
 use Rattle.std.proofs.Common.{◌∙◌, sym}
-use Rattle.std.proofs.Math.Seq.{take-append_seam, drop-append_seam}
 use Rattle.wi_weight.specs.Weights.{Scale, IsWeight}
 use Rattle.wi_weight.specs.Kinds.{pair_scale}
+use Rattle.wi_weight.specs.PairLaws.{taken, dropped}
 use Rattle.wi_weight.specs.Then.{then_decided, then_tied}
-
-taken : (i : ℕ) (a b : List ℕ) → length a ≡ i → take i (a ++ b) ≡ a
-taken i a b e = rw (← e) (take-append_seam a b)
-
-dropped : (i : ℕ) (a b : List ℕ) → length a ≡ i → drop i (a ++ b) ≡ b
-dropped i a b e = rw (← e) (drop-append_seam a b)
 
 module _ (m n : Scale) (a b c d : List ℕ) (a_is : IsWeight m a) (c_is : IsWeight m c) where
   order_append : (pair_scale m n).order (a ++ b) (c ++ d) ≡ ordering_then (m.order a c) (n.order b d)

@@ -5,3 +5,4 @@ pub mod Then
 pub mod Kinds
 pub mod LexLaws
 pub mod PairLaws
+pub mod Same

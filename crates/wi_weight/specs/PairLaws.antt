@@ -1,8 +1,9 @@
 -- The laws of two weights side by side, from the laws of each.
-use Rattle.std.specs.Prelude.{◌≡◌, ℕ, ◌+◌, List, ◌++◌, take, drop}
+use Rattle.std.specs.Prelude.{◌≡◌, ℕ, ◌+◌, List, ◌++◌, length, take, drop}
 use Rattle.std.specs.declared.cmp.Ordering.TheVariants.{Equal}
 use Rattle.std.specs.Ordering.{ordering_reverse}
-use Rattle.std.proofs.Common.{sym, ◌∙◌, arith, subst, inl, inr, length-take, length-drop, length-append, take-append-drop}
+use Rattle.std.proofs.Common.{sym, ap, ◌∙◌, arith, subst, inl, inr, length-take, length-drop, length-append, take-append-drop}
+use Rattle.std.proofs.Math.Seq.{take-append_seam, drop-append_seam}
 use Rattle.wi_weight.specs.Weights.{Scale, WeightLaws, IsWeight, plus, Below, AtMost}
 use Rattle.wi_weight.specs.Kinds.{pair_scale}
 use Rattle.wi_weight.specs.Sums.{plus_assoc, zero_plus, plus_zero, take_plus, drop_plus, length-plus}
@@ -74,3 +75,17 @@ module _ (m n : Scale) (am : WeightLaws m) (bm : WeightLaws n) where
 -- a weight of each scale, side by side, is a weight of the pair's
 pub pair_admitted : (m n : Scale) (a b : List ℕ) → IsWeight m a → IsWeight n b → IsWeight (pair_scale m n) (a ++ b)
 pair_admitted m n a b h k = length-append a b ∙ omega arith
+
+-- the parts of two lists side by side, of which the first has i elements
+pub taken : (i : ℕ) (a b : List ℕ) → length a ≡ i → take i (a ++ b) ≡ a
+taken i a b e = rw (← e) (take-append_seam a b)
+
+pub dropped : (i : ℕ) (a b : List ℕ) → length a ≡ i → drop i (a ++ b) ≡ b
+dropped i a b e = rw (← e) (drop-append_seam a b)
+
+-- side by side with weights of one scale in front, the same lists have the same parts
+pub same_parts : (m : Scale) (a c b d : List ℕ) → IsWeight m a → IsWeight m c → a ++ b ≡ c ++ d → (a ≡ c) × (b ≡ d)
+same_parts m a c b d h k same = (
+  sym (taken m.arity a b h) ∙ ap (take m.arity) same ∙ taken m.arity c d k,
+  sym (dropped m.arity a b h) ∙ ap (drop m.arity) same ∙ dropped m.arity c d k,
+)

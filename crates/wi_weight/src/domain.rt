@@ -34,6 +34,9 @@ pub trait Domain: Copy {
     /// Each value means a weight of the scale.
     ghost admitted: { (w : Self) → IsWeight scale (components w) };
 
+    /// Values that mean the same list are the same.
+    ghost same_value: { (v w : Self) → components v ≡ components w → v ≡ w };
+
     /// The weights of the scale keep the laws.
     ghost laws: { WeightLaws scale };
 }

@@ -1,5 +1,5 @@
 //! The kinds of weight.
-ghost use Rattle.std.specs.Prelude.{◌^◌, ◌<◌, ◌↔◌, IsTrue};
+ghost use Rattle.std.specs.Prelude.{◌≡◌, ◌^◌, ◌<◌, ◌↔◌, IsTrue, [], ◌∷◌, slice_index};
 
 use crate::domain::Domain;
 use std::cmp::Ordering;
@@ -25,6 +25,8 @@ impl Domain for Reach {
     ghost components = { λ _. [] };
 
     ghost admitted = { λ _. refl };
+
+    ghost same_value = { λ v w same. refl };
 
     ghost laws = { lex_laws 0 };
 
@@ -55,12 +57,15 @@ impl Domain for Effort {
     ghost use Rattle.std.specs.Prelude.{[], ◌∷◌, refl};
     ghost use Rattle.wi_weight.specs.Kinds.{effort_scale};
     ghost use Rattle.wi_weight.specs.LexLaws.{lex_laws};
+    ghost use Rattle.wi_weight.specs.Same.{same_effort};
 
     ghost scale = { effort_scale };
 
     ghost components = { λ e. e.count ∷ [] };
 
     ghost admitted = { λ _. refl };
+
+    ghost same_value = { same_effort };
 
     ghost laws = { lex_laws 1 };
 
@@ -86,48 +91,82 @@ impl Domain for Effort {
 /// Five components, of which the first that differs decides. Whoever needs fewer leaves the last ones 0.
 #[derive(Clone, Copy, Debug, PartialEq, Eq)]
 pub struct Terms {
-    pub parts: [u128; 5],
+    pub first: u128,
+    pub second: u128,
+    pub third: u128,
+    pub fourth: u128,
+    pub fifth: u128,
+}
+
+impl Terms {
+    /// These components, in order.
+    pub fn of(parts: [u128; 5]) -> Self
+        ensures { result ≡ record { first = slice_index parts 0; second = slice_index parts 1; third = slice_index parts 2; fourth = slice_index parts 3; fifth = slice_index parts 4 } }
+    {
+        let [first, second, third, fourth, fifth] = parts;
+        Terms {
+            first,
+            second,
+            third,
+            fourth,
+            fifth,
+        }
+    }
+
+    /// The components, in order.
+    pub fn parts(&self) -> [u128; 5]
+        ensures { result ≡ self.now.first ∷ self.now.second ∷ self.now.third ∷ self.now.fourth ∷ self.now.fifth ∷ [] }
+    {
+        [self.first, self.second, self.third, self.fourth, self.fifth]
+    }
 }
 
 impl Domain for Terms {
-    ghost use Rattle.std.specs.Prelude.{[], ◌∷◌, refl, slice_index};
+    ghost use Rattle.std.specs.Prelude.{[], ◌∷◌, refl};
     ghost use Rattle.wi_weight.specs.Kinds.{terms_scale};
     ghost use Rattle.wi_weight.specs.LexLaws.{lex_laws};
+    ghost use Rattle.wi_weight.specs.Same.{same_terms};
 
     ghost scale = { terms_scale };
 
-    // In the logic an array is a list of any length, so the five components are named one by one.
-    ghost components = { λ t. slice_index t.parts 0 ∷ slice_index t.parts 1 ∷ slice_index t.parts 2 ∷ slice_index t.parts 3 ∷ slice_index t.parts 4 ∷ [] };
+    ghost components = { λ t. t.first ∷ t.second ∷ t.third ∷ t.fourth ∷ t.fifth ∷ [] };
 
     ghost admitted = { λ _. refl };
+
+    ghost same_value = { same_terms };
 
     ghost laws = { lex_laws 5 };
 
     fn unit() -> Terms {
-        Terms { parts: [0; 5] }
+        Terms {
+            first: 0,
+            second: 0,
+            third: 0,
+            fourth: 0,
+            fifth: 0,
+        }
     }
 
     fn extend(self, next: Terms) -> Terms {
-        let a = self.parts;
-        let b = next.parts;
         Terms {
-            parts: [
-                a[0] + b[0],
-                a[1] + b[1],
-                a[2] + b[2],
-                a[3] + b[3],
-                a[4] + b[4],
-            ],
+            first: self.first + next.first,
+            second: self.second + next.second,
+            third: self.third + next.third,
+            fourth: self.fourth + next.fourth,
+            fifth: self.fifth + next.fifth,
         }
     }
 
     fn compare(&self, other: &Terms) -> Ordering {
-        self.parts.cmp(&other.parts)
+        self.parts().cmp(&other.parts())
     }
 
     fn fits(&self) -> bool {
-        let [a, b, c, d, e] = self.parts;
-        has_64_bits(a) && has_64_bits(b) && has_64_bits(c) && has_64_bits(d) && has_64_bits(e)
+        has_64_bits(self.first)
+            && has_64_bits(self.second)
+            && has_64_bits(self.third)
+            && has_64_bits(self.fourth)
+            && has_64_bits(self.fifth)
     }
 }
 
@@ -141,13 +180,18 @@ pub struct Pair<A, B> {
 impl<A: Domain, B: Domain> Domain for Pair<A, B> {
     ghost use Rattle.std.specs.Prelude.{◌++◌};
     ghost use Rattle.wi_weight.specs.Kinds.{pair_scale};
-    ghost use Rattle.wi_weight.specs.PairLaws.{pair_laws, pair_admitted};
+    ghost use Rattle.wi_weight.specs.PairLaws.{pair_laws, pair_admitted, same_parts};
+    ghost use Rattle.wi_weight.specs.Same.{same_pair};
 
     ghost scale = { pair_scale A.scale B.scale };
 
     ghost components = { λ p. A.components p.first ++ B.components p.second };
 
     ghost admitted = { λ p. pair_admitted A.scale B.scale (A.components p.first) (B.components p.second) (A.admitted p.first) (B.admitted p.second) };
+
+    ghost same_value = { λ v w same.
+        let parts = same_parts A.scale (A.components v.first) (A.components w.first) (B.components v.second) (B.components w.second) (A.admitted v.first) (A.admitted w.first) same in
+        same_pair v w (A.same_value v.first w.first parts.0) (B.same_value v.second w.second parts.1) };
 
     ghost laws = { pair_laws A.scale B.scale A.laws B.laws };
 

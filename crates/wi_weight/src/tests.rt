@@ -1,5 +1,5 @@
 //! Weights by example, and generic code that uses the laws.
-ghost use Rattle.std.specs.Prelude.{◌≡◌, ◌^◌, ◌≢◌};
+ghost use Rattle.std.specs.Prelude.{◌≡◌, ◌^◌, ◌≢◌, slice_index};
 ghost use Rattle.std.specs.declared.cmp.Ordering.TheVariants.{Greater};
 ghost use Rattle.wi_weight.specs.Weights.{EachBelow};
 
@@ -31,11 +31,11 @@ fn compare_sums<W: Domain>(one: W, other: W, added: W) -> Ordering
 }
 
 fn pair(parts: [u128; 5], count: u128) -> Pair<Terms, Effort>
-    ensures first { result.first.parts ≡ parts }
+    ensures first { result.first ≡ record { first = slice_index parts 0; second = slice_index parts 1; third = slice_index parts 2; fourth = slice_index parts 3; fifth = slice_index parts 4 } }
     ensures second { result.second.count ≡ count }
 {
     Pair {
-        first: Terms { parts },
+        first: Terms::of(parts),
         second: Effort { count },
     }
 }
@@ -65,15 +65,11 @@ fn effort_is_one_number(rt: HostRuntime) -> Result<(), Fail> {
 
 #[test]
 fn terms_are_five_numbers(rt: HostRuntime) -> Result<(), Fail> {
-    assert_eq!(rt; Terms::unit().parts, [0, 0, 0, 0, 0]);
-    let small = Terms {
-        parts: [1, 2, 3, 4, 5],
-    };
-    let large = Terms {
-        parts: [10, 20, 30, 40, GREATEST],
-    };
+    assert_eq!(rt; Terms::unit().parts(), [0, 0, 0, 0, 0]);
+    let small = Terms::of([1, 2, 3, 4, 5]);
+    let large = Terms::of([10, 20, 30, 40, GREATEST]);
     assert_eq!(rt;
-        small.extend(large).parts,
+        small.extend(large).parts(),
         [11, 22, 33, 44, 18_446_744_073_709_551_620]
     );
     for (one, other, order) in [
@@ -83,8 +79,7 @@ fn terms_are_five_numbers(rt: HostRuntime) -> Result<(), Fail> {
         ([1, 9, 9, 9, 9], [2, 0, 0, 0, 0], Ordering::Less),
         ([0, 0, 0, 1, 0], [0, 0, 0, 0, 9], Ordering::Greater),
     ] {
-        let one = Terms { parts: one };
-        assert_eq!(rt; one.compare(&Terms { parts: other }), order);
+        assert_eq!(rt; Terms::of(one).compare(&Terms::of(other)), order);
     }
     Ok(())
 }
@@ -124,7 +119,7 @@ fn each_place_fits(rt: &impl Abort, component: u128, fits: bool) {
     for place in 0..5 {
         let mut parts = [0; 5];
         parts[place] = component;
-        assert_eq!(rt; Terms { parts }.fits(), fits);
+        assert_eq!(rt; Terms::of(parts).fits(), fits);
         assert_eq!(rt; pair(parts, 0).fits(), fits);
     }
     assert_eq!(rt; pair([0, 0, 0, 0, 0], component).fits(), fits);

@@ -67,16 +67,20 @@ fn two_ways<W: Domain>(
 }
 
 // A least run of the list to the goal (0, 0, 1), where there is one.
-fn least_run<A: Domain, L: Ledger>(
+fn least_run<A: Domain, L: Ledger, M: Ledger>(
     alloc: Global,
     list: &RuleList<Pair<A, Effort>>,
     heads: &Heads,
     limit: u64,
     blank: Blank,
+    other: Blank,
 ) -> Option<Result<Vec<RuleId>, UnfoldRefused>>
     requires name { blank.name ≡ L.name }
     requires parts { blank.parts ≡ L.parts }
     requires some { 0 < blank.parts }
+    requires other_name { other.name ≡ M.name }
+    requires other_parts { other.parts ≡ M.parts }
+    requires other_some { 0 < other.parts }
     requires closed { AreClosed (rules_at list.now.rules) list.now.start heads.now.heads heads.now.pairs }
     requires ready { AreReady (with_effort A.components) (rules_at list.now.rules) heads.now.heads }
     requires start { list.now.start ≡ (0, 0) }
@@ -85,7 +89,8 @@ fn least_run<A: Domain, L: Ledger>(
         IsNamedRun (pair_scale A.scale effort_scale) (with_effort A.components) (rules_at list.now.rules) 0 0 1 ids.items w)) }
 {
     let mut steps = Steps::<L>::open(blank);
-    let Ok(table) = least(alloc, list, heads, (0, 0, 1), None, &mut steps) else {
+    let mut tries = Steps::<M>::open(other);
+    let Ok(table) = least(alloc, list, heads, (0, 0, 1), None, &mut steps, &mut tries) else {
         return None;
     };
     let Some(_weight) = table.best() else {
@@ -106,8 +111,14 @@ fn pair(count: u128) -> Pair<Effort, Effort>
 #[test]
 fn a_run_is_shown_up_to_the_limit(rt: HostRuntime) -> Result<(), Fail> {
     let (list, heads) = two_ways(rt.alloc(), pair(1), pair(2), pair(5))?;
-    let Some(Ok(ids)) = least_run::<Effort, Brand>(rt.alloc(), &list, &heads, 3, Blank::new(1))
-    else {
+    let Some(Ok(ids)) = least_run::<Effort, Brand, Brand>(
+        rt.alloc(),
+        &list,
+        &heads,
+        3,
+        Blank::new(1),
+        Blank::new(1),
+    ) else {
         assert!(rt; false);
         return Ok(());
     };
@@ -123,8 +134,14 @@ fn a_run_is_shown_up_to_the_limit(rt: HostRuntime) -> Result<(), Fail> {
 #[test]
 fn a_longer_run_is_refused(rt: HostRuntime) -> Result<(), Fail> {
     let (list, heads) = two_ways(rt.alloc(), pair(1), pair(2), pair(5))?;
-    let Some(Err(refused)) = least_run::<Effort, Brand>(rt.alloc(), &list, &heads, 2, Blank::new(1))
-    else {
+    let Some(Err(refused)) = least_run::<Effort, Brand, Brand>(
+        rt.alloc(),
+        &list,
+        &heads,
+        2,
+        Blank::new(1),
+        Blank::new(1),
+    ) else {
         assert!(rt; false);
         return Ok(());
     };

@@ -1,3 +1,4 @@
+use Rattle.std.proofs.lemmas.List.Elements.{All-from_get_or}
 use Rattle.wi_quantity.specs.Weighing.{components}
 use Rattle.wi_witness.specs.GoalRuns.{IsNamedRun}
 use Rattle.wi_build.specs.Systems.{rules_by, setup_given}
@@ -6,8 +7,11 @@ use Rattle.wi_decide.specs.Tables.{asked}
 use Rattle.wi_decide.proofs.AnswerLemmas.{asked_table, rules_for, spelled_least, there}
 use Rattle.wi_decide.proofs.decision.least_run.Goals as goal
 
-pub run_of-requires : goal.run_of-requires
-run_of-requires c =
+pub run_of-requires-clause-asked : goal.run_of-requires-clause-asked
+run_of-requires-clause-asked c = All-from_get_or (λ _. Unit {0}) c.as_slice.result.now (record { p = 0; g = 0; at = 0 }) (λ i low. tt)
+
+pub run_of-requires-clause-spells : goal.run_of-requires-clause-spells
+run_of-requires-clause-spells c =
     let vector = c.args.system.now.vector in
     let named = there (λ w. IsNamedRun scale components (rules_by (setup_given c.args.system.now)) 0 0 1 c.in_ok-ids.ids.items (components w)) c.args.table.now.best c.requires.reached (c.in_ok-ids.ensures.run c.args.system.now c.requires.table) in (
       asked c.args.net.now c.args.query.now vector,

@@ -10,12 +10,12 @@ use Rattle.wi_world.specs.declared.run.Run.{Run}
 use Rattle.wi_decide.proofs.SpellingLemmas.{goal_tells, told_same, whole}
 use Rattle.wi_decide.proofs.spelling.run_of.Goals as goal
 
-pub spell-requires : goal.spell-requires
-spell-requires g c = (goal_tells c.requires.0 c.args.net.now c.args.layout.now (g.S.System.rules c.args.sys.now) c.args.ids.now c.requires.1 c.requires.2 c.requires.3).1.named
+pub spell-requires-clause-names : goal.spell-requires-clause-names
+spell-requires-clause-names g c = (goal_tells c.requires.spells.0 c.args.net.now c.args.layout.now (g.S.System.rules c.args.sys.now) c.args.ids.now c.requires.spells.1 c.requires.spells.2 c.requires.spells.3).1.named
 
 pub into_run-requires : goal.into_run-requires
 into_run-requires g c =
-    let t = goal_tells c.requires.0 c.args.net.now c.args.layout.now (g.S.System.rules c.args.sys.now) c.args.ids.now c.requires.1 c.requires.2 c.requires.3 in
+    let t = goal_tells c.requires.spells.0 c.args.net.now c.args.layout.now (g.S.System.rules c.args.sys.now) c.args.ids.now c.requires.spells.1 c.requires.spells.2 c.requires.spells.3 in
     let is : c.in_ok-spelling.spelling ≡ whole t.0 = c.in_ok-spelling.ensures ∙ t.1.whole in
     let P : Spelled → Type 0 = λ s. IsSome s.first in
     subst P (sym is) refl

@@ -1,9 +1,11 @@
-use Rattle.std.proofs.Common.{◌≡◌, ℕ, List, [], ◌∷◌, refl, sym, subst, ◌∙◌}
+use Rattle.std.proofs.Common.{◌≡◌, ℕ, ◌^◌, lit<, List, [], ◌∷◌, refl, sym, subst, ◌∙◌}
 use Rattle.std.specs.List.Sorted.{IsStrictlySortedBy}
+use Rattle.std.proofs.lemmas.List.Elements.{All-from_recursion}
+use Rattle.wi_weight.specs.Weights.{EachBelow}
 use Rattle.wi_pds.specs.declared.rule.Rule.{Rule}
 use Rattle.wi_pds.specs.declared.rule.Word2.TheVariants.{Empty, Two}
 use Rattle.wi_pds.specs.Pairs.{pair_cmp}
-use Rattle.wi_saturate.proofs.RuleLists.{closed_by_test}
+use Rattle.wi_saturate.proofs.RuleLists.{closed_by_test, ready_by_all}
 use Rattle.wi_witness.proofs.tests.two_ways.Goals as goal
 
 -- the rules, in order
@@ -51,3 +53,24 @@ returns-clause-closed g c =
       c.in_ok-pairs.ensures.items,
     )
     (closed_by_test (list c.args.one c.args.two c.args.five) _ _ _ refl refl)
+
+pub returns-clause-ready : goal.returns-clause-ready
+returns-clause-ready g c =
+    rw (
+      c.of.ensures,
+      c.in_ok-push-5.ensures.items,
+      c.in_ok-push-4.ensures.items,
+      c.in_ok-push-3.ensures.items,
+      c.in_ok-push-2.ensures.items,
+      c.in_ok-push.ensures.items,
+      c.new-rules.ensures.items,
+      c.rule.ensures,
+      c.rule-2.ensures,
+      c.rule-3.ensures,
+      c.rule-4.ensures,
+      c.rule-5.ensures,
+      c.of-2.ensures,
+      c.in_ok-heads.ensures.items,
+    )
+    (ready_by_all (list c.args.one c.args.two c.args.five) g.W.Domain.components _ (lit< tt)
+    (All-from_recursion (λ r. EachBelow (2 ^ 64) (g.W.Domain.components r.weight)) (list c.args.one c.args.two c.args.five) (c.requires.one, (c.requires.five, (c.requires.two, (c.requires.one, (c.requires.one, tt)))))))

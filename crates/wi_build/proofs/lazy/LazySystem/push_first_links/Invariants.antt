@@ -5,4 +5,4 @@ use Rattle.wi_build.proofs.RowLemmas.{up_to, setting_out}
 use Rattle.wi_build.proofs.lazy.LazySystem.push_first_links.Given as goal
 
 abbrev pub invariant-loop-link : goal.invariant-loop-link
-invariant-loop-link l = l.rules.items ≡ l.initial.rules.items ++ rules_for (setup_given l.self) l.head (up_to (setting_out (setup_given l.self) l.top.0) l.link)
+invariant-loop-link l = l.rules.items ≡ l.fn.rules.items ++ rules_for (setup_given l.self) l.head (up_to (setting_out (setup_given l.self) l.top.0) l.link)

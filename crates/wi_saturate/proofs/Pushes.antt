@@ -1,0 +1,220 @@
+-- Heaps that get candidates of rules and rows.
+use Rattle.std.specs.Prelude.{◌≡◌, ℕ, zero, suc, ◌+◌, ◌<◌, ◌^◌, ◌⊎◌, List, ◌∷◌, Some, length, slice_get, get_or, refl, IsPermutation}
+use Rattle.std.specs.List.{Contains}
+use Rattle.std.proofs.Common.{sym, ap, ◌∙◌, subst, inl, inr, arith}
+use Rattle.std.proofs.lemmas.List.Sorted.{Contains-permutation, IsPermutation-sym}
+use Rattle.std.proofs.lemmas.Option.{slice_get_within, slice_get_read}
+use Rattle.wi_weight.specs.Weights.{EachBelow, plus}
+use Rattle.wi_weight.specs.Sums.{each_below_more, each_below_plus}
+use Rattle.wi_pds.specs.declared.rule.Word2.{Word2}
+use Rattle.wi_pds.specs.declared.rule.Word2.TheVariants.{Empty, One, Two}
+use Rattle.wi_saturate.specs.declared.row.Row.{Row}
+use Rattle.wi_saturate.specs.declared.heap.Candidate.{Candidate}
+use Rattle.wi_saturate.specs.declared.rules.Ruled.{Ruled}
+use Rattle.wi_saturate.specs.declared.index.Index.{Index}
+use Rattle.wi_saturate.specs.declared.waits.Wait.{Wait}
+use Rattle.wi_saturate.specs.declared.waits.Waits.{Waits}
+use Rattle.wi_saturate.specs.Chains.{ChainsView}
+use Rattle.wi_saturate.specs.Candidates.{AllFit}
+use Rattle.wi_saturate.specs.Indexes.{IsPlace, BeginsAt, IsIndexed}
+use Rattle.wi_saturate.specs.Searches.{ArePair, IsSum, IsSound, Has, Adds, IsFirst, IsOne, IsTwo, HasOne, HasTwo, AreWaits, AreRowPlaces}
+use Rattle.wi_saturate.proofs.Elements.{same_some, get_from_contains, contains_from_get, read_there, got_there, some_there}
+
+pub contains_there : {X : Type 0} (xs : List X) (t x : X) → Contains xs x → Contains (t ∷ xs) x
+contains_there xs t x h = let at = get_from_contains xs x h in contains_from_get (t ∷ xs) (suc at.0) x at.1
+
+pub here_or_there : {X : Type 0} (xs : List X) (t x : X) → Contains (t ∷ xs) x → (t ≡ x) ⊎ Contains xs x
+here_or_there {X} xs t x h = let at = get_from_contains (t ∷ xs) x h in go at.0 at.1
+  where
+    go : (i : ℕ) → slice_get (t ∷ xs) i ≡ Some x → (t ≡ x) ⊎ Contains xs x
+    go zero e = inl (same_some e)
+    go (suc i) e = inr (contains_from_get xs i x e)
+
+module _ {W : Type 0} (c : W → List ℕ) (flat : List (Ruled W)) (rows : List (Row W)) where
+  pub adds_none : (heap : List (Candidate W)) → Adds c flat rows heap heap
+  adds_none heap = record { keeps = λ t h. h; sound = λ t h. inl h }
+
+  pub adds_both : (a b d : List (Candidate W)) → Adds c flat rows a b → Adds c flat rows b d → Adds c flat rows a d
+  adds_both a b d first second = record {
+    keeps = λ t h. second.keeps t (first.keeps t h);
+    sound = λ t h. elim (second.sound t h) [
+      | inl old ↦ first.sound t old
+      | inr sound ↦ inr sound
+    ];
+  }
+
+  pub adds_one : (old new : List (Candidate W)) (t : Candidate W) → IsPermutation (t ∷ old) new → IsSound c flat rows t → Adds c flat rows old new
+  adds_one old new t moved sound = record {
+    keeps = λ x h. Contains-permutation (t ∷ old) new x moved (contains_there old t x h);
+    sound = λ x h. elim (here_or_there old t x (Contains-permutation new (t ∷ old) x (IsPermutation-sym (t ∷ old) new moved) h)) [
+      | inl same ↦ inr (subst (λ z. IsSound c flat rows z) same sound)
+      | inr old ↦ inl old
+    ];
+  }
+
+  pub has_pushed : (old new : List (Candidate W)) (t : Candidate W) → IsPermutation (t ∷ old) new → Has c new t.rule t.left t.right (c t.weight)
+  has_pushed old new t moved = (t, Contains-permutation (t ∷ old) new t moved (contains_from_get (t ∷ old) 0 t refl), refl, refl, refl, refl)
+
+  pub has_kept : (old new : List (Candidate W)) → Adds c flat rows old new → (k i j : ℕ) (w : List ℕ) → Has c old k i j w → Has c new k i j w
+  has_kept old new adds k i j w h = (h.0, adds.keeps h.0 h.1, h.2, h.3, h.4, h.5)
+
+  pub one_kept : (old new : List (Candidate W)) → Adds c flat rows old new → (k i : ℕ) → HasOne c flat rows old k i → HasOne c flat rows new k i
+  one_kept old new adds k i h u f r at word row p g = has_kept old new adds k i 0 _ (h u f r at word row p g)
+
+  pub two_kept : (old new : List (Candidate W)) → Adds c flat rows old new → (k i j : ℕ) → HasTwo c flat rows old k i j → HasTwo c flat rows new k i j
+  two_kept old new adds k i j h u v f r s at word row row' pair = has_kept old new adds k i j _ (h u v f r s at word row row' pair)
+
+  -- the candidate of a rule and a row
+  module _ (k i : ℕ) (f : Ruled W) (r : Row W) (at : slice_get flat k ≡ Some f) (row : slice_get rows i ≡ Some r) where
+    one_added : (old new : List (Candidate W)) (x : W) → c x ≡ plus (c f.rule.weight) (c r.weight) → IsOne flat rows k i
+        → IsPermutation (record { weight = x; rule = k; left = i; right = 0 } ∷ old) new → Adds c flat rows old new × HasOne c flat rows new k i
+    one_added old new x sum one moved =
+        let same : one.0 ≡ f = same_some (sym one.3 ∙ at) in
+        let same' : one.1 ≡ r = same_some (sym one.5 ∙ row) in (
+          adds_one old new (record { weight = x; rule = k; left = i; right = 0 }) moved (
+            f,
+            at,
+            subst (λ z. IsSum c rows f.rule.to (c f.rule.weight) z i 0 (c x)) (sym (ap (λ (z : Ruled W). z.rule.word) (sym same) ∙ one.4))
+                (r, row, ap (λ (z : Row W). z.p) (sym same') ∙ one.6 ∙ ap (λ (z : Ruled W). z.rule.to) same, ap (λ (z : Row W). z.g) (sym same') ∙ one.7, sum),
+          ),
+          λ u g s at' word row' p q.
+              let alike : f ≡ g = same_some (sym at ∙ at') in
+              let alike' : r ≡ s = same_some (sym row ∙ row') in
+              subst (λ (z : Ruled W). Has c new k i 0 (plus (c z.rule.weight) (c s.weight))) alike
+              (subst (λ (z : Row W). Has c new k i 0 (plus (c f.rule.weight) (c z.weight))) alike'
+              (subst (λ w. Has c new k i 0 w) sum (has_pushed old new (record { weight = x; rule = k; left = i; right = 0 }) moved))),
+        )
+
+    -- the candidate of a rule and two rows
+    two_added : (j : ℕ) (s : Row W) → slice_get rows j ≡ Some s → (old new : List (Candidate W)) (x : W) → c x ≡ plus (plus (c f.rule.weight) (c r.weight)) (c s.weight) → IsTwo flat rows k i j
+        → IsPermutation (record { weight = x; rule = k; left = i; right = j } ∷ old) new → Adds c flat rows old new × HasTwo c flat rows new k i j
+    two_added j s second old new x sum two moved =
+        let same : two.0 ≡ f = same_some (sym two.5 ∙ at) in
+        let same' : two.1 ≡ r = same_some (sym two.7 ∙ row) in
+        let same'' : two.2 ≡ s = same_some (sym two.8 ∙ second) in
+        let pair : ArePair f.rule.to two.3 two.4 r s =
+        subst (λ (z : Row W). ArePair f.rule.to two.3 two.4 r z) same'' (subst (λ (z : Row W). ArePair f.rule.to two.3 two.4 z two.2) same' (subst (λ (z : Ruled W). ArePair z.rule.to two.3 two.4 two.1 two.2) same two.9)) in (
+          adds_one old new (record { weight = x; rule = k; left = i; right = j }) moved (
+            f,
+            at,
+            subst (λ z. IsSum c rows f.rule.to (c f.rule.weight) z i j (c x)) (sym (ap (λ (z : Ruled W). z.rule.word) (sym same) ∙ two.6)) (r, s, row, second, pair, sum),
+          ),
+          λ u v g r' s' at' word row' second' pair'.
+              let alike : f ≡ g = same_some (sym at ∙ at') in
+              let alike' : r ≡ r' = same_some (sym row ∙ row') in
+              let alike'' : s ≡ s' = same_some (sym second ∙ second') in
+              subst (λ (z : Ruled W). Has c new k i j (plus (plus (c z.rule.weight) (c r'.weight)) (c s'.weight))) alike
+              (subst (λ (z : Row W). Has c new k i j (plus (plus (c f.rule.weight) (c z.weight)) (c s'.weight))) alike'
+              (subst (λ (z : Row W). Has c new k i j (plus (plus (c f.rule.weight) (c r.weight)) (c z.weight))) alike''
+              (subst (λ w. Has c new k i j w) sum (has_pushed old new (record { weight = x; rule = k; left = i; right = j }) moved)))),
+        )
+
+  -- the same, at what the code reads
+  pub one_pushed : (k i : ℕ) (f : Ruled W) (d : Row W) → f ≡ get_or flat k f → (old new : List (Candidate W)) (x : W) → c x ≡ plus (c f.rule.weight) (c (get_or rows i d).weight) → IsOne flat rows k i
+      → IsPermutation (record { weight = x; rule = k; left = i; right = 0 } ∷ old) new → Adds c flat rows old new × HasOne c flat rows new k i
+  one_pushed k i f d is old new x sum one moved = one_added k i f (get_or rows i d) (read_there flat k f one.0 one.3 is) (got_there rows i d one.1 one.5) old new x sum one moved
+
+  pub two_pushed : (k i j : ℕ) (f : Ruled W) (d e : Row W) → f ≡ get_or flat k f → (old new : List (Candidate W)) (x h : W) → c h ≡ plus (c f.rule.weight) (c (get_or rows i d).weight)
+      → c x ≡ plus (c h) (c (get_or rows j e).weight) → IsTwo flat rows k i j → IsPermutation (record { weight = x; rule = k; left = i; right = j } ∷ old) new → Adds c flat rows old new × HasTwo c flat rows new k i j
+  two_pushed k i j f d e is old new x h half sum two moved =
+      two_added k i f (get_or rows i d) (read_there flat k f two.0 two.5 is) (got_there rows i d two.1 two.7) j (get_or rows j e) (got_there rows j e two.2 two.8) old new x
+      (sum ∙ ap (λ w. plus w (c (get_or rows j e).weight)) half) two moved
+
+-- the sums can be made
+module _ {W : Type 0} (c : W → List ℕ) (flat : List (Ruled W)) (rows : List (Row W)) (small : (k : ℕ) (f : Ruled W) → slice_get flat k ≡ Some f → EachBelow (2 ^ 64) (c f.rule.weight)) (fit : AllFit c rows) where
+  pub rule_fits : (k : ℕ) (f g : Ruled W) → slice_get flat k ≡ Some g → f ≡ get_or flat k f → EachBelow (2 ^ 120) (c f.rule.weight)
+  rule_fits k f g at is = each_below_more (2 ^ 64) (2 ^ 120) (omega arith) (c f.rule.weight) (small k f (read_there flat k f g at is))
+
+  pub row_fits : (i : ℕ) (d r : Row W) → slice_get rows i ≡ Some r → EachBelow (2 ^ 120) (c (get_or rows i d).weight)
+  row_fits i d r at = each_below_more (2 ^ 64) (2 ^ 120) (omega arith) (c (get_or rows i d).weight) (fit i (get_or rows i d) (got_there rows i d r at))
+
+  pub both_fit : (k i : ℕ) (f g : Ruled W) (d r : Row W) (x : W) → slice_get flat k ≡ Some g → f ≡ get_or flat k f → slice_get rows i ≡ Some r → c x ≡ plus (c f.rule.weight) (c (get_or rows i d).weight) → EachBelow (2 ^ 120) (c x)
+  both_fit k i f g d r x at is row sum =
+      subst (λ z. EachBelow (2 ^ 120) z) (sym sum)
+      (each_below_more (2 ^ 64 + 2 ^ 64) (2 ^ 120) (omega arith) _
+      (each_below_plus (2 ^ 64) (2 ^ 64) (c f.rule.weight) (c (get_or rows i d).weight) (small k f (read_there flat k f g at is)) (fit i (get_or rows i d) (got_there rows i d r row))))
+
+same_head : {W : Type 0} (heads : List (ℕ × ℕ)) (to u place : ℕ) (r : Row W) → slice_get heads place ≡ Some (r.p, r.g) → IsPlace heads to u place → (r.p ≡ to) × (r.g ≡ u)
+same_head heads to u place r at h = elim h [
+  | inl is ↦ let same : (r.p, r.g) ≡ (to, u) = same_some (sym at ∙ is) in (ap (λ z. z.0) same, ap (λ z. z.1) same)
+  | inr past ↦ let low : place < length heads = slice_get_within heads place _ at in let high : place ≡ length heads = past.0 in absurd (omega arith)
+]
+
+-- a rule at the place of a row's head is for that row
+pub first_at : {W : Type 0} (heads : List (ℕ × ℕ)) (to : ℕ) (word : Word2) (place : ℕ) (r : Row W) → slice_get heads place ≡ Some (r.p, r.g) → BeginsAt heads to word place → IsFirst to word r
+first_at heads to Empty place r at h = tt
+first_at heads to (One u) place r at h = same_head heads to u place r at h
+first_at heads to (Two u v) place r at h = same_head heads to u place r at h
+
+-- the place of a row's head is one of the heads
+pub place_within : {W : Type 0} (heads : List (ℕ × ℕ)) (rows : List (Row W)) (last place : ℕ) → last < length rows → ((r : Row W) → slice_get rows last ≡ Some r → slice_get heads place ≡ Some (r.p, r.g)) → place < length heads
+place_within heads rows last place within head = let r = some_there rows last within in slice_get_within heads place _ (head r.0 r.1)
+
+-- a row at `last`, of the head at the place, can go into the rules that begin at the place
+pub first_there : {W : Type 0} (c : W → List ℕ) (heads : List (ℕ × ℕ)) (index : Index W) → IsIndexed c heads index → (rows : List (Row W)) (last place k : ℕ)
+    → ((r : Row W) → slice_get rows last ≡ Some r → slice_get heads place ≡ Some (r.p, r.g)) → slice_get index.begins.places k ≡ Some place
+    → (f : Ruled W) (r : Row W) → slice_get index.rules.items k ≡ Some f → slice_get rows last ≡ Some r → IsFirst f.rule.to f.rule.word r
+first_there c heads index indexed rows last place k head begins f r at row = first_at heads f.rule.to f.rule.word place r (head r row) (indexed.begins.each k place f at begins)
+
+pub one_first : {W : Type 0} (flat : List (Ruled W)) (rows : List (Row W)) (k i u : ℕ) (f : Ruled W) → k < length flat → i < length rows → f ≡ get_or flat k f
+    → ((f : Ruled W) (r : Row W) → slice_get flat k ≡ Some f → slice_get rows i ≡ Some r → IsFirst f.rule.to f.rule.word r) → f.rule.word ≡ One u → IsOne flat rows k i
+one_first flat rows k i u f within within' is first word =
+    let r = some_there rows i within' in
+    let at : slice_get flat k ≡ Some f = slice_get_read flat (length flat) k f refl within is in
+    let parts : IsFirst f.rule.to (One u) r.0 = subst (λ w. IsFirst f.rule.to w r.0) word (first f r.0 at r.1) in
+    (f, r.0, u, at, word, r.1, parts.0, parts.1)
+
+-- where the rule isn't one of one symbol
+pub no_one : {W : Type 0} (c : W → List ℕ) (flat : List (Ruled W)) (rows : List (Row W)) (heap : List (Candidate W)) (k i : ℕ) (f : Ruled W) → k < length flat → f ≡ get_or flat k f
+    → ((u : ℕ) → f.rule.word ≡ One u → ⊥) → HasOne c flat rows heap k i
+no_one c flat rows heap k i f within is none u g r at word row p q =
+    let same : f ≡ g = same_some (sym (slice_get_read flat (length flat) k f refl within is) ∙ at) in
+    absurd (none u (ap (λ (z : Ruled _). z.rule.word) same ∙ word))
+
+module _ {W : Type 0} (c : W → List ℕ) (heads : List (ℕ × ℕ)) (index : Index W) (indexed : IsIndexed c heads index) where
+  at_place : (k to u place : ℕ) → slice_get heads place ≡ Some (to, u) → (is : ℕ) → slice_get index.begins.places k ≡ Some is → IsPlace heads to u is → slice_get index.begins.places k ≡ Some place
+  at_place k to u place at is begins h = elim h [
+    | inl here ↦ subst (λ n. slice_get index.begins.places k ≡ Some n) (indexed.once is place to u here at) begins
+    | inr past ↦ absurd (past.1 (contains_from_get heads place (to, u) at))
+  ]
+
+  begin_place : (k : ℕ) (f : Ruled W) → slice_get index.rules.items k ≡ Some f → (is : ℕ) × (slice_get index.begins.places k ≡ Some is) × BeginsAt heads f.rule.to f.rule.word is
+  begin_place k f at =
+      let within : k < length index.rules.items = slice_get_within index.rules.items k f at in
+      let place = some_there index.begins.places k (omega (arith, indexed.begins.count)) in
+      (place.0, place.1, indexed.begins.each k place.0 f at place.1)
+
+  -- a rule whose first symbol is that of a listed head stands at that head's place
+  pub one_begins : (k u place : ℕ) (f : Ruled W) → slice_get index.rules.items k ≡ Some f → f.rule.word ≡ One u → slice_get heads place ≡ Some (f.rule.to, u) → slice_get index.begins.places k ≡ Some place
+  one_begins k u place f at word head =
+      let is = begin_place k f at in
+      at_place k f.rule.to u place head is.0 is.1 (subst (λ w. BeginsAt heads f.rule.to w is.0) word is.2)
+
+  pub two_begins : (k u v place : ℕ) (f : Ruled W) → slice_get index.rules.items k ≡ Some f → f.rule.word ≡ Two u v → slice_get heads place ≡ Some (f.rule.to, u) → slice_get index.begins.places k ≡ Some place
+  two_begins k u v place f at word head =
+      let is = begin_place k f at in
+      at_place k f.rule.to u place head is.0 is.1 (subst (λ w. BeginsAt heads f.rule.to w is.0) word is.2)
+
+-- the head of a row is the one that a rule leads to
+pub head_of : {W : Type 0} (heads : List (ℕ × ℕ)) (place to u : ℕ) (r : Row W) → slice_get heads place ≡ Some (r.p, r.g) → r.p ≡ to → r.g ≡ u → slice_get heads place ≡ Some (to, u)
+head_of heads place to u r at p g = at ∙ ap (λ x. Some (x, r.g)) p ∙ ap (λ x. Some (to, x)) g
+
+-- what waits at the place of a row's head is for that row
+pub wait_ends : {W : Type 0} (heads : List (ℕ × ℕ)) (flat : List (Ruled W)) (rows : List (Row W)) (waits : Waits) → AreWaits heads flat rows waits → (n place last : ℕ) (w : Wait) → slice_get waits.items.items n ≡ Some w
+    → slice_get waits.places.places n ≡ Some place → (s : Row W) → slice_get rows last ≡ Some s → slice_get heads place ≡ Some (s.p, s.g) → IsTwo flat rows w.rule w.row last
+wait_ends heads flat rows waits are n place last w at there s row head =
+    let is = are.each n place w at there in
+    let same : (s.p, s.g) ≡ (is.1.q, is.3) = same_some (sym head ∙ is.9) in
+    (is.0, is.1, s, is.2, is.3, is.4, is.5, is.6, row, (is.7, is.8, ap (λ z. z.0) same, ap (λ z. z.1) same))
+
+-- what waits was read
+pub wait_there : (waits : Waits) (n : ℕ) (w : Wait) → n < length waits.items.items → w ≡ get_or waits.items.items n w → slice_get waits.items.items n ≡ Some w
+wait_there waits n w within is = slice_get_read waits.items.items (length waits.items.items) n w refl within is
+
+-- what waits at a place, and a row of that head
+pub wait_meets : {W : Type 0} (heads : List (ℕ × ℕ)) (flat : List (Ruled W)) (rows : List (Row W)) (waits : Waits) (places : ChainsView) → AreWaits heads flat rows waits → AreRowPlaces heads rows places
+    → (n place j : ℕ) (w : Wait) → slice_get waits.items.items n ≡ Some w → slice_get waits.places.places n ≡ Some place → slice_get places.places j ≡ Some place → IsTwo flat rows w.rule w.row j
+wait_meets heads flat rows waits places are stand n place j w at there here =
+    let within : j < length places.places = slice_get_within places.places j place here in
+    let s = some_there rows j (omega (arith, stand.count)) in
+    wait_ends heads flat rows waits are n place j w at there s.0 s.1 (stand.each j place s.0 s.1 here)

@@ -1,0 +1,12 @@
+use Rattle.std.proofs.Common.{◌≡◌, ◌∙◌, ℕ, List, Some, slice_get, ap, sym, subst}
+use Rattle.wi_saturate.proofs.Lookups.{rule_named}
+use Rattle.wi_saturate.proofs.index.Index.add_head.Goals as goal
+
+pub add-requires-clause-named : goal.add-requires-clause-named
+add-requires-clause-named g c =
+    let same : c.loop-at.self.rules.heads ≡ c.args.self.now.rules.heads = c.loop-at.invariant.heads ∙ ap (λ v. v.heads) c.begin_head.ensures in
+    subst (λ (hs : List (ℕ × ℕ)). slice_get hs c.args.head ≡ Some (c.index-rules-at.result.from, c.index-rules-at.result.top)) (sym same)
+    (rule_named c.args.self.now.rules.heads c.args.head c.loop-at.at c.args.rules.now c.index-rules-at.result c.requires.listed c.requires.named c.loop-at-test.true c.index-rules-at.is)
+
+pub returns-clause-heads : goal.returns-clause-heads
+returns-clause-heads g c = c.loop-at.invariant.heads ∙ ap (λ v. v.heads) c.begin_head.ensures

@@ -1,0 +1,111 @@
+//! The rules of all heads, and where to look for those that a row can go into.
+ghost use Rattle.std.specs.Prelude.{◌≡◌, ◌+◌, ◌<◌, ◌^◌, ◌++◌, ◌∷◌, ℕ, OnOk, IfOk, MatchOption, Some, slice_get, length, []};
+ghost use Rattle.std.specs.List.{All, Contains};
+ghost use Rattle.wi_pds.specs.Rules.{IsOf};
+ghost use Rattle.wi_saturate.specs.LeastTables.{AreReady};
+ghost use Rattle.wi_saturate.specs.Indexes.{ruled_from, BeginsAt, IsPlace, AreBegins, IsIndex};
+
+use crate::chains::Chains;
+use crate::rules::{Ruled, Rules};
+use std::alloc::Global;
+use wi_base::NoMemory;
+use wi_pds::{Heads, Rule, System, Word2};
+use wi_weight::Domain;
+
+// The rules of all heads, each at the place of the head that it leads to: its state with the first symbol that it writes.
+// A rule that leads to no listed head, as one that writes no symbol, is at the place past the last head.
+#[derive(Drop)]
+pub(crate) struct Index<'a, W> {
+    pub(crate) rules: Rules<'a, W>,
+    pub(crate) begins: Chains,
+}
+
+// The place of the head, where it is listed.
+pub(crate) fn place_of(heads: &Heads, p: u64, g: u32) -> Option<usize>
+    ensures { MatchOption result (Contains heads.now.heads (p, g) → ⊥) (λ place. slice_get heads.now.heads place ≡ Some (p, g)) }
+{
+    heads.heads.as_slice().binary_search(&(p, g)).ok()
+}
+
+// The place of the head, or the place past the last one.
+fn place_or_past(heads: &Heads, p: u64, g: u32) -> usize
+    ensures { IsPlace heads.now.heads p g result }
+{
+    match place_of(heads, p, g) {
+        Some(place) => place,
+        None => heads.heads.as_slice().len(),
+    }
+}
+
+// The place of the head that the rule leads to.
+fn begins_at<W>(heads: &Heads, rule: &Rule<W>) -> usize
+    ensures { BeginsAt heads.now.heads rule.now.to rule.now.word result }
+{
+    match rule.word {
+        Word2::Empty => heads.heads.as_slice().len(),
+        Word2::One(u) => place_or_past(heads, rule.to, u),
+        Word2::Two(u, _) => place_or_past(heads, rule.to, u),
+    }
+}
+
+impl<'a, W: Domain> Index<'a, W> {
+    // The index of the rules of the heads. The system is asked for the rules of each head once.
+    pub(crate) fn new<S: System<W>>(
+        alloc: Global,
+        sys: &S,
+        heads: &'a Heads,
+    ) -> Result<Self, NoMemory>
+        requires ready { AreReady W.components (S.rules sys.now) heads.now.heads }
+        requires asked { (p g : ℕ) → Contains heads.now.heads (p, g) → S.may_ask sys.now p g }
+        ensures { IfOk result (IsIndex W.components (S.rules sys.now) heads.now.heads) }
+    {
+        let listed = heads.heads.as_slice();
+        let mut index = Index {
+            rules: Rules::new(alloc, listed),
+            begins: Chains::new(alloc, listed.len() + 1)?,
+        };
+        for head in 0..listed.len() {
+            let (p, g) = listed[head];
+            let rules = sys.rules_of(alloc, p, g)?;
+            index.add_head(heads, head, &rules)?;
+        }
+        Ok(index)
+    }
+
+    // Adds the rules of the head at a place.
+    fn add_head(&mut self, heads: &Heads, head: usize, rules: &[Rule<W>]) -> Result<(), NoMemory>
+        requires count { length rules.now < 2 ^ 32 }
+        requires named { (p g : ℕ) → slice_get self.old.rules.heads head ≡ Some (p, g) → All (IsOf p g) rules.now }
+        requires listed { head < length self.old.rules.heads }
+        requires begins { AreBegins heads.now.heads self.old.rules.items self.old.begins }
+        ensures begins { OnOk result (AreBegins heads.now.heads self.new.rules.items self.new.begins) }
+        ensures rules { OnOk result (self.new.rules.items ≡ self.old.rules.items ++ ruled_from head 0 rules.now) }
+        ensures heads { OnOk result (self.new.rules.heads ≡ self.old.rules.heads) }
+    {
+        self.rules.begin_head();
+        for at in 0..rules.len() {
+            self.add(
+                heads,
+                Ruled {
+                    head,
+                    at: at as u32,
+                    rule: rules[at],
+                },
+            )?;
+        }
+        Ok(())
+    }
+
+    // Adds one rule.
+    fn add(&mut self, heads: &Heads, ruled: Ruled<W>) -> Result<(), NoMemory>
+        requires begins { AreBegins heads.now.heads self.old.rules.items self.old.begins }
+        requires named { slice_get self.old.rules.heads ruled.head ≡ Some (ruled.rule.from, ruled.rule.top) }
+        ensures begins { OnOk result (AreBegins heads.now.heads self.new.rules.items self.new.begins) }
+        ensures rules { OnOk result (self.new.rules.items ≡ self.old.rules.items ++ ruled ∷ []) }
+        ensures heads { OnOk result (self.new.rules.heads ≡ self.old.rules.heads) }
+    {
+        self.begins.add(begins_at(heads, &ruled.rule))?;
+        self.rules.push(ruled)?;
+        Ok(())
+    }
+}

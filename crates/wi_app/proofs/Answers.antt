@@ -13,11 +13,9 @@ use Rattle.wi_world.specs.declared.answer.Verdict.{Verdict}
 use Rattle.wi_world.specs.declared.answer.Verdict.TheVariants.{Fits, Exceeds, UsesFailed}
 use Rattle.wi_world.specs.Moves.{is_usable, follows, is_start}
 use Rattle.wi_world.specs.Holds.{Holds, Question, Weighing}
-use Rattle.wi_query.specs.declared.query.Query.{Query}
-use Rattle.wi_query.specs.Meaning.{question_of}
-use Rattle.wi_quantity.specs.declared.vector.Part.{Part}
-use Rattle.wi_quantity.specs.Weighing.{components, weight_of}
+use Rattle.wi_quantity.specs.Weighing.{components}
 use Rattle.wi_trace.specs.declared.answer.Answer.{Answer}
+use Rattle.wi_build.specs.Problems.{Problem, asks, weighs}
 use Rattle.wi_decide.specs.Decided.{IsDecided}
 use Rattle.wi_report.specs.Reports.{IsKnownRun}
 use Rattle.wi_app.specs.Asked.{IsReported, status_for}
@@ -55,8 +53,8 @@ runs_known net question weigh word w None verdict h = tt
 runs_known net question weigh word w (Some run) verdict h = run_known net question weigh word w run verdict h
 
 -- the run that an answer shows can be shown
-pub answer_known : (net : Net) (query : Query) (vector : List (List Part)) (a : Answer) → IsDecided net query vector a → IfSome a.run (λ run. IsKnownRun net run)
-answer_known net query vector a h = runs_known net (question_of query) (weight_of net vector) a.word (option_map components a.weight) a.run a.verdict h
+pub answer_known : (problem : Problem) (a : Answer) → IsDecided problem a → IfSome a.run (λ run. IsKnownRun problem.net run)
+answer_known problem a h = runs_known problem.net (asks problem) (weighs problem) a.word (option_map components a.weight) a.run a.verdict h
 
 -- an inconclusive comes only where something may fail
 may_fail : (net : Net) (question : Question) (weigh : Weighing) (w : Option (List ℕ)) (run : Option Run) (verdict : Option Verdict) → Holds net question weigh Inconclusive w run verdict → 0 < question.bounds.k
@@ -67,12 +65,10 @@ may_fail net question weigh (Some w) (Some run) None h = elim h [ ]
 may_fail net question weigh (Some w) None verdict h = elim h [ ]
 may_fail net question weigh None run verdict h = elim h [ ]
 
-word_ends : (net : Net) (query : Query) (vector : List (List Part)) (word : Word) (status : ℕ) (w : Option (List ℕ)) (run : Option Run) (verdict : Option Verdict) → Holds net (question_of query) (weight_of net vector) word w run verdict → status ≡ status_for word
-    → MayEnd net query vector status
-word_ends net query vector Yes status w run verdict h is = inl is
-word_ends net query vector No status w run verdict h is = inr (inl is)
-word_ends net query vector Inconclusive status w run verdict h is = inr (inr (inl (is, may_fail net (question_of query) (weight_of net vector) w run verdict h)))
+word_ends : (problem : Problem) (word : Word) (status : ℕ) (w : Option (List ℕ)) (run : Option Run) (verdict : Option Verdict) → Holds problem.net (asks problem) (weighs problem) word w run verdict → status ≡ status_for word → MayEnd problem status
+word_ends problem Yes status w run verdict h is = inl is
+word_ends problem No status w run verdict h is = inr (inl is)
+word_ends problem Inconclusive status w run verdict h is = inr (inr (inl (is, may_fail problem.net (asks problem) (weighs problem) w run verdict h)))
 
-pub answer_ends : (net : Net) (query : Query) (vector : List (List Part)) (status : ℕ) (text : List ℕ) → IsReported net query vector status text → MayEnd net query vector status
-answer_ends net query vector status text r =
-    word_ends net query vector r.answer.word status (option_map components r.answer.weight) r.answer.run r.answer.verdict r.holds r.status_is
+pub answer_ends : (problem : Problem) (status : ℕ) (text : List ℕ) → IsReported problem status text → MayEnd problem status
+answer_ends problem status text r = word_ends problem r.answer.word status (option_map components r.answer.weight) r.answer.run r.answer.verdict r.holds r.status_is

@@ -9,7 +9,7 @@ use Rattle.wi_base.specs.Shelf.{IsLonger, after_fetch}
 use Rattle.wi_netjson.specs.declared.fault.Place.TheVariants.{File}
 use Rattle.wi_netjson.specs.declared.fault.NetFault.TheVariants.{OverLimit}
 use Rattle.wi_netjson.specs.File.{network_of}
-use Rattle.wi_app.specs.Run.{HasFault}
+use Rattle.wi_app.specs.Run.{FileHasFault}
 
 not_within : (n m : ℕ) → m < n → nat_le n m ≡ false
 not_within n m less = go (nat_le n m) refl
@@ -19,7 +19,7 @@ not_within n m less = go (nat_le n m) refl
     go true e = let within = leb-true n m e in let bad : ⊥ = omega (arith, within, less) in elim bad [ ]
 
 -- a file of too many bytes is a network file with that fault
-pub too_long : (file : Option (List ℕ)) → IsLonger file 67108864 → HasFault file (OverLimit File 67108864)
+pub too_long : (file : Option (List ℕ)) → IsLonger file 67108864 → FileHasFault file (OverLimit File 67108864)
 unfolding network_of
 too_long None longer = elim longer [ ]
 too_long (Some bytes) longer = rw (network_of, not_within (length bytes) 67108864 longer) refl

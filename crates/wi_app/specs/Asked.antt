@@ -13,6 +13,7 @@ use Rattle.wi_quantity.specs.declared.vector.Part.{Part}
 use Rattle.wi_quantity.specs.Faults.{Means, IsFault as IsWeightsFault}
 use Rattle.wi_quantity.specs.Weighing.{components}
 use Rattle.wi_trace.specs.declared.answer.Answer.{Answer}
+use Rattle.wi_build.specs.Problems.{Problem, problem_of}
 use Rattle.wi_decide.specs.Decided.{IsDecided}
 use Rattle.wi_decide.specs.Refusals.{IsOverflowing, IsTooLong, IsUnrefused}
 use Rattle.wi_report.specs.QueryFaults.{query_fault_text}
@@ -39,25 +40,25 @@ pub record IsAsked (net : Net) (text : List ℕ) (weights : Option (List ℕ)) (
 
 -- ---- answers
 
--- the report on an answer that holds and can be shown, with its status
-pub record IsReported (net : Net) (query : Query) (vector : List (List Part)) (status : ℕ) (report : List ℕ) : Type 0 where
+-- the report on an answer to a problem that holds and can be shown, with its status
+pub record IsReported (problem : Problem) (status : ℕ) (report : List ℕ) : Type 0 where
   pub answer : Answer
-  pub holds : IsDecided net query vector answer
-  pub shown : IsUnrefused net query vector answer
+  pub holds : IsDecided problem answer
+  pub shown : IsUnrefused problem answer
   pub status_is : status ≡ status_for answer.word
-  pub report_is : report ≡ report_of net query.bounds (length vector) answer
+  pub report_is : report ≡ report_of problem.net problem.bounds (length problem.vector) answer
 
 -- the report on what texts ask of a network
 pub record IsAnswer (net : Net) (text : List ℕ) (weights : Option (List ℕ)) (status : ℕ) (report : List ℕ) : Type 0 where
   pub query : Query
   pub vector : List (List Part)
   pub asked : IsAsked net text weights query vector
-  pub reported : IsReported net query vector status report
+  pub reported : IsReported (problem_of net query vector) status report
 
 -- ---- causes of refusals
 
 -- the text has this first fault as a query, and this is said of it
-pub record HasFault (net : Net) (text said : List ℕ) : Type 0 where
+pub record QueryHasFault (net : Net) (text said : List ℕ) : Type 0 where
   pub fault : QueryFault
   pub first : IsQueryFault net text fault
   pub due : fault ≡ query_fault.Memory → ⊥
@@ -65,7 +66,7 @@ pub record HasFault (net : Net) (text said : List ℕ) : Type 0 where
 
 -- the text of the query is the cause
 abbrev pub IsBadQuery : Net → List ℕ → Refusal → Type 0
-IsBadQuery net text (BadQuery said) = HasFault net text said
+IsBadQuery net text (BadQuery said) = QueryHasFault net text said
 IsBadQuery net text Memory = Unit {0}
 IsBadQuery net text refusal = ⊥
 
@@ -76,19 +77,19 @@ IsBadWeights weights Memory = Unit {0}
 IsBadWeights weights refusal = ⊥
 
 -- there is an answer, but a summary's weight doesn't fit, or else the least run is too long
-abbrev pub FromDecision : Net → Query → List (List Part) → Refusal → Type 0
-FromDecision net query vector (Overflow w terms) = IsOverflowing net query vector (components w) × (terms ≡ length vector)
-FromDecision net query vector (TooLong effort) = IsTooLong net query vector effort
-FromDecision net query vector Memory = Unit {0}
-FromDecision net query vector refusal = ⊥
+abbrev pub FromDecision : Problem → Refusal → Type 0
+FromDecision problem (Overflow w terms) = IsOverflowing problem (components w) × (terms ≡ length problem.vector)
+FromDecision problem (TooLong effort) = IsTooLong problem effort
+FromDecision problem Memory = Unit {0}
+FromDecision problem refusal = ⊥
 
--- texts are a query of the network and weights, and this holds of them
-abbrev pub ForAsked : Net → List ℕ → Option (List ℕ) → (Query → List (List Part) → Type 0) → Type 0
-ForAsked net text weights P = (query : Query) × (vector : List (List Part)) × IsAsked net text weights query vector × P query vector
+-- texts are a query of the network and weights, and this holds of the problem that they ask
+abbrev pub ForAsked : Net → List ℕ → Option (List ℕ) → (Problem → Type 0) → Type 0
+ForAsked net text weights P = (query : Query) × (vector : List (List Part)) × IsAsked net text weights query vector × P (problem_of net query vector)
 
 -- the text of the query is the cause; or, that being a query, the text of the weights; or else what both ask
 abbrev pub FromTexts : Net → List ℕ → Option (List ℕ) → Refusal → Type 0
 FromTexts net text weights refusal =
     IsBadQuery net text refusal
     ⊎ ((query : Query) × IsQuery net text query × IsBadWeights weights refusal)
-    ⊎ ForAsked net text weights (λ query vector. FromDecision net query vector refusal)
+    ⊎ ForAsked net text weights (λ problem. FromDecision problem refusal)

@@ -24,6 +24,15 @@ text_of LongScript = codes "script: over the limit 1048576\n"
 text_of CannotPrint = codes "whatif: cannot print\n"
 text_of Memory = codes "whatif: out of memory\n"
 
+-- the text is put together from parts, which takes memory
+abbrev pub IsPutTogether : Refusal → Type 0
+IsPutTogether Usage = ⊥
+IsPutTogether (Query said) = ⊥
+IsPutTogether LongScript = ⊥
+IsPutTogether CannotPrint = ⊥
+IsPutTogether Memory = ⊥
+IsPutTogether _ = Unit {0}
+
 -- the exit status that goes with it
 abbrev pub status_of : Refusal → ℕ
 status_of Usage = 9

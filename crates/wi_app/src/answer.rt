@@ -2,7 +2,7 @@
 ghost use Rattle.std.specs.Prelude.{◌≡◌, ℕ, List, map, string_bytes, IfOk, IfErr};
 ghost use Rattle.wi_words.specs.Commands.{command_of};
 ghost use Rattle.wi_words.specs.Shown.{shown};
-ghost use Rattle.wi_app.specs.Run.{AreAnswered, FromCommand, FromWords, IsAnswered};
+ghost use Rattle.wi_app.specs.Run.{AreAnswered, FromCommand, FromWords, IsAnswered, IsCalm};
 
 use crate::play::play;
 use crate::refusal::Refusal;
@@ -20,15 +20,16 @@ pub struct Printed {
 }
 
 /// What the words ask for, or why not.
-pub fn answer_of<'a, S: Shelf>(
+pub fn answer_to_words<'a, S: Shelf>(
     alloc: Global,
     words: &'a [String],
     shelf: &mut S,
 ) -> Result<Printed, Refusal<'a>>
-    ensures files { (other : List ℕ) → S.file shelf.new other ≡ S.file shelf.old other }
-    ensures calm { IfOk result (λ _. S.failed shelf.new ≡ S.failed shelf.old) }
-    ensures answered { IfOk result (λ printed. AreAnswered (S.told shelf.old) (S.file shelf.old) (command_of (map string_bytes words.now)) printed.status printed.text) }
-    ensures refused { IfErr result (λ refusal. FromWords (S.told shelf.old) (S.file shelf.old) (command_of (map string_bytes words.now)) (S.failed shelf.old) (S.failed shelf.new) refusal) }
+    ensures told { (S.seen shelf.new).told ≡ (S.seen shelf.old).told }
+    ensures files { (other : List ℕ) → (S.seen shelf.new).file other ≡ (S.seen shelf.old).file other }
+    ensures calm { IfOk result (λ _. IsCalm (S.seen shelf.old) (S.seen shelf.new)) }
+    ensures answered { IfOk result (λ printed. AreAnswered (S.seen shelf.old) (command_of (map string_bytes words.now)) printed.status printed.text) }
+    ensures refused { IfErr result (λ refusal. FromWords (S.seen shelf.old) (S.seen shelf.new) (command_of (map string_bytes words.now)) refusal) }
 {
     match command_of(alloc, words)? {
         Some(command) => answer_to(alloc, command, shelf),
@@ -42,10 +43,11 @@ fn answer_to<'a, S: Shelf>(
     command: Command<'a>,
     shelf: &mut S,
 ) -> Result<Printed, Refusal<'a>>
-    ensures files { (other : List ℕ) → S.file shelf.new other ≡ S.file shelf.old other }
-    ensures calm { IfOk result (λ _. S.failed shelf.new ≡ S.failed shelf.old) }
-    ensures answered { IfOk result (λ printed. IsAnswered (S.told shelf.old) (S.file shelf.old) (shown command.entry) printed.status printed.text) }
-    ensures refused { IfErr result (λ refusal. FromCommand (S.told shelf.old) (S.file shelf.old) (shown command.entry) (S.failed shelf.old) (S.failed shelf.new) refusal) }
+    ensures told { (S.seen shelf.new).told ≡ (S.seen shelf.old).told }
+    ensures files { (other : List ℕ) → (S.seen shelf.new).file other ≡ (S.seen shelf.old).file other }
+    ensures calm { IfOk result (λ _. IsCalm (S.seen shelf.old) (S.seen shelf.new)) }
+    ensures answered { IfOk result (λ printed. IsAnswered (S.seen shelf.old) (shown command.entry) printed.status printed.text) }
+    ensures refused { IfErr result (λ refusal. FromCommand (S.seen shelf.old) (S.seen shelf.new) (shown command.entry) refusal) }
 {
     match command {
         Command::Verify {

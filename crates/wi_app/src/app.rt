@@ -1,9 +1,8 @@
 //! The program.
 ghost use Rattle.std.specs.Prelude.{◌≡◌, ◌<◌, ◌-◌, ◌^◌, ℕ, List, map, string_bytes};
-ghost use Rattle.wi_app.specs.Edges.{seen, shelf_seen};
 ghost use Rattle.wi_app.specs.Run.{Completes, Does, Prints};
 
-use crate::answer::{Printed, answer_of};
+use crate::answer::{Printed, answer_to_words};
 use crate::refusal::{Refusal, say};
 use std::alloc::Global;
 use wi_base::{PutRefused, Shelf, Sink};
@@ -17,13 +16,14 @@ pub fn run<S: Shelf, O: Sink, E: Sink>(
     out: &mut O,
     err: &mut E,
 ) -> u8
-    requires out { O.faults out.old < 2 ^ 64 - 1 }
-    requires err { E.faults err.old < 2 ^ 64 - 1 }
-    ensures files { (name : List ℕ) → S.file shelf.new name ≡ S.file shelf.old name }
-    ensures does { Does (map string_bytes words.now) (shelf_seen S.told S.file S.failed shelf.old) (shelf_seen S.told S.file S.failed shelf.new) (seen O.told O.written O.faults out.old) (seen O.told O.written O.faults out.new) (seen E.told E.written E.faults err.old) (seen E.told E.written E.faults err.new) result }
-    ensures completes { Completes (map string_bytes words.now) (shelf_seen S.told S.file S.failed shelf.old) (shelf_seen S.told S.file S.failed shelf.new) (seen O.told O.written O.faults out.old) (seen O.told O.written O.faults out.new) (seen E.told E.written E.faults err.old) (seen E.told E.written E.faults err.new) result }
+    requires out { (O.seen out.old).faults < 2 ^ 64 - 1 }
+    requires err { (E.seen err.old).faults < 2 ^ 64 - 1 }
+    ensures tells { ((S.seen shelf.new).told ≡ (S.seen shelf.old).told) × ((O.seen out.new).told ≡ (O.seen out.old).told) × ((E.seen err.new).told ≡ (E.seen err.old).told) }
+    ensures files { (name : List ℕ) → (S.seen shelf.new).file name ≡ (S.seen shelf.old).file name }
+    ensures does { Does (map string_bytes words.now) (S.seen shelf.old) (S.seen shelf.new) (O.seen out.old) (O.seen out.new) (E.seen err.old) (E.seen err.new) result }
+    ensures completes { Completes (map string_bytes words.now) (S.seen shelf.old) (S.seen shelf.new) (O.seen out.old) (O.seen out.new) (E.seen err.old) (E.seen err.new) result }
 {
-    match answer_of(alloc, words, shelf) {
+    match answer_to_words(alloc, words, shelf) {
         Ok(printed) => print(alloc, &printed, out, err),
         Err(refusal) => say(alloc, refusal, err),
     }
@@ -31,9 +31,11 @@ pub fn run<S: Shelf, O: Sink, E: Sink>(
 
 // Prints a report, or says why not.
 fn print<O: Sink, E: Sink>(alloc: Global, printed: &Printed, out: &mut O, err: &mut E) -> u8
-    requires out { O.faults out.old < 2 ^ 64 - 1 }
-    requires err { E.faults err.old < 2 ^ 64 - 1 }
-    ensures { Prints printed.now.status printed.now.text (seen O.told O.written O.faults out.old) (seen O.told O.written O.faults out.new) (seen E.told E.written E.faults err.old) (seen E.told E.written E.faults err.new) result }
+    requires out { (O.seen out.old).faults < 2 ^ 64 - 1 }
+    requires err { (E.seen err.old).faults < 2 ^ 64 - 1 }
+    ensures out { (O.seen out.new).told ≡ (O.seen out.old).told }
+    ensures err { (E.seen err.new).told ≡ (E.seen err.old).told }
+    ensures printed { Prints printed.now.status printed.now.text (O.seen out.old) (O.seen out.new) (E.seen err.old) (E.seen err.new) result }
 {
     match out.put(printed.text.as_bytes()) {
         Ok(()) => printed.status,

@@ -2,7 +2,7 @@
 ghost use Rattle.std.specs.Prelude.{◌≡◌, true, ◌≤◌, ℕ, List, Ok, Some, IfOk, IfErr, vec_len, length};
 ghost use Rattle.wi_netjson.specs.File.{network_of};
 ghost use Rattle.wi_netjson.specs.Reading.{Fails};
-ghost use Rattle.wi_app.specs.Run.{FetchFailed, FromNetwork, FromScript, HoldsNetwork};
+ghost use Rattle.wi_app.specs.Run.{FetchFailed, FromNetwork, FromScript, HoldsNetwork, IsCalm};
 ghost use Rattle.wi_net.specs.Net.{Net};
 
 use crate::refusal::Refusal;
@@ -23,11 +23,11 @@ pub fn network<'a, S: Shelf>(
     name: &'a str,
     shelf: &mut S,
 ) -> Result<Network, Refusal<'a>>
-    ensures told { S.told shelf.new ≡ S.told shelf.old }
-    ensures files { (other : List ℕ) → S.file shelf.new other ≡ S.file shelf.old other }
-    ensures calm { IfOk result (λ _. S.failed shelf.new ≡ S.failed shelf.old) }
-    ensures held { S.told shelf.old ≡ true → IfOk result (λ net. HoldsNetwork (S.file shelf.old name.now) net) }
-    ensures refused { IfErr result (λ refusal. FromNetwork (S.told shelf.old) (S.file shelf.old name.now) name.now (S.failed shelf.old) (S.failed shelf.new) refusal) }
+    ensures told { (S.seen shelf.new).told ≡ (S.seen shelf.old).told }
+    ensures files { (other : List ℕ) → (S.seen shelf.new).file other ≡ (S.seen shelf.old).file other }
+    ensures calm { IfOk result (λ _. IsCalm (S.seen shelf.old) (S.seen shelf.new)) }
+    ensures held { (S.seen shelf.old).told ≡ true → IfOk result (λ net. HoldsNetwork ((S.seen shelf.old).file name.now) net) }
+    ensures refused { IfErr result (λ refusal. FromNetwork (S.seen shelf.old) (S.seen shelf.new) name.now refusal) }
 {
     let bytes = network_bytes(name, shelf)?;
     match read_network(alloc, bytes.as_slice()) {
@@ -38,11 +38,11 @@ pub fn network<'a, S: Shelf>(
 
 // The bytes of a network file.
 fn network_bytes<'a, S: Shelf>(name: &'a str, shelf: &mut S) -> Result<Vec<u8>, Refusal<'a>>
-    ensures told { S.told shelf.new ≡ S.told shelf.old }
-    ensures files { (other : List ℕ) → S.file shelf.new other ≡ S.file shelf.old other }
-    ensures calm { IfOk result (λ _. S.failed shelf.new ≡ S.failed shelf.old) }
-    ensures found { S.told shelf.old ≡ true → IfOk result (λ bytes. S.file shelf.old name.now ≡ Some bytes.items) }
-    ensures refused { IfErr result (λ refusal. FromNetwork (S.told shelf.old) (S.file shelf.old name.now) name.now (S.failed shelf.old) (S.failed shelf.new) refusal) }
+    ensures told { (S.seen shelf.new).told ≡ (S.seen shelf.old).told }
+    ensures files { (other : List ℕ) → (S.seen shelf.new).file other ≡ (S.seen shelf.old).file other }
+    ensures calm { IfOk result (λ _. IsCalm (S.seen shelf.old) (S.seen shelf.new)) }
+    ensures found { (S.seen shelf.old).told ≡ true → IfOk result (λ bytes. (S.seen shelf.old).file name.now ≡ Some bytes.items) }
+    ensures refused { IfErr result (λ refusal. FromNetwork (S.seen shelf.old) (S.seen shelf.new) name.now refusal) }
 {
     match shelf.fetch(name, NETWORK_LIMIT as u64) {
         Ok(bytes) => Ok(bytes),
@@ -57,11 +57,12 @@ fn network_bytes<'a, S: Shelf>(name: &'a str, shelf: &mut S) -> Result<Vec<u8>, 
 
 /// The bytes of a script, for a network.
 pub fn script_bytes<'a, S: Shelf>(name: &'a str, shelf: &mut S) -> Result<Vec<u8>, Refusal<'a>>
-    ensures files { (other : List ℕ) → S.file shelf.new other ≡ S.file shelf.old other }
-    ensures calm { IfOk result (λ _. S.failed shelf.new ≡ S.failed shelf.old) }
+    ensures told { (S.seen shelf.new).told ≡ (S.seen shelf.old).told }
+    ensures files { (other : List ℕ) → (S.seen shelf.new).file other ≡ (S.seen shelf.old).file other }
+    ensures calm { IfOk result (λ _. IsCalm (S.seen shelf.old) (S.seen shelf.new)) }
     ensures short { IfOk result (λ bytes. length bytes.items ≤ 1048576) }
-    ensures found { S.told shelf.old ≡ true → IfOk result (λ bytes. S.file shelf.old name.now ≡ Some bytes.items) }
-    ensures refused { (net : Net) (k : ℕ) → IfErr result (λ refusal. FromScript (S.told shelf.old) (S.file shelf.old name.now) net name.now k (S.failed shelf.old) (S.failed shelf.new) refusal) }
+    ensures found { (S.seen shelf.old).told ≡ true → IfOk result (λ bytes. (S.seen shelf.old).file name.now ≡ Some bytes.items) }
+    ensures refused { (net : Net) (k : ℕ) → IfErr result (λ refusal. FromScript (S.seen shelf.old) (S.seen shelf.new) net name.now k refusal) }
 {
     match shelf.fetch(name, SCRIPT_LIMIT) {
         Ok(bytes) => Ok(bytes),
@@ -70,6 +71,3 @@ pub fn script_bytes<'a, S: Shelf>(name: &'a str, shelf: &mut S) -> Result<Vec<u8
         Err(FetchRefused::Memory) => Err(Refusal::Memory),
     }
 }
-
-/// Lets a network go. A function of its own, since there are many parts to let go.
-pub fn discard(_net: Network) {}

@@ -1,16 +1,16 @@
 //! Scripts, played on a network.
 ghost use Rattle.std.specs.Prelude.{◌≡◌, ◌≤◌, true, Some, ℕ, List, length, IfOk, IfErr};
 ghost use Rattle.wi_words.specs.Commands.{Play};
-ghost use Rattle.wi_app.specs.Run.{FromBytes, FromCommand, FromScript, IsAnswered, IsPlay};
+ghost use Rattle.wi_app.specs.Run.{FromBytes, FromCommand, FromScript, IsAnswered, IsCalm, IsPlay};
 
 use crate::answer::Printed;
-use crate::fetch::{discard, network, script_bytes};
+use crate::fetch::{network, script_bytes};
 use crate::refusal::Refusal;
 use std::alloc::Global;
 use wi_base::Shelf;
 use wi_net::Network;
 use wi_report::states;
-use wi_trace::{play as states_of, read_script};
+use wi_script::{play as states_of, read_script};
 
 /// The states of the moving world while the script of a file is played, or why not.
 pub fn play<'a, S: Shelf>(
@@ -20,14 +20,15 @@ pub fn play<'a, S: Shelf>(
     k: u32,
     shelf: &mut S,
 ) -> Result<Printed, Refusal<'a>>
-    ensures files { (other : List ℕ) → S.file shelf.new other ≡ S.file shelf.old other }
-    ensures calm { IfOk result (λ _. S.failed shelf.new ≡ S.failed shelf.old) }
-    ensures answered { IfOk result (λ printed. IsAnswered (S.told shelf.old) (S.file shelf.old) (Play name.now script.now k) printed.status printed.text) }
-    ensures refused { IfErr result (λ refusal. FromCommand (S.told shelf.old) (S.file shelf.old) (Play name.now script.now k) (S.failed shelf.old) (S.failed shelf.new) refusal) }
+    ensures told { (S.seen shelf.new).told ≡ (S.seen shelf.old).told }
+    ensures files { (other : List ℕ) → (S.seen shelf.new).file other ≡ (S.seen shelf.old).file other }
+    ensures calm { IfOk result (λ _. IsCalm (S.seen shelf.old) (S.seen shelf.new)) }
+    ensures answered { IfOk result (λ printed. IsAnswered (S.seen shelf.old) (Play name.now script.now k) printed.status printed.text) }
+    ensures refused { IfErr result (λ refusal. FromCommand (S.seen shelf.old) (S.seen shelf.new) (Play name.now script.now k) refusal) }
 {
     let net = network(alloc, name, shelf)?;
     let printed = play_on(alloc, &net, script, k, shelf);
-    discard(net);
+    drop(net);
     printed
 }
 
@@ -39,11 +40,12 @@ fn play_on<'a, S: Shelf>(
     k: u32,
     shelf: &mut S,
 ) -> Result<Printed, Refusal<'a>>
-    ensures files { (other : List ℕ) → S.file shelf.new other ≡ S.file shelf.old other }
-    ensures calm { IfOk result (λ _. S.failed shelf.new ≡ S.failed shelf.old) }
+    ensures told { (S.seen shelf.new).told ≡ (S.seen shelf.old).told }
+    ensures files { (other : List ℕ) → (S.seen shelf.new).file other ≡ (S.seen shelf.old).file other }
+    ensures calm { IfOk result (λ _. IsCalm (S.seen shelf.old) (S.seen shelf.new)) }
     ensures status { IfOk result (λ printed. printed.status ≡ 0) }
-    ensures played { IfOk result (λ printed. (bytes : List ℕ) × (S.told shelf.old ≡ true → S.file shelf.old script.now ≡ Some bytes) × IsPlay net.now k bytes printed.text) }
-    ensures refused { IfErr result (λ refusal. FromScript (S.told shelf.old) (S.file shelf.old script.now) net.now script.now k (S.failed shelf.old) (S.failed shelf.new) refusal) }
+    ensures played { IfOk result (λ printed. (bytes : List ℕ) × ((S.seen shelf.old).told ≡ true → (S.seen shelf.old).file script.now ≡ Some bytes) × IsPlay net.now k bytes printed.text) }
+    ensures refused { IfErr result (λ refusal. FromScript (S.seen shelf.old) (S.seen shelf.new) net.now script.now k refusal) }
 {
     let bytes = script_bytes(script, shelf)?;
     played(alloc, net, bytes.as_slice(), k)

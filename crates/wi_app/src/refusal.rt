@@ -1,7 +1,7 @@
 //! Why the program refuses, and what it says then.
-ghost use Rattle.std.specs.Prelude.{◌≡◌, ◌++◌, ◌<◌, ◌-◌, ◌^◌, codes, IfOk};
-ghost use Rattle.wi_app.specs.Texts.{text_of, status_of};
-ghost use Rattle.wi_app.specs.Edges.{Says, SaysWhy, kept, seen};
+ghost use Rattle.std.specs.Prelude.{◌≡◌, ◌⊎◌, ◌++◌, ◌<◌, ◌-◌, ◌^◌, ℕ, List, codes, IfOk};
+ghost use Rattle.wi_app.specs.Texts.{status_of};
+ghost use Rattle.wi_app.specs.Edges.{Says, SaysWhy, kept};
 
 use std::alloc::Global;
 use wi_base::{NoMemory, PutRefused, Sink};
@@ -10,8 +10,15 @@ use wi_quantity::{Weight, WeightFault};
 use wi_report::{
     network_fault_text, overflow_text, script_fault_text, too_long_text, weight_fault_text,
 };
+use wi_script::ScriptRefused;
 use wi_text::Text;
-use wi_trace::ScriptRefused;
+
+// What is said where the words are no command.
+const USAGE: &[u8] =
+    b"usage: whatif verify NETWORK QUERY [--weights W]\n       whatif play NETWORK SCRIPT K\n";
+
+// What is said where memory ran out.
+const NO_MEMORY: &[u8] = b"whatif: out of memory\n";
 
 /// Why nothing is printed.
 #[derive(Drop)]
@@ -75,20 +82,45 @@ pub fn status_of(refusal: &Refusal<'_>) -> u8
 
 /// Says on `err` why, and gives the exit status: another one only where that can't be said.
 pub fn say<E: Sink>(alloc: Global, refusal: Refusal<'_>, err: &mut E) -> u8
-    requires { E.faults err.old < 2 ^ 64 - 1 }
-    ensures { SaysWhy refusal.entry (seen E.told E.written E.faults err.old) (seen E.told E.written E.faults err.new) result }
+    requires { (E.seen err.old).faults < 2 ^ 64 - 1 }
+    ensures told { (E.seen err.new).told ≡ (E.seen err.old).told }
+    ensures said { SaysWhy refusal.entry (E.seen err.old) (E.seen err.new) result }
 {
     let status = status_of(&refusal);
-    match text_of(alloc, refusal) {
+    match refusal {
+        Refusal::Usage => put(USAGE, status, err),
+        Refusal::CannotRead(name) => put_made(cannot_read(alloc, name), status, err),
+        Refusal::Network(fault) => put_made(network_fault_text(alloc, fault), status, err),
+        Refusal::Query(text) => put(text.as_bytes(), status, err),
+        Refusal::Weights(fault) => put_made(weight_fault_text(alloc, &fault), status, err),
+        Refusal::Overflow(weight, terms) => {
+            put_made(overflow_text(alloc, &weight, terms), status, err)
+        }
+        Refusal::TooLong(effort) => put_made(too_long_text(alloc, effort), status, err),
+        Refusal::Script(refused) => put_made(script_fault_text(alloc, &refused), status, err),
+        Refusal::LongScript => put(b"script: over the limit 1048576\n", status, err),
+        Refusal::CannotPrint => put(b"whatif: cannot print\n", status, err),
+        Refusal::Memory => put(NO_MEMORY, status, err),
+    }
+}
+
+// Puts a text that was put together, which takes memory; or else that there was none for it.
+fn put_made<E: Sink>(text: Result<Text, NoMemory>, status: u8, err: &mut E) -> u8
+    requires { (E.seen err.old).faults < 2 ^ 64 - 1 }
+    ensures told { (E.seen err.new).told ≡ (E.seen err.old).told }
+    ensures said { (wanted : List ℕ) → IfOk text (λ t. t ≡ wanted) → Says wanted status (E.seen err.old) (E.seen err.new) result ⊎ Says (codes "whatif: out of memory\n") (kept status) (E.seen err.old) (E.seen err.new) result }
+{
+    match text {
         Ok(text) => put(text.as_bytes(), status, err),
-        Err(NoMemory::Memory) => put(b"whatif: out of memory\n", kept(status), err),
+        Err(NoMemory::Memory) => put(NO_MEMORY, kept(status), err),
     }
 }
 
 // Puts a text on `err`, and gives the exit status.
 fn put<E: Sink>(text: &[u8], status: u8, err: &mut E) -> u8
-    requires { E.faults err.old < 2 ^ 64 - 1 }
-    ensures { Says text.now status (seen E.told E.written E.faults err.old) (seen E.told E.written E.faults err.new) result }
+    requires { (E.seen err.old).faults < 2 ^ 64 - 1 }
+    ensures told { (E.seen err.new).told ≡ (E.seen err.old).told }
+    ensures said { Says text.now status (E.seen err.old) (E.seen err.new) result }
 {
     match err.put(text) {
         Ok(()) => status,
@@ -102,36 +134,6 @@ fn kept(status: u8) -> u8
     ensures { result ≡ kept status }
 {
     if status == 10 { 10 } else { 11 }
-}
-
-// What is said.
-fn text_of(alloc: Global, refusal: Refusal<'_>) -> Result<Text, NoMemory>
-    ensures { IfOk result (λ text. text ≡ text_of refusal.entry) }
-{
-    match refusal {
-        Refusal::Usage => words(
-            alloc,
-            "usage: whatif verify NETWORK QUERY [--weights W]\n       whatif play NETWORK SCRIPT K\n",
-        ),
-        Refusal::CannotRead(name) => cannot_read(alloc, name),
-        Refusal::Network(fault) => network_fault_text(alloc, fault),
-        Refusal::Query(said) => Ok(said),
-        Refusal::Weights(fault) => weight_fault_text(alloc, &fault),
-        Refusal::Overflow(weight, terms) => overflow_text(alloc, &weight, terms),
-        Refusal::TooLong(effort) => too_long_text(alloc, effort),
-        Refusal::Script(refused) => script_fault_text(alloc, &refused),
-        Refusal::LongScript => words(alloc, "script: over the limit 1048576\n"),
-        Refusal::CannotPrint => words(alloc, "whatif: cannot print\n"),
-        Refusal::Memory => words(alloc, "whatif: out of memory\n"),
-    }
-}
-
-fn words(alloc: Global, words: &str) -> Result<Text, NoMemory>
-    ensures { IfOk result (λ text. text ≡ words.now) }
-{
-    let mut text = Text::new(alloc);
-    text.put(words)?;
-    Ok(text)
 }
 
 fn cannot_read(alloc: Global, name: &str) -> Result<Text, NoMemory>

@@ -2,11 +2,12 @@
 ghost use Rattle.std.specs.Prelude.{◌≡◌, ℕ, List, option_map, IfOk, IfErr};
 ghost use Rattle.wi_query.specs.Meaning.{IsQuery, IsQueryOf};
 ghost use Rattle.wi_words.specs.Commands.{Verify};
+ghost use Rattle.wi_build.specs.Problems.{problem_of};
 ghost use Rattle.wi_app.specs.Asked.{FromDecision, FromTexts, IsAnswer, IsBadQuery, IsBadWeights, IsReported, WeighsBy, status_for};
-ghost use Rattle.wi_app.specs.Run.{FromCommand, IsAnswered};
+ghost use Rattle.wi_app.specs.Run.{FromCommand, IsAnswered, IsCalm};
 
 use crate::answer::Printed;
-use crate::fetch::{discard, network};
+use crate::fetch::network;
 use crate::refusal::Refusal;
 use std::alloc::Global;
 use wi_base::Shelf;
@@ -25,14 +26,15 @@ pub fn verify<'a, S: Shelf>(
     weights: Option<&str>,
     shelf: &mut S,
 ) -> Result<Printed, Refusal<'a>>
-    ensures files { (other : List ℕ) → S.file shelf.new other ≡ S.file shelf.old other }
-    ensures calm { IfOk result (λ _. S.failed shelf.new ≡ S.failed shelf.old) }
-    ensures answered { IfOk result (λ printed. IsAnswered (S.told shelf.old) (S.file shelf.old) (Verify name.now query.now (option_map (λ s. s.now) weights.entry)) printed.status printed.text) }
-    ensures refused { IfErr result (λ refusal. FromCommand (S.told shelf.old) (S.file shelf.old) (Verify name.now query.now (option_map (λ s. s.now) weights.entry)) (S.failed shelf.old) (S.failed shelf.new) refusal) }
+    ensures told { (S.seen shelf.new).told ≡ (S.seen shelf.old).told }
+    ensures files { (other : List ℕ) → (S.seen shelf.new).file other ≡ (S.seen shelf.old).file other }
+    ensures calm { IfOk result (λ _. IsCalm (S.seen shelf.old) (S.seen shelf.new)) }
+    ensures answered { IfOk result (λ printed. IsAnswered (S.seen shelf.old) (Verify name.now query.now (option_map (λ s. s.now) weights.entry)) printed.status printed.text) }
+    ensures refused { IfErr result (λ refusal. FromCommand (S.seen shelf.old) (S.seen shelf.new) (Verify name.now query.now (option_map (λ s. s.now) weights.entry)) refusal) }
 {
     let net = network(alloc, name, shelf)?;
     let printed = answer(alloc, &net, query, weights);
-    discard(net);
+    drop(net);
     printed
 }
 
@@ -86,8 +88,8 @@ fn reported<'a>(
     vector: &Vector,
 ) -> Result<Printed, Refusal<'a>>
     requires { IsQueryOf net.now query.now }
-    ensures reported { IfOk result (λ printed. IsReported net.now query.now vector.now printed.status printed.text) }
-    ensures refused { IfErr result (λ refusal. FromDecision net.now query.now vector.now refusal) }
+    ensures reported { IfOk result (λ printed. IsReported (problem_of net.now query.now vector.now) printed.status printed.text) }
+    ensures refused { IfErr result (λ refusal. FromDecision (problem_of net.now query.now vector.now) refusal) }
 {
     net.keeps();
     match decide(alloc, net, query, vector) {

@@ -1,5 +1,6 @@
 pub mod Decimal
 pub mod Shelf
+pub mod FailedCalls
 pub mod Sink
 pub mod MemoryShelf
 pub mod MemorySink

@@ -4,7 +4,6 @@ use Rattle.std.specs.List.{list_any}
 use Rattle.std.specs.Str.{bytes_eq}
 use Rattle.wi_base.specs.declared.shelf.CallKind.{CallKind}
 use Rattle.wi_base.specs.declared.memory_shelf.NamedFile.{NamedFile}
-use Rattle.wi_base.specs.declared.memory_shelf.FailedCall.{FailedCall}
 
 -- files with their names, the failed calls, the numbers of the calls that are to fail, and how many calls there were
 pub record Contents : Type 0 where
@@ -34,11 +33,3 @@ file_of file = (string_bytes file.name, file.bytes.items)
 -- the names and the bytes of files
 abbrev pub files_of : List NamedFile → List (List ℕ × List ℕ)
 files_of files = map file_of files
-
--- a failed call's kind and its name
-abbrev pub call_of : FailedCall → CallKind × List ℕ
-call_of call = (call.kind, string_bytes call.name)
-
--- the kinds and the names of failed calls
-abbrev pub calls_of : List FailedCall → List (CallKind × List ℕ)
-calls_of calls = map call_of calls

@@ -1,11 +1,18 @@
--- What a call on a shelf notes, and when a file is too long.
-use Rattle.std.specs.Prelude.{ℕ, ◌<◌, List, [], ◌∷◌, ◌++◌, length, Option, Some, None, Result, Err}
+-- What is seen of a shelf, what a call on it notes, and when a file is too long.
+use Rattle.std.specs.Prelude.{ℕ, ◌<◌, Bool, List, [], ◌∷◌, ◌++◌, length, Option, Some, None, Result, Err}
 use Rattle.wi_base.specs.declared.shelf.CallKind.{CallKind}
 use Rattle.wi_base.specs.declared.shelf.CallKind.TheVariants.{Fetch, Store}
 use Rattle.wi_base.specs.declared.shelf.FetchRefused.{FetchRefused}
 use Rattle.wi_base.specs.declared.shelf.FetchRefused.TheVariants as fetch_refused
 use Rattle.wi_base.specs.declared.shelf.StoreRefused.{StoreRefused}
 use Rattle.wi_base.specs.declared.shelf.StoreRefused.TheVariants as store_refused
+
+-- a shelf at a moment: whether it tells what it holds; the bytes under each name, where there are any, which count only where
+-- it tells them; and the failed calls in their order, each by its kind and its name
+pub record ShelfSeen : Type 0 where
+  pub told : Bool
+  pub file : List ℕ → Option (List ℕ)
+  pub failed : List (CallKind × List ℕ)
 
 -- the failed calls after a fetch: this one too, if it failed
 abbrev pub after_fetch : {A : Type 0} → Result A FetchRefused → List ℕ → List (CallKind × List ℕ) → List (CallKind × List ℕ)

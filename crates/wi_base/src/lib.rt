@@ -2,6 +2,7 @@
 #![tactic(auto)]
 
 mod decimal;
+mod failed_call;
 mod list;
 mod memory_shelf;
 mod memory_sink;
@@ -10,6 +11,7 @@ mod shelf;
 mod sink;
 
 pub use decimal::{read_decimal, write_decimal};
+pub use failed_call::{FailedCall, room_to_note};
 pub use list::Listed;
 pub use memory_shelf::MemoryShelf;
 pub use memory_sink::{FailingPut, MemorySink};

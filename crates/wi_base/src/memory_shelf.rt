@@ -1,11 +1,13 @@
 //! A shelf in memory.
-ghost use Rattle.std.specs.Prelude.{◌≡◌, ◌≢◌, ◌≤◌, ◌<◌, ◌⊎◌, ◌+◌, ◌-◌, ◌^◌, ℕ, min, [], ◌∷◌, ◌++◌, length, true, false, List, None, Some, IfOk, OnOk, OnErr, IsErrOf, vec_len, vec_capacity, string_bytes, option_map};
+ghost use Rattle.std.specs.Prelude.{◌≡◌, ◌≢◌, ◌≤◌, ◌<◌, ◌⊎◌, ◌+◌, ◌-◌, ◌^◌, ℕ, min, [], ◌∷◌, ◌++◌, length, true, false, List, None, Some, IfOk, OnOk, OnErr, IsErrOf, vec_len, string_bytes, option_map};
 ghost use Rattle.std.specs.List.{position};
 ghost use Rattle.std.specs.Str.{bytes_eq};
 ghost use Rattle.wi_base.specs.declared.shelf.CallKind.{CallKind};
 ghost use Rattle.wi_base.specs.Shelf.{after_fetch, after_store, IsLonger};
-ghost use Rattle.wi_base.specs.MemoryShelf.{file_in, with_file, is_to_fail, file_of, files_of, call_of, calls_of};
+ghost use Rattle.wi_base.specs.FailedCalls.{calls_of};
+ghost use Rattle.wi_base.specs.MemoryShelf.{file_in, with_file, is_to_fail, file_of, files_of};
 
+use crate::failed_call::{FailedCall, room_to_note};
 use crate::no_memory::NoMemory;
 use crate::shelf::{CallKind, FetchRefused, Shelf, StoreRefused};
 use std::alloc::Global;
@@ -16,13 +18,6 @@ use std::marker::Model;
 struct NamedFile {
     name: String,
     bytes: Vec<u8>,
-}
-
-// A call that failed.
-#[derive(Drop)]
-struct FailedCall {
-    kind: CallKind,
-    name: String,
 }
 
 /// Files in memory, in the order in which they were first put there. It tells what it holds.
@@ -36,7 +31,8 @@ pub struct MemoryShelf {
 }
 
 impl Model for MemoryShelf {
-    ghost use Rattle.wi_base.specs.MemoryShelf.{Contents, files_of, calls_of};
+    ghost use Rattle.wi_base.specs.FailedCalls.{calls_of};
+    ghost use Rattle.wi_base.specs.MemoryShelf.{Contents, files_of};
 
     ghost Value = { Contents };
 
@@ -78,20 +74,16 @@ impl MemoryShelf {
         bytes_under(&self.files, name)
     }
 
-    /// How many calls failed.
-    pub fn failed(&self) -> usize
-        ensures { result ≡ length self.now.failed }
+    /// The calls that failed, in their order.
+    pub fn failed(&self) -> &[FailedCall]
+        ensures { calls_of result.now ≡ self.now.failed }
     {
-        self.failed.len()
+        &self.failed
     }
 }
 
 impl Shelf for MemoryShelf {
-    ghost told = { λ s. true };
-
-    ghost file = { λ s name. file_in s.files name };
-
-    ghost failed = { λ s. s.failed };
+    ghost seen = { λ s. record { told = true; file = file_in s.files; failed = s.failed } };
 
     fn fetch(&mut self, name: &str, limit: u64) -> Result<Vec<u8>, FetchRefused>
         ensures files { (other : List ℕ) → file_in self.new.files other ≡ file_in self.old.files other }
@@ -159,21 +151,6 @@ fn is_to_fail(failing: &[u64], call: u64) -> bool
     ensures { result ≡ is_to_fail failing.now call }
 {
     failing.contains(&call)
-}
-
-// A call as it is noted if it fails. There is room for it in the list.
-fn room_to_note(
-    failed: &mut Vec<FailedCall>,
-    kind: CallKind,
-    name: &str,
-) -> Result<FailedCall, NoMemory>
-    ensures call { IfOk result (λ call. call_of call ≡ (kind, name.now)) }
-    ensures room { OnOk result (vec_len failed.new < vec_capacity failed.new) }
-    ensures list { failed.new.items ≡ failed.old.items }
-{
-    failed.reserve(1)?;
-    let name = String::from_str(*failed.allocator(), name)?;
-    Ok(FailedCall { kind, name })
 }
 
 // The place of the file of that name.

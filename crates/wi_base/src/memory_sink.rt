@@ -88,11 +88,7 @@ fn append(bytes: &mut Vec<u8>, piece: &[u8]) -> Result<(), PutRefused>
 }
 
 impl Sink for MemorySink {
-    ghost told = { λ s. true };
-
-    ghost written = { λ s. s.bytes };
-
-    ghost faults = { λ s. s.faults };
+    ghost seen = { λ s. record { told = true; written = s.bytes; faults = s.faults } };
 
     fn put(&mut self, piece: &[u8]) -> Result<(), PutRefused>
         ensures ok { OnOk result (self.new.bytes ≡ self.old.bytes ++ piece.now) }

@@ -1,7 +1,6 @@
 //! A shelf: files by name, fetched and stored whole.
-ghost use Rattle.std.specs.Prelude.{◌≡◌, ◌≢◌, ◌≤◌, ℕ, Bool, true, List, Option, Some, IfOk, OnOk, IsErrOf, vec_len};
-ghost use Rattle.wi_base.specs.declared.shelf.CallKind.{CallKind};
-ghost use Rattle.wi_base.specs.Shelf.{after_fetch, after_store, IsLonger};
+ghost use Rattle.std.specs.Prelude.{◌≡◌, ◌≢◌, ◌≤◌, ℕ, true, List, Some, IfOk, OnOk, IsErrOf, vec_len};
+ghost use Rattle.wi_base.specs.Shelf.{ShelfSeen, after_fetch, after_store, IsLonger};
 
 /// What a call on a shelf was to do.
 #[derive(Clone, Copy, PartialEq, Eq, Debug)]
@@ -32,29 +31,23 @@ pub enum StoreRefused {
 
 /// Files by name. A shelf may tell what it holds; one on a disk doesn't. Each notes its failed calls.
 pub trait Shelf {
-    /// Whether the shelf tells what it holds.
-    ghost told: { Self → Bool };
-
-    /// The bytes under a name, if there are any: where the shelf tells them.
-    ghost file: { Self → List ℕ → Option (List ℕ) };
-
-    /// The failed calls in their order, each by its kind and its name.
-    ghost failed: { Self → List (CallKind × List ℕ) };
+    /// What is seen of the shelf.
+    ghost seen: { Self → ShelfSeen };
 
     /// The bytes of a file, `limit` bytes at most. No file changes.
     fn fetch(&mut self, name: &str, limit: u64) -> Result<Vec<u8>, FetchRefused>
-        ensures told { told self.new ≡ told self.old }
-        ensures files { (other : List ℕ) → file self.new other ≡ file self.old other }
+        ensures told { (seen self.new).told ≡ (seen self.old).told }
+        ensures files { (other : List ℕ) → (seen self.new).file other ≡ (seen self.old).file other }
         ensures short { IfOk result (λ bytes. vec_len bytes ≤ limit) }
-        ensures found { told self.old ≡ true → IfOk result (λ bytes. file self.old name.now ≡ Some bytes.items) }
-        ensures too_big { told self.old ≡ true → IsErrOf result FetchRefused.TooBig → IsLonger (file self.old name.now) limit }
-        ensures failed { failed self.new ≡ after_fetch result name.now (failed self.old) };
+        ensures found { (seen self.old).told ≡ true → IfOk result (λ bytes. (seen self.old).file name.now ≡ Some bytes.items) }
+        ensures too_big { (seen self.old).told ≡ true → IsErrOf result FetchRefused.TooBig → IsLonger ((seen self.old).file name.now) limit }
+        ensures failed { (seen self.new).failed ≡ after_fetch result name.now (seen self.old).failed };
 
     /// Puts bytes under a name, in the place of those that are there. Files of other names stand.
     fn store(&mut self, name: &str, bytes: &[u8]) -> Result<(), StoreRefused>
-        ensures told { told self.new ≡ told self.old }
-        ensures others { (other : List ℕ) → other ≢ name.now → file self.new other ≡ file self.old other }
-        ensures stored { told self.old ≡ true → OnOk result (file self.new name.now ≡ Some bytes.now) }
-        ensures memory { IsErrOf result StoreRefused.Memory → file self.new name.now ≡ file self.old name.now }
-        ensures failed { failed self.new ≡ after_store result name.now (failed self.old) };
+        ensures told { (seen self.new).told ≡ (seen self.old).told }
+        ensures others { (other : List ℕ) → other ≢ name.now → (seen self.new).file other ≡ (seen self.old).file other }
+        ensures stored { (seen self.old).told ≡ true → OnOk result ((seen self.new).file name.now ≡ Some bytes.now) }
+        ensures memory { IsErrOf result StoreRefused.Memory → (seen self.new).file name.now ≡ (seen self.old).file name.now }
+        ensures failed { (seen self.new).failed ≡ after_store result name.now (seen self.old).failed };
 }

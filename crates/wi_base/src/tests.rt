@@ -1,6 +1,6 @@
 //! Each public function where memory is ample, against values written by hand.
 use crate::{
-    FailingPut, FetchRefused, Listed, MemoryShelf, MemorySink, PutRefused, Shelf, Sink,
+    CallKind, FailingPut, FetchRefused, Listed, MemoryShelf, MemorySink, PutRefused, Shelf, Sink,
     StoreRefused, read_decimal, write_decimal,
 };
 use std::test::Fail;
@@ -49,9 +49,12 @@ fn a_shelf_gives_what_was_put_there(rt: HostRuntime) -> Result<(), Fail> {
     assert_eq!(rt; shelf.get("other"), None);
     assert_eq!(rt; shelf.fetch("network", 3), Err(FetchRefused::TooBig));
     assert_eq!(rt; shelf.fetch("network", 4)?.as_slice(), b"abcd".as_slice());
-    assert_eq!(rt; shelf.failed(), 0);
+    assert_eq!(rt; shelf.failed().len(), 0);
     assert_eq!(rt; shelf.fetch("other", 4), Err(FetchRefused::Failed));
-    assert_eq!(rt; shelf.failed(), 1);
+    let failed = shelf.failed();
+    assert_eq!(rt; failed.len(), 1);
+    assert_eq!(rt; failed[0].kind, CallKind::Fetch);
+    assert_eq!(rt; failed[0].name.as_str(), "other");
     Ok(())
 }
 
@@ -64,7 +67,10 @@ fn a_call_that_is_to_fail_fails(rt: HostRuntime) -> Result<(), Fail> {
     shelf.store("answer", b"no")?;
     assert_eq!(rt; shelf.fetch("answer", 9), Err(FetchRefused::Failed));
     assert_eq!(rt; shelf.fetch("answer", 9)?.as_slice(), b"no".as_slice());
-    assert_eq!(rt; shelf.failed(), 2);
+    let failed = shelf.failed();
+    assert_eq!(rt; failed.len(), 2);
+    assert_eq!(rt; failed[0].kind, CallKind::Store);
+    assert_eq!(rt; failed[1].kind, CallKind::Fetch);
     Ok(())
 }
 

@@ -10,23 +10,25 @@ use Rattle.wi_quantity.specs.Vectors.{is_vector}
 use Rattle.wi_quantity.specs.Weighing.{components}
 use Rattle.wi_rules.specs.Numbers.{NumberedRule, seen}
 use Rattle.wi_rules.proofs.Lists.{contains_in, in_contains, in_map}
-use Rattle.wi_setup.proofs.Few as setups
-use Rattle.wi_setup.proofs.Fit.{fits}
+use Rattle.wi_build.proofs.Few as encodings
+use Rattle.wi_build.proofs.Fit.{fits}
 use Rattle.wi_build.specs.Tags.{origin_of}
-use Rattle.wi_build.specs.Systems.{Given, IsGiven, rules_by, setup_given}
+use Rattle.wi_build.specs.Problems.{Problem, IsProblem}
+use Rattle.wi_build.specs.Encodings.{encoding_of}
+use Rattle.wi_build.specs.Systems.{rules_by}
 use Rattle.wi_build.proofs.LawLemmas.{systems}
 
 abbrev seen_of : Rule (Pair Terms Effort) → NumberedRule
 seen_of r = seen components (λ x. origin_of x.tag) r
 
-pub few : (given : Given) → IsGiven given → (n g : ℕ) → length (rules_by (setup_given given) n g) < 2 ^ 32
-few given k n g =
-    let numbered_few = setups.few given.net given.query given.vector given.bounds n g k in
-    omega (arith, length-map (rules_by (setup_given given) n g) seen_of, ap length ((systems given k).each n g), numbered_few)
+pub few : (problem : Problem) → IsProblem problem → (n g : ℕ) → length (rules_by (encoding_of problem) n g) < 2 ^ 32
+few problem k n g =
+    let numbered_few = encodings.few problem n g k in
+    omega (arith, length-map (rules_by (encoding_of problem) n g) seen_of, ap length ((systems problem k).each n g), numbered_few)
 
-pub fit : (given : Given) → IsGiven given → is_vector given.vector ≡ true → (n g : ℕ) (r : Rule (Pair Terms Effort)) → Contains (rules_by (setup_given given) n g) r → EachBelow (2 ^ 64) (components r.weight)
-fit given k is n g r h =
-    let rules = rules_by (setup_given given) n g in
+pub fit : (problem : Problem) → IsProblem problem → is_vector problem.vector ≡ true → (n g : ℕ) (r : Rule (Pair Terms Effort)) → Contains (rules_by (encoding_of problem) n g) r → EachBelow (2 ^ 64) (components r.weight)
+fit problem k is n g r h =
+    let rules = rules_by (encoding_of problem) n g in
     let there : Contains (map seen_of rules) (seen_of r) = in_contains (map seen_of rules) (seen_of r) (in_map seen_of rules r (contains_in rules r h)) in
-    fits given.net given.query given.vector given.bounds n g (seen_of r) k is
-    (subst (λ xs. Contains xs (seen_of r)) ((systems given k).each n g) there)
+    fits problem n g (seen_of r) k is
+    (subst (λ xs. Contains xs (seen_of r)) ((systems problem k).each n g) there)

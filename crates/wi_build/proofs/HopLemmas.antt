@@ -13,7 +13,7 @@ use Rattle.wi_net.specs.declared.parts.LinkId.{LinkId}
 use Rattle.wi_net.specs.declared.parts.Member.{Member}
 use Rattle.wi_net.specs.declared.bounds.Bounds.{Bounds}
 use Rattle.wi_net.specs.declared.parts.RouterId.{RouterId}
-use Rattle.wi_net.specs.declared.parts.Row.{Row}
+use Rattle.wi_net.specs.declared.parts.TableRow.{TableRow}
 use Rattle.wi_net.specs.Net.{Net, before, entry, is_link, risk_count}
 use Rattle.wi_net.specs.Network.{IsNetwork, is_group_at, is_member_at, is_row_of, op_known}
 use Rattle.wi_net.specs.Tables.{all_members, group_members, groups_in, is_row, members_before, row_members}
@@ -29,9 +29,11 @@ use Rattle.wi_rules.proofs.Lists.{all_in, drop_get, get_in, get_below}
 use Rattle.wi_rules.proofs.Members.{kept, member_numbered}
 use Rattle.wi_build.specs.declared.head.Head.{Head}
 use Rattle.wi_build.specs.declared.head.Way.{Way}
-use Rattle.wi_build.specs.declared.hops.Place.{Place}
+use Rattle.wi_build.specs.declared.head.Arrival.{Arrival}
 use Rattle.wi_build.specs.declared.needs.Needs.{Needs}
-use Rattle.wi_build.specs.Systems.{Given, IsGiven, setup_given, weight}
+use Rattle.wi_build.specs.Problems.{Problem, IsProblem}
+use Rattle.wi_build.specs.Encodings.{encoding_of}
+use Rattle.wi_build.specs.Systems.{weight}
 use Rattle.wi_build.specs.Needs.{may_be_down, may_be_up, no_needs, with_groups, with_members}
 use Rattle.wi_build.specs.Hops.{AreNeeds, IsGroup, IsMember}
 use Rattle.wi_build.specs.Rows.{group_rules, rule_made, rules_for, spot_on, way_through}
@@ -54,7 +56,7 @@ pub op_kept : (net : Net) (ops : List Op) (i : ℕ) (op : Op) → list_all (op_k
 op_kept net ops i op k e = all_in (op_known net) ops op k (get_in ops i op e)
 
 -- groups are not empty, so there are no more groups than members
-full_groups : (net : Net) (rows : List Row) (e : LinkId) (l : Label) → list_all (is_row_of net) rows ≡ true → list_all (λ (g : List Member). nat_lt 0 (length g)) (groups_in rows e l) ≡ true
+full_groups : (net : Net) (rows : List TableRow) (e : LinkId) (l : Label) → list_all (is_row_of net) rows ≡ true → list_all (λ (g : List Member). nat_lt 0 (length g)) (groups_in rows e l) ≡ true
 full_groups net [] e l k = refl
 full_groups net (row ∷ rows) e l k = go (is_row e l row) refl (full_groups net rows e l)
   where
@@ -84,7 +86,7 @@ no_more_groups (g ∷ gs) k =
     let rest = no_more_groups gs parts.1 in
     omega (arith, one, rest)
 
-pub members_within : (rows : List Row) (e : LinkId) (l : Label) → members_before rows e l + group_members (groups_in rows e l) ≤ row_members rows
+pub members_within : (rows : List TableRow) (e : LinkId) (l : Label) → members_before rows e l + group_members (groups_in rows e l) ≤ row_members rows
 members_within [] e l = omega arith
 members_within (row ∷ rows) e l = go (is_row e l row) refl (members_within rows e l)
   where
@@ -99,14 +101,14 @@ group_within (x ∷ gs) zero g e = let same : x ≡ g = cc in omega (arith, ap l
 group_within (x ∷ gs) (suc j) g e = omega (arith, group_within gs j g e)
 
 -- a group of an entry has room
-pub record HasRoom (given : Given) (at : Place) (j first : ℕ) (members : List Member) : Type 0 where
+pub record HasRoom (problem : Problem) (at : Arrival) (j first : ℕ) (members : List Member) : Type 0 where
   pub few_groups : j < 400000
   pub few_members : first + length members ≤ 400000
 
-pub group_room : (given : Given) (at : Place) (j first : ℕ) (members : List Member) → IsNetwork given.net → IsGroup given at j first members → HasRoom given at j first members
-group_room given at j first members k i = record {
-  few_groups = omega (arith, get_below (entry given.net at.link at.top) j members i.group, no_more_groups (entry given.net at.link at.top) (full_groups given.net given.net.rows at.link at.top k.rows), members_within given.net.rows at.link at.top, k.few_members);
-  few_members = omega (arith, i.first_is, group_within (entry given.net at.link at.top) j members i.group, members_within given.net.rows at.link at.top, k.few_members);
+pub group_room : (problem : Problem) (at : Arrival) (j first : ℕ) (members : List Member) → IsNetwork problem.net → IsGroup problem at j first members → HasRoom problem at j first members
+group_room problem at j first members k i = record {
+  few_groups = omega (arith, get_below (entry problem.net at.link at.top) j members i.group, no_more_groups (entry problem.net at.link at.top) (full_groups problem.net problem.net.rows at.link at.top k.rows), members_within problem.net.rows at.link at.top, k.few_members);
+  few_members = omega (arith, i.first_is, group_within (entry problem.net at.link at.top) j members i.group, members_within problem.net.rows at.link at.top, k.few_members);
 }
 
 -- a member of an entry stands in one of its groups
@@ -118,25 +120,25 @@ member_there gs j i member e = go (slice_get gs j) refl
     go (Some g) s = (g, s, rw s at e)
 
 -- what is known of it
-pub record IsKnown (given : Given) (step : Step) (member : Member) : Type 0 where
+pub record IsKnown (problem : Problem) (step : Step) (member : Member) : Type 0 where
   pub group : step.group < 1073741824
   pub place : step.member < 1073741824
-  pub link : is_link given.net member.link ≡ true
-  pub way : is_way_out given.net member ≡ true
-  pub ops : list_all (op_known given.net) member.ops ≡ true
+  pub link : is_link problem.net member.link ≡ true
+  pub way : is_way_out problem.net member ≡ true
+  pub ops : list_all (op_known problem.net) member.ops ≡ true
 
-pub member_known : (given : Given) (at : Place) (step : Step) (number : ℕ) (member : Member) → IsNetwork given.net → IsMember given at step number member → IsKnown given step member
-member_known given at step number member k i =
-    let found = member_there (entry given.net at.link at.top) step.group step.member member i.there in
-    let room : HasRoom given at step.group (members_before given.net.rows at.link at.top + group_members (take step.group (entry given.net at.link at.top))) found.0 =
-    group_room given at step.group (members_before given.net.rows at.link at.top + group_members (take step.group (entry given.net at.link at.top))) found.0 k (record { group = found.1; first_is = refl }) in
-    let keeps = kept given.net k (members_before given.net.rows at.link at.top + (group_members (take step.group (entry given.net at.link at.top)) + step.member)) member (member_numbered given.net.rows at.link at.top step.group step.member found.0 member found.1 found.2) in
+pub member_known : (problem : Problem) (at : Arrival) (step : Step) (number : ℕ) (member : Member) → IsNetwork problem.net → IsMember problem at step number member → IsKnown problem step member
+member_known problem at step number member k i =
+    let found = member_there (entry problem.net at.link at.top) step.group step.member member i.there in
+    let room : HasRoom problem at step.group (members_before problem.net.rows at.link at.top + group_members (take step.group (entry problem.net at.link at.top))) found.0 =
+    group_room problem at step.group (members_before problem.net.rows at.link at.top + group_members (take step.group (entry problem.net at.link at.top))) found.0 k (record { group = found.1; first_is = refl }) in
+    let keeps = kept problem.net k (members_before problem.net.rows at.link at.top + (group_members (take step.group (entry problem.net at.link at.top)) + step.member)) member (member_numbered problem.net.rows at.link at.top step.group step.member found.0 member found.1 found.2) in
     let below = get_below found.0 step.member member found.2 in
     record {
       group = omega (arith, room.few_groups);
       place = omega (arith, room.few_members, below);
       link = keeps.link;
-      way = and_from (is_link given.net member.link) (nat_le (length member.ops) 8) keeps.link (le-leb (length member.ops) 8 keeps.few);
+      way = and_from (is_link problem.net member.link) (nat_le (length member.ops) 8) keeps.link (le-leb (length member.ops) 8 keeps.few);
       ops = keeps.ops;
     }
 
@@ -144,73 +146,73 @@ pub cons_same : {X : Type 0} {x y : X} {xs ys : List X} → x ≡ y → xs ≡ y
 cons_same first rest = cc
 
 -- the rule of a member of an entry for a state
-abbrev pub hop_rule : Given → Place → Step → Member → Word2 → ℕ → SpotRule
-hop_rule given at step member word r = record {
-  to = on_way member (member_number given.net at.link at.top step) 1 r;
+abbrev pub hop_rule : Problem → Arrival → Step → Member → Word2 → ℕ → SpotRule
+hop_rule problem at step member word r = record {
+  to = on_way member (member_number problem.net at.link at.top step) 1 r;
   word = word;
-  share = (setup_given given).step_share at.link at.top step;
+  share = (encoding_of problem).step_share at.link at.top step;
   origin = Hop step;
 }
 
 -- the rules of the groups of an entry from one on
-abbrev pub later_rules : Given → Place → ℕ → List SpotRule
-later_rules given at j = each_at (group_rules (setup_given given) at.link at.state at.top) j (drop j (entry given.net at.link at.top))
+abbrev pub later_rules : Problem → Arrival → ℕ → List SpotRule
+later_rules problem at j = each_at (group_rules (encoding_of problem) at.link at.state at.top) j (drop j (entry problem.net at.link at.top))
 
-module _ (given : Given) (at : Place) (needs : Needs) (step : Step) (number : ℕ) (member : Member) (k : IsGiven given) (n : AreNeeds given at needs step.group) (i : IsMember given at step number member) where
-  known : IsKnown given step member
-  known = member_known given at step number member k.network i
+module _ (problem : Problem) (at : Arrival) (needs : Needs) (step : Step) (number : ℕ) (member : Member) (k : IsProblem problem) (n : AreNeeds problem at needs step.group) (i : IsMember problem at step number member) where
+  known : IsKnown problem step member
+  known = member_known problem at step number member k.network i
 
-  may_use_is : may_use given.net given.bounds (entry given.net at.link at.top) step.group member.link ≡ may_be_up given.net given.bounds needs member.link
+  may_use_is : may_use problem.net problem.bounds (entry problem.net at.link at.top) step.group member.link ≡ may_be_up problem.net problem.bounds needs member.link
   may_use_is =
-      needs_mean given.net given.bounds (entry given.net at.link at.top) step.group member.link k.network k.bounds_of (entry_known given.net at.link at.top k.network) known.link
-      ∙ ap (λ (x : Needs). may_be_down given.bounds x && may_be_up given.net given.bounds x member.link) (sym n.are)
-      ∙ ap (λ b. b && may_be_up given.net given.bounds needs member.link) n.down
+      needs_mean problem.net problem.bounds (entry problem.net at.link at.top) step.group member.link k.network k.bounds_of (entry_known problem.net at.link at.top k.network) known.link
+      ∙ ap (λ (x : Needs). may_be_down problem.bounds x && may_be_up problem.net problem.bounds x member.link) (sym n.are)
+      ∙ ap (λ b. b && may_be_up problem.net problem.bounds needs member.link) n.down
 
   -- no rule, where the member's link may not be up
-  pub no_hop : (b : Bool) → b ≡ may_be_up given.net given.bounds needs member.link → b ≡ false → hop_rules (setup_given given) at.link at.state at.top step member ≡ []
+  pub no_hop : (b : Bool) → b ≡ may_be_up problem.net problem.bounds needs member.link → b ≡ false → hop_rules (encoding_of problem) at.link at.state at.top step member ≡ []
   no_hop b same no_way = rw (may_use_is ∙ sym same ∙ no_way) refl
 
-  count_is : risk_count given.net (before given.net (entry given.net at.link at.top) step.group) ≡ length needs.risks
-  count_is = needs_count given.net given.bounds (entry given.net at.link at.top) step.group k.network k.bounds_of (entry_known given.net at.link at.top k.network) ∙ ap (λ (x : Needs). length x.risks) (sym n.are)
+  count_is : risk_count problem.net (before problem.net (entry problem.net at.link at.top) step.group) ≡ length needs.risks
+  count_is = needs_count problem.net problem.bounds (entry problem.net at.link at.top) step.group k.network k.bounds_of (entry_known problem.net at.link at.top k.network) ∙ ap (λ (x : Needs). length x.risks) (sym n.are)
 
   pub needs_few : length needs.risks < 2 ^ 32
-  needs_few = omega (arith, count_is, before_few given.net (entry given.net at.link at.top) step.group k.network)
+  needs_few = omega (arith, count_is, before_few problem.net (entry problem.net at.link at.top) step.group k.network)
 
   -- or else one for each state that comes after by the member's link
-  pub hop_row : (head : Head) (word : Word2) (w : Pair Terms Effort) (failures : ℕ) (through : Way) (qs : List ℕ) (old new : Listing) → may_be_up given.net given.bounds needs member.link ≡ true → first_written given.net member.ops at.top.0 ≡ Some word
-      → failures ≡ length needs.risks → w ≡ weight (take 5 (hop_weight given.net given.vector member failures) ++ 1 ∷ []) → qs ≡ (setup_given given).path.next at.state member.link.0
-      → through ≡ way_through member number 1 → new ≡ old ++ map (λ r. rule_made (setup_given given) head (spot_on through r) (record { word = word; weight = w; origin = Hop step })) qs
-      → new ≡ old ++ rules_for (setup_given given) head (hop_rules (setup_given given) at.link at.state at.top step member)
+  pub hop_row : (head : Head) (word : Word2) (w : Pair Terms Effort) (failures : ℕ) (through : Way) (qs : List ℕ) (old new : Listing) → may_be_up problem.net problem.bounds needs member.link ≡ true → first_written problem.net member.ops at.top.0 ≡ Some word
+      → failures ≡ length needs.risks → w ≡ weight (take 5 (hop_weight problem.net problem.vector member failures) ++ 1 ∷ []) → qs ≡ (encoding_of problem).path.next at.state member.link.0
+      → through ≡ way_through member number 1 → new ≡ old ++ map (λ r. rule_made (encoding_of problem) head (spot_on through r) (record { word = word; weight = w; origin = Hop step })) qs
+      → new ≡ old ++ rules_for (encoding_of problem) head (hop_rules (encoding_of problem) at.link at.state at.top step member)
   hop_row head word w failures through qs old new up fw fails we states way put =
-      each_row (setup_given given) head (way_through member number 1) (record { word = word; weight = w; origin = Hop step }) (take 5 (hop_weight given.net given.vector member failures)) qs ((setup_given given).path.next at.state member.link.0) old new
-      (hop_rules (setup_given given) at.link at.state at.top step member) we states put' rules_are
+      each_row (encoding_of problem) head (way_through member number 1) (record { word = word; weight = w; origin = Hop step }) (take 5 (hop_weight problem.net problem.vector member failures)) qs ((encoding_of problem).path.next at.state member.link.0) old new
+      (hop_rules (encoding_of problem) at.link at.state at.top step member) we states put' rules_are
     where
-      put' : new ≡ old ++ map (λ r. rule_made (setup_given given) head (spot_on (way_through member number 1) r) (record { word = word; weight = w; origin = Hop step })) qs
-      put' = put ∙ ap (λ x. old ++ map (λ r. rule_made (setup_given given) head (spot_on x r) (record { word = word; weight = w; origin = Hop step })) qs) way
+      put' : new ≡ old ++ map (λ r. rule_made (encoding_of problem) head (spot_on (way_through member number 1) r) (record { word = word; weight = w; origin = Hop step })) qs
+      put' = put ∙ ap (λ x. old ++ map (λ r. rule_made (encoding_of problem) head (spot_on x r) (record { word = word; weight = w; origin = Hop step })) qs) way
 
-      share : (setup_given given).step_share at.link at.top step ≡ take 5 (hop_weight given.net given.vector member failures)
-      share = rw i.there (ap (λ m. take 5 (hop_weight given.net given.vector member m)) (count_is ∙ sym fails))
+      share : (encoding_of problem).step_share at.link at.top step ≡ take 5 (hop_weight problem.net problem.vector member failures)
+      share = rw i.there (ap (λ m. take 5 (hop_weight problem.net problem.vector member m)) (count_is ∙ sym fails))
 
-      each : (rs : List ℕ) → map (λ r. hop_rule given at step member word r) rs ≡ map (λ r. record { to = spot_on (way_through member number 1) r; word = word; share = take 5 (hop_weight given.net given.vector member failures); origin = Hop step }) rs
+      each : (rs : List ℕ) → map (λ r. hop_rule problem at step member word r) rs ≡ map (λ r. record { to = spot_on (way_through member number 1) r; word = word; share = take 5 (hop_weight problem.net problem.vector member failures); origin = Hop step }) rs
       each [] = refl
       each (r ∷ rs) = cons_same one (each rs)
         where
-          to_is : on_way member (member_number given.net at.link at.top step) 1 r ≡ spot_on (way_through member number 1) r
+          to_is : on_way member (member_number problem.net at.link at.top step) 1 r ≡ spot_on (way_through member number 1) r
           to_is = ap (λ m. on_way member m 1 r) (sym i.number_is) ∙ sym (way_is member number 1 r)
 
-          one : hop_rule given at step member word r ≡ record { to = spot_on (way_through member number 1) r; word = word; share = take 5 (hop_weight given.net given.vector member failures); origin = Hop step }
+          one : hop_rule problem at step member word r ≡ record { to = spot_on (way_through member number 1) r; word = word; share = take 5 (hop_weight problem.net problem.vector member failures); origin = Hop step }
           one = cc (to_is, share)
 
-      rules_are : hop_rules (setup_given given) at.link at.state at.top step member ≡ map (λ r. record { to = spot_on (way_through member number 1) r; word = word; share = take 5 (hop_weight given.net given.vector member failures); origin = Hop step }) ((setup_given given).path.next at.state member.link.0)
-      rules_are = rw (may_use_is ∙ up, fw) (each ((setup_given given).path.next at.state member.link.0))
+      rules_are : hop_rules (encoding_of problem) at.link at.state at.top step member ≡ map (λ r. record { to = spot_on (way_through member number 1) r; word = word; share = take 5 (hop_weight problem.net problem.vector member failures); origin = Hop step }) ((encoding_of problem).path.next at.state member.link.0)
+      rules_are = rw (may_use_is ∙ up, fw) (each ((encoding_of problem).path.next at.state member.link.0))
 
 -- what code reads at a place of a list
 read_there : {X : Type 0} (xs ys : List X) (j : ℕ) (x y : X) → xs ≡ ys → j < length xs → x ≡ get_or xs j x → y ≡ x → slice_get ys j ≡ Some y
 read_there xs ys j x y same lt is eq = ap (λ z. slice_get z j) (sym same) ∙ get_read xs j x lt is ∙ ap Some (sym eq)
 
-pub entry_read : (given : Given) (at : Place) (net : Net) (items : List (List Member)) (j : ℕ) (g members : List Member) → items ≡ entry net at.link at.top → net ≡ given.net → j < length items → g ≡ get_or items j g → members ≡ g
-    → slice_get (entry given.net at.link at.top) j ≡ Some members
-entry_read given at net items j g members are same lt is eq = read_there items (entry given.net at.link at.top) j g members (are ∙ ap (λ (n : Net). entry n at.link at.top) same) lt is eq
+pub entry_read : (problem : Problem) (at : Arrival) (net : Net) (items : List (List Member)) (j : ℕ) (g members : List Member) → items ≡ entry net at.link at.top → net ≡ problem.net → j < length items → g ≡ get_or items j g → members ≡ g
+    → slice_get (entry problem.net at.link at.top) j ≡ Some members
+entry_read problem at net items j g members are same lt is eq = read_there items (entry problem.net at.link at.top) j g members (are ∙ ap (λ (n : Net). entry n at.link at.top) same) lt is eq
 
 drop_there : {X : Type 0} (xs : List X) (j : ℕ) (x : X) → slice_get xs j ≡ Some x → drop j xs ≡ x ∷ drop (suc j) xs
 drop_there [] j x e = cc
@@ -218,61 +220,61 @@ drop_there (y ∷ xs) zero x e = let same : y ≡ x = cc in ap (λ z. z ∷ xs) 
 drop_there (y ∷ xs) (suc j) x e = drop_there xs j x e
 
 -- a member of a group, by its number
-pub member_of_group : (given : Given) (at : Place) (j first i : ℕ) (members : List Member) (member : Member) → IsGroup given at j first members → i < length members → member ≡ get_or members i member
-    → IsMember given at (record { group = j; member = i }) (first + i) member
-member_of_group given at j first i members member k lt is = record {
+pub member_of_group : (problem : Problem) (at : Arrival) (j first i : ℕ) (members : List Member) (member : Member) → IsGroup problem at j first members → i < length members → member ≡ get_or members i member
+    → IsMember problem at (record { group = j; member = i }) (first + i) member
+member_of_group problem at j first i members member k lt is = record {
   there = rw k.group (get_read members i member lt is);
   number_is = ap (λ n. n + i) k.first_is ∙ omega arith;
 }
 
 -- one group more
-module _ (given : Given) (at : Place) (j : ℕ) (members : List Member) (there : slice_get (entry given.net at.link at.top) j ≡ Some members) where
+module _ (problem : Problem) (at : Arrival) (j : ℕ) (members : List Member) (there : slice_get (entry problem.net at.link at.top) j ≡ Some members) where
   more_members : (gs : List (List Member)) (i : ℕ) → slice_get gs i ≡ Some members → group_members (take (suc i) gs) ≡ group_members (take i gs) + length members
   more_members [] i e = cc
   more_members (g ∷ gs) zero e = let same : g ≡ members = cc in omega (arith, ap length same)
   more_members (g ∷ gs) (suc i) e = omega (arith, more_members gs i e)
 
-  pub next_first : (first : ℕ) → first ≡ members_before given.net.rows at.link at.top + group_members (take j (entry given.net at.link at.top))
-      → first + length members ≡ members_before given.net.rows at.link at.top + group_members (take (j + 1) (entry given.net at.link at.top))
-  next_first first e = rw add-one (omega (arith, e, more_members (entry given.net at.link at.top) j there))
+  pub next_first : (first : ℕ) → first ≡ members_before problem.net.rows at.link at.top + group_members (take j (entry problem.net at.link at.top))
+      → first + length members ≡ members_before problem.net.rows at.link at.top + group_members (take (j + 1) (entry problem.net at.link at.top))
+  next_first first e = rw add-one (omega (arith, e, more_members (entry problem.net at.link at.top) j there))
 
-  pub next_needs : (net : Net) (bounds : Bounds) (needs new : Needs) → net ≡ given.net → bounds ≡ given.bounds → needs ≡ with_groups given.net given.bounds no_needs (take j (entry given.net at.link at.top)) → new ≡ with_members net bounds needs members
-      → new ≡ with_groups given.net given.bounds no_needs (take (j + 1) (entry given.net at.link at.top))
+  pub next_needs : (net : Net) (bounds : Bounds) (needs new : Needs) → net ≡ problem.net → bounds ≡ problem.bounds → needs ≡ with_groups problem.net problem.bounds no_needs (take j (entry problem.net at.link at.top)) → new ≡ with_members net bounds needs members
+      → new ≡ with_groups problem.net problem.bounds no_needs (take (j + 1) (entry problem.net at.link at.top))
   next_needs net bounds needs new same limits are put =
       rw add-one (put
       ∙ ap (λ (n : Net). with_members n bounds needs members) same
-      ∙ ap (λ (b : Bounds). with_members given.net b needs members) limits
-      ∙ ap (λ (n : Needs). with_members given.net given.bounds n members) are
-      ∙ sym (groups_more given.net given.bounds (entry given.net at.link at.top) j members (drop (suc j) (entry given.net at.link at.top)) (drop_there (entry given.net at.link at.top) j members there)))
+      ∙ ap (λ (b : Bounds). with_members problem.net b needs members) limits
+      ∙ ap (λ (n : Needs). with_members problem.net problem.bounds n members) are
+      ∙ sym (groups_more problem.net problem.bounds (entry problem.net at.link at.top) j members (drop (suc j) (entry problem.net at.link at.top)) (drop_there (entry problem.net at.link at.top) j members there)))
 
-  pub next_rules : (head : Head) (now new whole : Listing) → now ++ rules_for (setup_given given) head (later_rules given at j) ≡ whole → new ≡ now ++ rules_for (setup_given given) head (group_rules (setup_given given) at.link at.state at.top j members)
-      → new ++ rules_for (setup_given given) head (later_rules given at (j + 1)) ≡ whole
+  pub next_rules : (head : Head) (now new whole : Listing) → now ++ rules_for (encoding_of problem) head (later_rules problem at j) ≡ whole → new ≡ now ++ rules_for (encoding_of problem) head (group_rules (encoding_of problem) at.link at.state at.top j members)
+      → new ++ rules_for (encoding_of problem) head (later_rules problem at (j + 1)) ≡ whole
   next_rules head now new whole before put =
-      ap (λ t. t ++ rules_for (setup_given given) head (later_rules given at (j + 1))) put
-      ∙ append_assoc now (rules_for (setup_given given) head (group_rules (setup_given given) at.link at.state at.top j members)) (rules_for (setup_given given) head (later_rules given at (j + 1)))
-      ∙ ap (λ t. now ++ t) (sym (rules_append (setup_given given) head (group_rules (setup_given given) at.link at.state at.top j members) (later_rules given at (j + 1))) ∙ ap (rules_for (setup_given given) head) (sym here))
+      ap (λ t. t ++ rules_for (encoding_of problem) head (later_rules problem at (j + 1))) put
+      ∙ append_assoc now (rules_for (encoding_of problem) head (group_rules (encoding_of problem) at.link at.state at.top j members)) (rules_for (encoding_of problem) head (later_rules problem at (j + 1)))
+      ∙ ap (λ t. now ++ t) (sym (rules_append (encoding_of problem) head (group_rules (encoding_of problem) at.link at.state at.top j members) (later_rules problem at (j + 1))) ∙ ap (rules_for (encoding_of problem) head) (sym here))
       ∙ before
     where
-      here : later_rules given at j ≡ group_rules (setup_given given) at.link at.state at.top j members ++ later_rules given at (j + 1)
-      here = rw (drop_there (entry given.net at.link at.top) j members there, add-one) refl
+      here : later_rules problem at j ≡ group_rules (encoding_of problem) at.link at.state at.top j members ++ later_rules problem at (j + 1)
+      here = rw (drop_there (entry problem.net at.link at.top) j members there, add-one) refl
 
 -- no rule of later groups, where what they need may not be down at once
-stopped : (given : Given) (at : Place) (i : ℕ) (gs : List (List Member)) → IsGiven given → drop i (entry given.net at.link at.top) ≡ gs → may_be_down given.bounds (with_groups given.net given.bounds no_needs (take i (entry given.net at.link at.top))) ≡ false
-    → each_at (group_rules (setup_given given) at.link at.state at.top) i gs ≡ []
-stopped given at i [] k e h = refl
-stopped given at i (g ∷ gs) k e h =
-    rw (none g 0) (rw add-one (stopped given at (suc i) gs k (drop_get (entry given.net at.link at.top) i g gs e).1 (groups_stop given.net given.bounds (entry given.net at.link at.top) i g gs e h)))
+stopped : (problem : Problem) (at : Arrival) (i : ℕ) (gs : List (List Member)) → IsProblem problem → drop i (entry problem.net at.link at.top) ≡ gs → may_be_down problem.bounds (with_groups problem.net problem.bounds no_needs (take i (entry problem.net at.link at.top))) ≡ false
+    → each_at (group_rules (encoding_of problem) at.link at.state at.top) i gs ≡ []
+stopped problem at i [] k e h = refl
+stopped problem at i (g ∷ gs) k e h =
+    rw (none g 0) (rw add-one (stopped problem at (suc i) gs k (drop_get (entry problem.net at.link at.top) i g gs e).1 (groups_stop problem.net problem.bounds (entry problem.net at.link at.top) i g gs e h)))
   where
-    no_use : (link : LinkId) → may_use given.net given.bounds (entry given.net at.link at.top) i link ≡ false
-    no_use link = needs_stop given.net given.bounds (entry given.net at.link at.top) i link k.network k.bounds_of (entry_known given.net at.link at.top k.network) h
+    no_use : (link : LinkId) → may_use problem.net problem.bounds (entry problem.net at.link at.top) i link ≡ false
+    no_use link = needs_stop problem.net problem.bounds (entry problem.net at.link at.top) i link k.network k.bounds_of (entry_known problem.net at.link at.top k.network) h
 
-    none : (ms : List Member) (n : ℕ) → each_at (λ m member. hop_rules (setup_given given) at.link at.state at.top (record { group = i; member = m }) member) n ms ≡ []
+    none : (ms : List Member) (n : ℕ) → each_at (λ m member. hop_rules (encoding_of problem) at.link at.state at.top (record { group = i; member = m }) member) n ms ≡ []
     none [] n = refl
     none (m ∷ ms) n = rw (no_use m.link) (none ms (n + 1))
 
-pub stop_there : (given : Given) (at : Place) (j : ℕ) (needs : Needs) (b : Bool) (head : Head) (now whole : Listing) → IsGiven given → needs ≡ with_groups given.net given.bounds no_needs (take j (entry given.net at.link at.top)) → b ≡ may_be_down given.bounds needs → b ≡ false
-    → now ++ rules_for (setup_given given) head (later_rules given at j) ≡ whole → now ≡ whole
-stop_there given at j needs b head now whole k are same no_more left =
+pub stop_there : (problem : Problem) (at : Arrival) (j : ℕ) (needs : Needs) (b : Bool) (head : Head) (now whole : Listing) → IsProblem problem → needs ≡ with_groups problem.net problem.bounds no_needs (take j (entry problem.net at.link at.top)) → b ≡ may_be_down problem.bounds needs → b ≡ false
+    → now ++ rules_for (encoding_of problem) head (later_rules problem at j) ≡ whole → now ≡ whole
+stop_there problem at j needs b head now whole k are same no_more left =
     sym (append-nil now)
-    ∙ ap (λ rs. now ++ rules_for (setup_given given) head rs) (sym (stopped given at j (drop j (entry given.net at.link at.top)) k refl (ap (may_be_down given.bounds) (sym are) ∙ sym same ∙ no_more)))
+    ∙ ap (λ rs. now ++ rules_for (encoding_of problem) head rs) (sym (stopped problem at j (drop j (entry problem.net at.link at.top)) k refl (ap (may_be_down problem.bounds) (sym are) ∙ sym same ∙ no_more)))
     ∙ left

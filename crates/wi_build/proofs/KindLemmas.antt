@@ -15,88 +15,89 @@ use Rattle.wi_rules.specs.declared.spot.Spot.TheVariants.{Start, Done, Build, Cl
 use Rattle.wi_rules.specs.Rules.{SpotRule, build_rules, entry_rules, first_written, hop_rules, may_build, may_use, next_op_rules, on_link_rules, on_way, plain, pushing, rules_of, set_out_rules, working, written}
 use Rattle.wi_rules.specs.Numbers.{Fits, layout_of}
 use Rattle.wi_rules.proofs.Lists.{In, each0_in, filter_in, flat_in, get_below, if_in, in_either, map_in, one_in, option_in, range_in}
-use Rattle.wi_build.specs.declared.hops.Place.{Place}
-use Rattle.wi_build.specs.Systems.{Given, setup_given}
+use Rattle.wi_build.specs.declared.head.Arrival.{Arrival}
+use Rattle.wi_build.specs.Problems.{Problem}
+use Rattle.wi_build.specs.Encodings.{encoding_of}
 use Rattle.wi_build.specs.Rows.{group_rules}
 use Rattle.wi_build.proofs.HopLemmas.{hop_rule}
 
 -- a rule that sets out on a link
-abbrev pub first_rule : Given → LinkId → ℕ → ℕ → SpotRule
-first_rule given e n q = record { to = OnLink e q; word = One (suc n); share = (setup_given given).first_share e; origin = SetOut e }
+abbrev pub first_rule : Problem → LinkId → ℕ → ℕ → SpotRule
+first_rule problem e n q = record { to = OnLink e q; word = One (suc n); share = (encoding_of problem).first_share e; origin = SetOut e }
 
 -- something holds of each kind
-pub record OfKinds (given : Given) (P : SpotRule → Type 0) : Type 0 where
-  pub plains : (to : Spot) (word : Word2) → P (plain (setup_given given) to word)
-  pub pushes : (l g q : ℕ) → l < length given.net.classes → P (pushing (setup_given given) l g q)
-  pub firsts : (e : LinkId) (n q : ℕ) → e.0 < length given.net.links → P (first_rule given e n q)
-  pub hops : (at : Place) (j i q : ℕ) (group : List Member) (member : Member) (word : Word2) → slice_get (entry given.net at.link at.top) j ≡ Some group → slice_get group i ≡ Some member
-      → P (hop_rule given at (record { group = j; member = i }) member word q)
-  pub operations : (m i : ℕ) (to : Spot) (word : Word2) → m < length (all_members given.net.rows) → i < 8 → P (working (setup_given given) m i to word)
+pub record OfKinds (problem : Problem) (P : SpotRule → Type 0) : Type 0 where
+  pub plains : (to : Spot) (word : Word2) → P (plain (encoding_of problem) to word)
+  pub pushes : (l g q : ℕ) → l < length problem.net.classes → P (pushing (encoding_of problem) l g q)
+  pub firsts : (e : LinkId) (n q : ℕ) → e.0 < length problem.net.links → P (first_rule problem e n q)
+  pub hops : (at : Arrival) (j i q : ℕ) (group : List Member) (member : Member) (word : Word2) → slice_get (entry problem.net at.link at.top) j ≡ Some group → slice_get group i ≡ Some member
+      → P (hop_rule problem at (record { group = j; member = i }) member word q)
+  pub operations : (m i : ℕ) (to : Spot) (word : Word2) → m < length (all_members problem.net.rows) → i < 8 → P (working (encoding_of problem) m i to word)
 
-module _ (given : Given) (P : SpotRule → Type 0) (each : OfKinds given P) where
-  start_kind : (r : SpotRule) → In (rules_of (setup_given given) Start 0) r → P r
+module _ (problem : Problem) (P : SpotRule → Type 0) (each : OfKinds problem P) where
+  start_kind : (r : SpotRule) → In (rules_of (encoding_of problem) Start 0) r → P r
   start_kind r h =
-      let found = map_in (λ q. plain (setup_given given) (Build q) (One 0)) (filter (λ q. (setup_given given).first.accepts q) (range_with_len 0 (setup_given given).first.states)) r h in
+      let found = map_in (λ q. plain (encoding_of problem) (Build q) (One 0)) (filter (λ q. (encoding_of problem).first.accepts q) (range_with_len 0 (encoding_of problem).first.states)) r h in
       subst P found.2 (each.plains (Build found.0) (One 0))
 
-  build_kind : (q g : ℕ) (r : SpotRule) → In (flat_map (build_rules (setup_given given) q g) (range_with_len 0 (length given.net.classes))) r → P r
+  build_kind : (q g : ℕ) (r : SpotRule) → In (flat_map (build_rules (encoding_of problem) q g) (range_with_len 0 (length problem.net.classes))) r → P r
   build_kind q g r h =
-      let label = flat_in (build_rules (setup_given given) q g) (range_with_len 0 (length given.net.classes)) r h in
-      let below : label.0 < 0 + length given.net.classes = range_in 0 (length given.net.classes) label.0 label.1 in
-      let there = if_in (may_build given.net label.0 g) (map (λ p. pushing (setup_given given) label.0 g p) ((setup_given given).first_before q label.0)) r label.2 in
-      let found = map_in (λ p. pushing (setup_given given) label.0 g p) ((setup_given given).first_before q label.0) r there.1 in
+      let label = flat_in (build_rules (encoding_of problem) q g) (range_with_len 0 (length problem.net.classes)) r h in
+      let below : label.0 < 0 + length problem.net.classes = range_in 0 (length problem.net.classes) label.0 label.1 in
+      let there = if_in (may_build problem.net label.0 g) (map (λ p. pushing (encoding_of problem) label.0 g p) ((encoding_of problem).first_before q label.0)) r label.2 in
+      let found = map_in (λ p. pushing (encoding_of problem) label.0 g p) ((encoding_of problem).first_before q label.0) r there.1 in
       subst P found.2 (each.pushes label.0 g found.0 (omega (arith, below)))
 
-  set_out_kind : (n : ℕ) (r : SpotRule) → In (flat_map (set_out_rules (setup_given given) n) (links_where given.net (λ e. not (has given.bounds.down e)))) r → P r
+  set_out_kind : (n : ℕ) (r : SpotRule) → In (flat_map (set_out_rules (encoding_of problem) n) (links_where problem.net (λ e. not (has problem.bounds.down e)))) r → P r
   set_out_kind n r h =
-      let link = flat_in (set_out_rules (setup_given given) n) (links_where given.net (λ e. not (has given.bounds.down e))) r h in
-      let listed = filter_in (λ e. not (has given.bounds.down e)) (links_from 0 (length given.net.links)) link.0 link.1 in
-      let number = map_in (λ i. record { 0 = i }) (range_with_len 0 (length given.net.links)) link.0 listed.0 in
-      let below : number.0 < 0 + length given.net.links = range_in 0 (length given.net.links) number.0 number.1 in
+      let link = flat_in (set_out_rules (encoding_of problem) n) (links_where problem.net (λ e. not (has problem.bounds.down e))) r h in
+      let listed = filter_in (λ e. not (has problem.bounds.down e)) (links_from 0 (length problem.net.links)) link.0 link.1 in
+      let number = map_in (λ i. record { 0 = i }) (range_with_len 0 (length problem.net.links)) link.0 listed.0 in
+      let below : number.0 < 0 + length problem.net.links = range_in 0 (length problem.net.links) number.0 number.1 in
       let is : number.0 ≡ link.0.0 = ap (λ (e : LinkId). e.0) number.2 in
-      let found = map_in (λ q. first_rule given link.0 n q) ((setup_given given).path.next 0 link.0.0) r link.2 in
+      let found = map_in (λ q. first_rule problem link.0 n q) ((encoding_of problem).path.next 0 link.0.0) r link.2 in
       subst P found.2 (each.firsts link.0 n found.0 (omega (arith, below, is)))
 
-  hop_kind : (at : Place) (j i : ℕ) (group : List Member) (member : Member) (r : SpotRule) → slice_get (entry given.net at.link at.top) j ≡ Some group → slice_get group i ≡ Some member
-      → In (hop_rules (setup_given given) at.link at.state at.top (record { group = j; member = i }) member) r → P r
+  hop_kind : (at : Arrival) (j i : ℕ) (group : List Member) (member : Member) (r : SpotRule) → slice_get (entry problem.net at.link at.top) j ≡ Some group → slice_get group i ≡ Some member
+      → In (hop_rules (encoding_of problem) at.link at.state at.top (record { group = j; member = i }) member) r → P r
   hop_kind at j i group member r g m h =
-      let used = if_in (may_use given.net given.bounds (entry given.net at.link at.top) j member.link) (option_map_or (λ word. map (λ q. hop_rule given at (record { group = j; member = i }) member word q) ((setup_given given).path.next at.state member.link.0)) (first_written given.net member.ops at.top.0) []) r h in
-      let written = option_in (λ word. map (λ q. hop_rule given at (record { group = j; member = i }) member word q) ((setup_given given).path.next at.state member.link.0)) (first_written given.net member.ops at.top.0) r used.1 in
-      let found = map_in (λ q. hop_rule given at (record { group = j; member = i }) member written.0 q) ((setup_given given).path.next at.state member.link.0) r written.2 in
+      let used = if_in (may_use problem.net problem.bounds (entry problem.net at.link at.top) j member.link) (option_map_or (λ word. map (λ q. hop_rule problem at (record { group = j; member = i }) member word q) ((encoding_of problem).path.next at.state member.link.0)) (first_written problem.net member.ops at.top.0) []) r h in
+      let written = option_in (λ word. map (λ q. hop_rule problem at (record { group = j; member = i }) member word q) ((encoding_of problem).path.next at.state member.link.0)) (first_written problem.net member.ops at.top.0) r used.1 in
+      let found = map_in (λ q. hop_rule problem at (record { group = j; member = i }) member written.0 q) ((encoding_of problem).path.next at.state member.link.0) r written.2 in
       subst P found.2 (each.hops at j i found.0 group member written.0 g m)
 
-  on_link_kind : (at : Place) (r : SpotRule) → In (on_link_rules (setup_given given) at.link at.state at.top.0) r → P r
+  on_link_kind : (at : Arrival) (r : SpotRule) → In (on_link_rules (encoding_of problem) at.link at.state at.top.0) r → P r
   on_link_kind at r h =
-      elim (in_either (entry_rules (setup_given given) at.link at.state at.top) _ r h) [
+      elim (in_either (entry_rules (encoding_of problem) at.link at.state at.top) _ r h) [
         | inl a ↦
-            (let group = each0_in (λ j g. group_rules (setup_given given) at.link at.state at.top j g) (entry given.net at.link at.top) r a in
-            let member = each0_in (λ i m. hop_rules (setup_given given) at.link at.state at.top (record { group = group.0; member = i }) m) group.1 r group.3 in
+            (let group = each0_in (λ j g. group_rules (encoding_of problem) at.link at.state at.top j g) (entry problem.net at.link at.top) r a in
+            let member = each0_in (λ i m. hop_rules (encoding_of problem) at.link at.state at.top (record { group = group.0; member = i }) m) group.1 r group.3 in
             hop_kind at group.0 member.0 group.1 member.1 r group.2 member.2 member.3)
         | inr b ↦
-            (let there = if_in ((setup_given given).path.accepts at.state) (plain (setup_given given) (Close 0) (One (suc at.top.0)) ∷ []) r b in
-            subst P (one_in (plain (setup_given given) (Close 0) (One (suc at.top.0))) r there.1) (each.plains (Close 0) (One (suc at.top.0))))
+            (let there = if_in ((encoding_of problem).path.accepts at.state) (plain (encoding_of problem) (Close 0) (One (suc at.top.0)) ∷ []) r b in
+            subst P (one_in (plain (encoding_of problem) (Close 0) (One (suc at.top.0))) r there.1) (each.plains (Close 0) (One (suc at.top.0))))
       ]
 
-  operation_kind : (m i q n : ℕ) (r : SpotRule) → i < 8 → In (option_map_or (next_op_rules (setup_given given) m i q n) (slice_get (all_members given.net.rows) m) []) r → P r
+  operation_kind : (m i q n : ℕ) (r : SpotRule) → i < 8 → In (option_map_or (next_op_rules (encoding_of problem) m i q n) (slice_get (all_members problem.net.rows) m) []) r → P r
   operation_kind m i q n r few h =
-      let member = option_in (next_op_rules (setup_given given) m i q n) (slice_get (all_members given.net.rows) m) r h in
-      let below = get_below (all_members given.net.rows) m member.0 member.1 in
-      let op = option_in (λ op. option_map_or (λ word. working (setup_given given) m i (on_way member.0 m (suc i) q) word ∷ []) (written given.net op n) []) (slice_get member.0.ops i) r member.2 in
-      let word = option_in (λ word. working (setup_given given) m i (on_way member.0 m (suc i) q) word ∷ []) (written given.net op.0 n) r op.2 in
-      subst P (one_in (working (setup_given given) m i (on_way member.0 m (suc i) q) word.0) r word.2) (each.operations m i (on_way member.0 m (suc i) q) word.0 below few)
+      let member = option_in (next_op_rules (encoding_of problem) m i q n) (slice_get (all_members problem.net.rows) m) r h in
+      let below = get_below (all_members problem.net.rows) m member.0 member.1 in
+      let op = option_in (λ op. option_map_or (λ word. working (encoding_of problem) m i (on_way member.0 m (suc i) q) word ∷ []) (written problem.net op n) []) (slice_get member.0.ops i) r member.2 in
+      let word = option_in (λ word. working (encoding_of problem) m i (on_way member.0 m (suc i) q) word ∷ []) (written problem.net op.0 n) r op.2 in
+      subst P (one_in (working (encoding_of problem) m i (on_way member.0 m (suc i) q) word.0) r word.2) (each.operations m i (on_way member.0 m (suc i) q) word.0 below few)
 
-  close_kind : (n q : ℕ) (r : SpotRule) → In (rules_of (setup_given given) (Close q) (suc n)) r → P r
+  close_kind : (n q : ℕ) (r : SpotRule) → In (rules_of (encoding_of problem) (Close q) (suc n)) r → P r
   close_kind n q r h =
-      let there = if_in _ (map (λ p. plain (setup_given given) (Close p) Empty) ((setup_given given).last.next q n)) r h in
-      let found = map_in (λ p. plain (setup_given given) (Close p) Empty) ((setup_given given).last.next q n) r there.1 in
+      let there = if_in _ (map (λ p. plain (encoding_of problem) (Close p) Empty) ((encoding_of problem).last.next q n)) r h in
+      let found = map_in (λ p. plain (encoding_of problem) (Close p) Empty) ((encoding_of problem).last.next q n) r there.1 in
       subst P found.2 (each.plains (Close found.0) Empty)
 
-  done_kind : (q : ℕ) (r : SpotRule) → In (rules_of (setup_given given) (Close q) 0) r → P r
+  done_kind : (q : ℕ) (r : SpotRule) → In (rules_of (encoding_of problem) (Close q) 0) r → P r
   done_kind q r h =
-      let there = if_in ((setup_given given).last.accepts q) (plain (setup_given given) Done Empty ∷ []) r h in
-      subst P (one_in (plain (setup_given given) Done Empty) r there.1) (each.plains Done Empty)
+      let there = if_in ((encoding_of problem).last.accepts q) (plain (encoding_of problem) Done Empty ∷ []) r h in
+      subst P (one_in (plain (encoding_of problem) Done Empty) r there.1) (each.plains Done Empty)
 
-  pub all_kind : (p : Spot) (g : ℕ) (r : SpotRule) → Fits (layout_of (setup_given given)) p → In (rules_of (setup_given given) p g) r → P r
+  pub all_kind : (p : Spot) (g : ℕ) (r : SpotRule) → Fits (layout_of (encoding_of problem)) p → In (rules_of (encoding_of problem) p g) r → P r
   all_kind Start zero r f h = start_kind r h
   all_kind (Build (suc q)) g r f h = build_kind (suc q) g r h
   all_kind (Build zero) (suc n) r f h = set_out_kind n r (if_in _ _ r h).1

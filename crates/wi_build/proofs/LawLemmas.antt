@@ -11,14 +11,16 @@ use Rattle.wi_quantity.specs.Weighing.{components}
 use Rattle.wi_rules.specs.declared.spot.Origin.{Origin}
 use Rattle.wi_rules.specs.declared.spot.Origin.TheVariants.{Pushed, SetOut, Hop, Operation, Nothing}
 use Rattle.wi_rules.specs.declared.spot.Spot.{Spot}
-use Rattle.wi_rules.specs.Rules.{IsSetup, SpotRule, rules_of}
+use Rattle.wi_rules.specs.Rules.{IsEncoding, SpotRule, rules_of}
 use Rattle.wi_rules.specs.Numbers.{AreRulesOf, layout_of, numbered, rules_at_number, seen, spot_of}
 use Rattle.wi_rules.proofs.Lists.{In, get_below}
 use Rattle.wi_rules.proofs.Members.{all_count}
-use Rattle.wi_setup.proofs.Sound.{sound}
-use Rattle.wi_build.specs.declared.hops.Place.{Place}
+use Rattle.wi_build.proofs.Sound.{sound}
+use Rattle.wi_build.specs.declared.head.Arrival.{Arrival}
 use Rattle.wi_build.specs.Tags.{IsWithin, origin_by, origin_of, tag_of, tagged}
-use Rattle.wi_build.specs.Systems.{Given, IsGiven, rule_at, rules_by, setup_given, weight}
+use Rattle.wi_build.specs.Problems.{Problem, IsProblem}
+use Rattle.wi_build.specs.Encodings.{encoding_of}
+use Rattle.wi_build.specs.Systems.{rule_at, rules_by, weight}
 use Rattle.wi_build.proofs.HeadLemmas.{spot_fits}
 use Rattle.wi_build.proofs.HopLemmas.{HasRoom, cons_same, group_room}
 use Rattle.wi_build.proofs.KindLemmas.{OfKinds, all_kind}
@@ -65,44 +67,44 @@ pub record IsSayable (r : SpotRule) : Type 0 where
   pub five : length r.share ≡ 5
   pub within : IsWithin r.origin
 
-module _ (given : Given) (k : IsGiven given) where
-  is_setup : IsSetup (setup_given given)
-  is_setup = sound given.net given.query given.vector given.bounds k
+module _ (problem : Problem) (k : IsProblem problem) where
+  is_encoding : IsEncoding (encoding_of problem)
+  is_encoding = sound problem k
 
-  hop_within : (at : Place) (j i : ℕ) (group : List Member) (member : Member) → slice_get (entry given.net at.link at.top) j ≡ Some group → slice_get group i ≡ Some member → (j < 1073741824) × (i < 1073741824)
+  hop_within : (at : Arrival) (j i : ℕ) (group : List Member) (member : Member) → slice_get (entry problem.net at.link at.top) j ≡ Some group → slice_get group i ≡ Some member → (j < 1073741824) × (i < 1073741824)
   hop_within at j i group member g m =
-      let first = members_before given.net.rows at.link at.top + group_members (take j (entry given.net at.link at.top)) in
-      let room : HasRoom given at j first group = group_room given at j first group k.network (record { group = g; first_is = refl }) in
+      let first = members_before problem.net.rows at.link at.top + group_members (take j (entry problem.net at.link at.top)) in
+      let room : HasRoom problem at j first group = group_room problem at j first group k.network (record { group = g; first_is = refl }) in
       let below = get_below group i member m in
       (omega (arith, room.few_groups), omega (arith, room.few_members, below))
 
-  pub sayable : OfKinds given IsSayable
+  pub sayable : OfKinds problem IsSayable
   sayable = record {
     plains = λ to word. record { five = refl; within = tt };
     pushes = λ l g q below. record { five = refl; within = omega (arith, below, k.network.classes, k.network.few_labels) };
-    firsts = λ e n q below. record { five = is_setup.first_length e; within = omega (arith, below, k.network.few_links) };
-    hops = λ at j i q group member word g m. record { five = is_setup.step_length at.link at.top (record { group = j; member = i }); within = hop_within at j i group member g m };
-    operations = λ m i to word below few. record { five = refl; within = (omega (arith, below, all_count given.net.rows, k.network.few_members), omega (arith, few)) };
+    firsts = λ e n q below. record { five = is_encoding.first_length e; within = omega (arith, below, k.network.few_links) };
+    hops = λ at j i q group member word g m. record { five = is_encoding.step_length at.link at.top (record { group = j; member = i }); within = hop_within at j i group member g m };
+    operations = λ m i to word below few. record { five = refl; within = (omega (arith, below, all_count problem.net.rows, k.network.few_members), omega (arith, few)) };
   }
 
   -- what is seen of rules that can be said is what they were made of
   said : (n g : ℕ) (rs : List SpotRule) → ((r : SpotRule) → In rs r → IsSayable r)
-      → map (λ (r : Rule (Pair Terms Effort)). seen components (λ x. origin_of x.tag) r) (map (λ r. rule_at n g r) (map (λ r. numbered (setup_given given) r) rs)) ≡ map (λ r. numbered (setup_given given) r) rs
+      → map (λ (r : Rule (Pair Terms Effort)). seen components (λ x. origin_of x.tag) r) (map (λ r. rule_at n g r) (map (λ r. numbered (encoding_of problem) r) rs)) ≡ map (λ r. numbered (encoding_of problem) r) rs
   said n g [] each = refl
   said n g (r ∷ rs) each = cons_same one (said n g rs (λ x i. each x (inr i)))
     where
       can : IsSayable r
       can = each r (inl refl)
 
-      one : seen components (λ x. origin_of x.tag) (rule_at n g (numbered (setup_given given) r)) ≡ numbered (setup_given given) r
+      one : seen components (λ x. origin_of x.tag) (rule_at n g (numbered (encoding_of problem) r)) ≡ numbered (encoding_of problem) r
       one = cc (weight_tells (r.share ++ 1 ∷ []) (length-append r.share (1 ∷ []) ∙ omega (arith, can.five)), tag_tells r.origin can.within)
 
-  rules_seen : (n g : ℕ) → map (λ (r : Rule (Pair Terms Effort)). seen components (λ x. origin_of x.tag) r) (rules_by (setup_given given) n g) ≡ rules_at_number (setup_given given) n g
-  rules_seen n g = go (spot_of (layout_of (setup_given given)) n) refl
+  rules_seen : (n g : ℕ) → map (λ (r : Rule (Pair Terms Effort)). seen components (λ x. origin_of x.tag) r) (rules_by (encoding_of problem) n g) ≡ rules_at_number (encoding_of problem) n g
+  rules_seen n g = go (spot_of (layout_of (encoding_of problem)) n) refl
     where
-      go : (o : Option Spot) → spot_of (layout_of (setup_given given)) n ≡ o → map (λ (r : Rule (Pair Terms Effort)). seen components (λ x. origin_of x.tag) r) (rules_by (setup_given given) n g) ≡ rules_at_number (setup_given given) n g
+      go : (o : Option Spot) → spot_of (layout_of (encoding_of problem)) n ≡ o → map (λ (r : Rule (Pair Terms Effort)). seen components (λ x. origin_of x.tag) r) (rules_by (encoding_of problem) n g) ≡ rules_at_number (encoding_of problem) n g
       go None e = rw e refl
-      go (Some p) e = rw e (said n g (rules_of (setup_given given) p g) (λ r i. all_kind given IsSayable sayable p g r (spot_fits (setup_given given) n p e) i))
+      go (Some p) e = rw e (said n g (rules_of (encoding_of problem) p g) (λ r i. all_kind problem IsSayable sayable p g r (spot_fits (encoding_of problem) n p e) i))
 
-  pub systems : AreRulesOf (setup_given given) components (λ rule. origin_of rule.tag) (rules_by (setup_given given))
+  pub systems : AreRulesOf (encoding_of problem) components (λ rule. origin_of rule.tag) (rules_by (encoding_of problem))
   systems = record { each = rules_seen }

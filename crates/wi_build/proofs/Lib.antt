@@ -1,3 +1,11 @@
+pub mod Automata
+pub mod Shares
+pub mod Sound
+pub mod Lengths
+pub mod Few
+pub mod Values
+pub mod RuleShares
+pub mod Fit
 pub mod NeedsLemmas
 pub mod StateLemmas
 pub mod RowLemmas

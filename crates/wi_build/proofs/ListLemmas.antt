@@ -10,10 +10,12 @@ use Rattle.wi_pds.specs.declared.rule.Rule.{Rule}
 use Rattle.wi_pds.specs.Rules.{rules_at}
 use Rattle.wi_quantity.specs.Weighing.{components}
 use Rattle.wi_rules.specs.declared.spot.Spot.{Spot}
-use Rattle.wi_rules.specs.Rules.{Setup}
+use Rattle.wi_rules.specs.Rules.{Encoding}
 use Rattle.wi_rules.specs.Numbers.{AreRulesOf, Layout, NumberedRule, layout_of, rules_at_number, seen, spot_of}
 use Rattle.wi_build.specs.Tags.{origin_of}
-use Rattle.wi_build.specs.Systems.{Given, IsGiven, all_rules, rule_at, rules_by, setup_given, spot_count, spot_rules}
+use Rattle.wi_build.specs.Problems.{Problem, IsProblem}
+use Rattle.wi_build.specs.Encodings.{encoding_of}
+use Rattle.wi_build.specs.Systems.{all_rules, rule_at, rules_by, spot_count, spot_rules}
 use Rattle.wi_build.proofs.HeadLemmas.{past_labels}
 use Rattle.wi_build.proofs.LawLemmas.{systems}
 use Rattle.wi_build.proofs.RowLemmas.{Listing}
@@ -66,7 +68,7 @@ past_spots y (suc (suc n)) h =
     let members : nat_lt (n - y.first - y.last - y.links * y.path) (y.members * 7 * y.path) ≡ false = le-ltb (n - y.first - y.last - y.links * y.path) (y.members * 7 * y.path) (omega (arith, h)) in
     rw (first, last, links, members) refl
 
-module _ (s : Setup) (n g : ℕ) where
+module _ (s : Encoding) (n g : ℕ) where
   symbol_apart : (h : ℕ) → h ≢ g → filter (is_of n g) (rules_by s n h) ≡ []
   symbol_apart h ne = other_symbol n g n h (rules_at_number s n h) ne
 
@@ -106,7 +108,7 @@ module _ (s : Setup) (n g : ℕ) where
           let past = ltb-false n (spot_count (layout_of s)) e in
           none_out (is_of n g) (spot_rules s) n spot_apart 0 (spot_count (layout_of s)) (inr (omega (arith, past))) ∙ sym (past_spot (omega (arith, past)))
 
-pub lists : (given : Given) → IsGiven given → AreRulesOf (setup_given given) components (λ rule. origin_of rule.tag) (rules_at (all_rules (setup_given given)))
-lists given k = record {
-  each = λ n g. ap (λ (rs : Listing). map (λ (r : Rule (Pair Terms Effort)). seen components (λ x. origin_of x.tag) r) rs) (of_all (setup_given given) n g) ∙ (systems given k).each n g;
+pub lists : (problem : Problem) → IsProblem problem → AreRulesOf (encoding_of problem) components (λ rule. origin_of rule.tag) (rules_at (all_rules (encoding_of problem)))
+lists problem k = record {
+  each = λ n g. ap (λ (rs : Listing). map (λ (r : Rule (Pair Terms Effort)). seen components (λ x. origin_of x.tag) r) rs) (of_all (encoding_of problem) n g) ∙ (systems problem k).each n g;
 }

@@ -14,14 +14,16 @@ use Rattle.wi_rules.specs.declared.spot.Spot.{Spot}
 use Rattle.wi_pds.specs.declared.rule.Word2.TheVariants.{Empty, One, Two}
 use Rattle.wi_rules.specs.declared.spot.Spot.TheVariants.{Start, Build, Close}
 use Rattle.wi_rules.specs.declared.spot.Origin.TheVariants.{Pushed, SetOut}
-use Rattle.wi_rules.specs.Rules.{Setup, SpotRule, zeros, plain, may_build, build_rules, set_out_rules, rules_of}
+use Rattle.wi_rules.specs.Rules.{Encoding, SpotRule, zeros, plain, may_build, build_rules, set_out_rules, rules_of}
 use Rattle.wi_rules.specs.Numbers.{layout_of, number}
 use Rattle.wi_build.specs.declared.head.Head.{Head}
 use Rattle.wi_build.specs.declared.head.Made.{Made}
 use Rattle.wi_build.specs.declared.head.Way.{Way}
 use Rattle.wi_build.specs.declared.head.Way.TheVariants as way
 use Rattle.wi_build.specs.Tags.{tag_of}
-use Rattle.wi_build.specs.Systems.{Given, setup_given, weight, spot_count, spot_rules, all_rules}
+use Rattle.wi_build.specs.Problems.{Problem}
+use Rattle.wi_build.specs.Encodings.{encoding_of}
+use Rattle.wi_build.specs.Systems.{weight, spot_count, spot_rules, all_rules}
 use Rattle.wi_build.specs.Rows.{rule_of, rules_for, rule_made, plain_made, spot_on}
 
 abbrev pub Listing : Type 0
@@ -32,26 +34,26 @@ on_ok (Ok a) P Q f h = f h
 on_ok (Err e) P Q f h = h
 
 -- one rule
-one_made : (s : Setup) (head : Head) (to : Spot) (made : Made) (share : List ℕ) → made.weight ≡ weight (share ++ 1 ∷ [])
+one_made : (s : Encoding) (head : Head) (to : Spot) (made : Made) (share : List ℕ) → made.weight ≡ weight (share ++ 1 ∷ [])
     → rule_made s head to made ≡ rule_of s head (record { to = to; word = made.word; share = share; origin = made.origin })
 one_made s head to made share e =
     let make : Pair Terms Effort → Rule (Pair Terms Effort) = λ w. record { from = head.spot; top = head.symbol; to = number (layout_of s) to; word = made.word; weight = w; tag = tag_of made.origin } in
     ap make e
 
 -- one for each state
-each_made : (s : Setup) (head : Head) (way : Way) (made : Made) (share : List ℕ) → made.weight ≡ weight (share ++ 1 ∷ []) → (qs : List ℕ)
+each_made : (s : Encoding) (head : Head) (way : Way) (made : Made) (share : List ℕ) → made.weight ≡ weight (share ++ 1 ∷ []) → (qs : List ℕ)
     → map (λ q. rule_made s head (spot_on way q) made) qs ≡ rules_for s head (map (λ q. record { to = spot_on way q; word = made.word; share = share; origin = made.origin }) qs)
 each_made s head way made share e [] = refl
 each_made s head way made share e (q ∷ qs) =
     ap (λ r. r ∷ map (λ x. rule_made s head (spot_on way x) made) qs) (one_made s head (spot_on way q) made share e)
     ∙ ap (λ rs. rule_of s head (record { to = spot_on way q; word = made.word; share = share; origin = made.origin }) ∷ rs) (each_made s head way made share e qs)
 
-pub rules_append : (s : Setup) (head : Head) (a b : List SpotRule) → rules_for s head (a ++ b) ≡ rules_for s head a ++ rules_for s head b
+pub rules_append : (s : Encoding) (head : Head) (a b : List SpotRule) → rules_for s head (a ++ b) ≡ rules_for s head a ++ rules_for s head b
 rules_append s head [] b = refl
 rules_append s head (r ∷ a) b = ap (λ rs. rule_of s head r ∷ rs) (rules_append s head a b)
 
 -- no rule
-pub none_made : (s : Setup) (head : Head) (old : Listing) (rs : List SpotRule) → rs ≡ [] → old ≡ old ++ rules_for s head rs
+pub none_made : (s : Encoding) (head : Head) (old : Listing) (rs : List SpotRule) → rs ≡ [] → old ≡ old ++ rules_for s head rs
 none_made s head old rs e = rw e (sym (append-nil old))
 
 -- what is made for each number below one
@@ -74,7 +76,7 @@ up_to_more f n =
     ∙ ap (λ t. up_to f n ++ t) (append-nil (f n))
 
 -- one step more of a loop over numbers
-pub more_made : (s : Setup) (head : Head) (f : ℕ → List SpotRule) (old now new : Listing) (i : ℕ) → now ≡ old ++ rules_for s head (up_to f i) → new ≡ now ++ rules_for s head (f i)
+pub more_made : (s : Encoding) (head : Head) (f : ℕ → List SpotRule) (old now new : Listing) (i : ℕ) → now ≡ old ++ rules_for s head (up_to f i) → new ≡ now ++ rules_for s head (f i)
     → new ≡ old ++ rules_for s head (up_to f (i + 1))
 more_made s head f old now new i before step =
     step
@@ -107,7 +109,7 @@ flat_mapped g f [] = refl
 flat_mapped g f (x ∷ xs) = ap (λ t. f (g x) ++ t) (flat_mapped g f xs)
 
 -- the rules for some states, from what code put at the end of a list
-pub each_row : (s : Setup) (head : Head) (way : Way) (made : Made) (share : List ℕ) (qs rs_states : List ℕ) (old new : Listing) (rs : List SpotRule) → made.weight ≡ weight (share ++ 1 ∷ []) → qs ≡ rs_states
+pub each_row : (s : Encoding) (head : Head) (way : Way) (made : Made) (share : List ℕ) (qs rs_states : List ℕ) (old new : Listing) (rs : List SpotRule) → made.weight ≡ weight (share ++ 1 ∷ []) → qs ≡ rs_states
     → new ≡ old ++ map (λ q. rule_made s head (spot_on way q) made) qs
     → rs ≡ map (λ q. record { to = spot_on way q; word = made.word; share = share; origin = made.origin }) rs_states
     → new ≡ old ++ rules_for s head rs
@@ -116,14 +118,14 @@ each_row s head way made share qs states old new rs w e put is =
     ∙ ap (λ t. old ++ t) (ap (map (λ q. rule_made s head (spot_on way q) made)) e ∙ each_made s head way made share w states ∙ ap (rules_for s head) (sym is))
 
 -- the rules that push a label
-pub label_row : (s : Setup) (head : Head) (q l : ℕ) (w : Pair Terms Effort) (qs : List ℕ) (old new : Listing) → may_build s.net l head.symbol ≡ true → w ≡ weight (zeros s ++ 1 ∷ []) → qs ≡ s.first_before q l
+pub label_row : (s : Encoding) (head : Head) (q l : ℕ) (w : Pair Terms Effort) (qs : List ℕ) (old new : Listing) → may_build s.net l head.symbol ≡ true → w ≡ weight (zeros s ++ 1 ∷ []) → qs ≡ s.first_before q l
     → new ≡ old ++ map (λ r. rule_made s head (spot_on way.Build r) (record { word = Two (l + 1) head.symbol; weight = w; origin = Pushed (record { 0 = l }) })) qs
     → new ≡ old ++ rules_for s head (build_rules s q head.symbol l)
 label_row s head q l w qs old new m e states put =
     each_row s head way.Build (record { word = Two (l + 1) head.symbol; weight = w; origin = Pushed (record { 0 = l }) }) (zeros s) qs (s.first_before q l) old new (build_rules s q head.symbol l) e states put (rw (m, add-one) refl)
 
 -- those that set out on a link
-pub first_link_row : (s : Setup) (head : Head) (n : ℕ) (e : LinkId) (w : Pair Terms Effort) (qs : List ℕ) (old new : Listing) → has s.bounds.down e ≡ false → head.symbol ≡ suc n
+pub first_link_row : (s : Encoding) (head : Head) (n : ℕ) (e : LinkId) (w : Pair Terms Effort) (qs : List ℕ) (old new : Listing) → has s.bounds.down e ≡ false → head.symbol ≡ suc n
     → w ≡ weight (s.first_share e ++ 1 ∷ []) → qs ≡ s.path.next 0 e.0
     → new ≡ old ++ map (λ q. rule_made s head (spot_on (way.OnLink e) q) (record { word = One head.symbol; weight = w; origin = SetOut e })) qs
     → new ≡ old ++ rules_for s head (if not (has s.bounds.down e) then set_out_rules s n e else [])
@@ -131,42 +133,42 @@ first_link_row s head n e w qs old new d g we states put =
     each_row s head (way.OnLink e) (record { word = One head.symbol; weight = w; origin = SetOut e }) (s.first_share e) qs (s.path.next 0 e.0) old new (if not (has s.bounds.down e) then set_out_rules s n e else []) we states put (rw (d, g) refl)
 
 -- those that read a label
-pub close_row : (s : Setup) (head : Head) (q n : ℕ) (made : Made) (qs : List ℕ) (old new : Listing) → made ≡ plain_made Empty → s.terms ≡ 5 → head.symbol ≡ suc n → n < length s.net.classes → qs ≡ s.last.next q n
+pub close_row : (s : Encoding) (head : Head) (q n : ℕ) (made : Made) (qs : List ℕ) (old new : Listing) → made ≡ plain_made Empty → s.terms ≡ 5 → head.symbol ≡ suc n → n < length s.net.classes → qs ≡ s.last.next q n
     → new ≡ old ++ map (λ r. rule_made s head (spot_on way.Close r) made) qs
     → new ≡ old ++ rules_for s head (rules_of s (Close q) head.symbol)
 close_row s head q n made qs old new m five g known states put =
     each_row s head way.Close (plain_made Empty) (zeros s) qs (s.last.next q n) old new (rules_of s (Close q) head.symbol) (rw five refl) states (put ∙ ap (λ x. old ++ map (λ r. rule_made s head (spot_on way.Close r) x) qs) m) (rw (g, lt-ltb n (length s.net.classes) known) refl)
 
 -- the rule that begins in a state, if that accepts, and all of them
-abbrev pub begun : Setup → ℕ → List SpotRule
+abbrev pub begun : Encoding → ℕ → List SpotRule
 begun s q = if s.first.accepts q then plain s (Build q) (One 0) ∷ [] else []
 
-begun_all : (s : Setup) → up_to (begun s) s.first.states ≡ rules_of s Start 0
+begun_all : (s : Encoding) → up_to (begun s) s.first.states ≡ rules_of s Start 0
 begun_all s =
     filtered (λ q. s.first.accepts q) (λ q. plain s (Build q) (One 0) ∷ []) (range_with_len 0 s.first.states)
     ∙ flat_single (λ q. plain s (Build q) (One 0)) (filter (λ q. s.first.accepts q) (range_with_len 0 s.first.states))
 
-pub start_done : (s : Setup) (head : Head) (old new : Listing) (i n : ℕ) → head.symbol ≡ 0 → n ≡ s.first.states → i ≡ n → new ≡ old ++ rules_for s head (up_to (begun s) i) → new ≡ old ++ rules_for s head (rules_of s Start head.symbol)
+pub start_done : (s : Encoding) (head : Head) (old new : Listing) (i n : ℕ) → head.symbol ≡ 0 → n ≡ s.first.states → i ≡ n → new ≡ old ++ rules_for s head (up_to (begun s) i) → new ≡ old ++ rules_for s head (rules_of s Start head.symbol)
 start_done s head old new i n g states is put = put ∙ ap (λ t. old ++ rules_for s head t) (ap (up_to (begun s)) (is ∙ states) ∙ begun_all s ∙ ap (rules_of s Start) (sym g))
 
 -- the rules that set out on the link of a number, if that isn't known to be down, and all of them
-abbrev pub setting_out : Setup → ℕ → ℕ → List SpotRule
+abbrev pub setting_out : Encoding → ℕ → ℕ → List SpotRule
 setting_out s n e = if not (has s.bounds.down (record { 0 = e })) then set_out_rules s n (record { 0 = e }) else []
 
-setting_out_all : (s : Setup) (n : ℕ) → up_to (setting_out s n) (length s.net.links) ≡ flat_map (set_out_rules s n) (links_where s.net (λ e. not (has s.bounds.down e)))
+setting_out_all : (s : Encoding) (n : ℕ) → up_to (setting_out s n) (length s.net.links) ≡ flat_map (set_out_rules s n) (links_where s.net (λ e. not (has s.bounds.down e)))
 setting_out_all s n =
     let link : ℕ → LinkId = λ i. record { 0 = i } in
     let some : LinkId → List SpotRule = λ e. if not (has s.bounds.down e) then set_out_rules s n e else [] in
     sym (flat_mapped link some (range_with_len 0 (length s.net.links)))
     ∙ filtered (λ e. not (has s.bounds.down e)) (set_out_rules s n) (links_from 0 (length s.net.links))
 
-pub links_done : (s : Setup) (head : Head) (n : ℕ) (old new : Listing) (i m : ℕ) → m ≡ length s.net.links → i ≡ m → new ≡ old ++ rules_for s head (up_to (setting_out s n) i)
+pub links_done : (s : Encoding) (head : Head) (n : ℕ) (old new : Listing) (i m : ℕ) → m ≡ length s.net.links → i ≡ m → new ≡ old ++ rules_for s head (up_to (setting_out s n) i)
     → new ≡ old ++ rules_for s head (flat_map (set_out_rules s n) (links_where s.net (λ e. not (has s.bounds.down e))))
 links_done s head n old new i m links is put = put ∙ ap (λ t. old ++ rules_for s head t) (ap (up_to (setting_out s n)) (is ∙ links) ∙ setting_out_all s n)
 
 pub all_listed : (f : ℕ → Listing) (old new : Listing) (i n : ℕ) → i ≡ n → new ≡ old ++ up_to f i → new ≡ old ++ flat_map f (range_with_len 0 n)
 all_listed f old new i n is put = put ∙ ap (λ k. old ++ up_to f k) is
 
-pub all_made : (given asked : Given) (xs ys : Listing) (i n : ℕ) → given ≡ asked → n ≡ spot_count (layout_of (setup_given given)) → i ≡ n → ys ≡ up_to (spot_rules (setup_given given)) i → xs ≡ ys → xs ≡ all_rules (setup_given asked)
-all_made given asked xs ys i n same count is put e =
-    e ∙ put ∙ ap (up_to (spot_rules (setup_given given))) (is ∙ count) ∙ ap (λ (g : Given). all_rules (setup_given g)) same
+pub all_made : (problem asked : Problem) (xs ys : Listing) (i n : ℕ) → problem ≡ asked → n ≡ spot_count (layout_of (encoding_of problem)) → i ≡ n → ys ≡ up_to (spot_rules (encoding_of problem)) i → xs ≡ ys → xs ≡ all_rules (encoding_of asked)
+all_made problem asked xs ys i n same count is put e =
+    e ∙ put ∙ ap (up_to (spot_rules (encoding_of problem))) (is ∙ count) ∙ ap (λ (g : Problem). all_rules (encoding_of g)) same

@@ -15,7 +15,7 @@ use Rattle.wi_nfa.proofs.RisingLists.{one_rising_list}
 use Rattle.wi_query.specs.declared.expression.Expression.{Expression}
 use Rattle.wi_query.specs.Sets.{holds}
 use Rattle.wi_rules.proofs.Lists.{In, contains_in, in_contains}
-use Rattle.wi_setup.specs.Setups.{after, before, comes_after}
+use Rattle.wi_build.specs.Encodings.{after, before, comes_after}
 
 pub in_any : (xs : List ℕ) (r : ℕ) → list_any (λ n. nat_eq n r) xs ≡ true → In xs r
 in_any [] r h = cc

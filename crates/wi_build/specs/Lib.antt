@@ -1,3 +1,5 @@
+pub mod Encodings
+pub mod Problems
 pub mod Tags
 pub mod Systems
 pub mod Small

@@ -11,24 +11,26 @@ use Rattle.wi_pds.specs.declared.rule.Word2.{Word2}
 use Rattle.wi_rules.specs.declared.spot.Spot.{Spot}
 use Rattle.wi_rules.specs.declared.spot.Spot.TheVariants as spot
 use Rattle.wi_rules.specs.declared.spot.Origin.TheVariants.{Nothing}
-use Rattle.wi_rules.specs.Rules.{Setup, SpotRule, each_at, hop_rules, rules_of}
+use Rattle.wi_rules.specs.Rules.{Encoding, SpotRule, each_at, hop_rules, rules_of}
 use Rattle.wi_rules.specs.Numbers.{layout_of, number, numbered}
 use Rattle.wi_build.specs.declared.head.Head.{Head}
 use Rattle.wi_build.specs.declared.head.Made.{Made}
 use Rattle.wi_build.specs.declared.head.Way.{Way}
 use Rattle.wi_build.specs.declared.head.Way.TheVariants as way
 use Rattle.wi_build.specs.Tags.{tag_of}
-use Rattle.wi_build.specs.Systems.{Given, setup_given, weight, rule_at}
+use Rattle.wi_build.specs.Problems.{Problem}
+use Rattle.wi_build.specs.Encodings.{encoding_of}
+use Rattle.wi_build.specs.Systems.{weight, rule_at}
 
 -- a rule of a head, as the definition has it
-abbrev pub rule_of : Setup → Head → SpotRule → Rule (Pair Terms Effort)
+abbrev pub rule_of : Encoding → Head → SpotRule → Rule (Pair Terms Effort)
 rule_of s head r = rule_at head.spot head.symbol (numbered s r)
 
-abbrev pub rules_for : Setup → Head → List SpotRule → List (Rule (Pair Terms Effort))
+abbrev pub rules_for : Encoding → Head → List SpotRule → List (Rule (Pair Terms Effort))
 rules_for s head rs = map (rule_of s head) rs
 
 -- and as code makes it
-abbrev pub rule_made : Setup → Head → Spot → Made → Rule (Pair Terms Effort)
+abbrev pub rule_made : Encoding → Head → Spot → Made → Rule (Pair Terms Effort)
 rule_made s head to made = record {
   from = head.spot;
   top = head.symbol;
@@ -39,8 +41,8 @@ rule_made s head to made = record {
 }
 
 -- the rules of a head, by its spot
-abbrev pub head_rules : Given → Head → Spot → List (Rule (Pair Terms Effort))
-head_rules given head to = rules_for (setup_given given) head (rules_of (setup_given given) to head.symbol)
+abbrev pub head_rules : Problem → Head → Spot → List (Rule (Pair Terms Effort))
+head_rules problem head to = rules_for (encoding_of problem) head (rules_of (encoding_of problem) to head.symbol)
 
 -- what a rule is made of that adds to no term and stands for nothing
 abbrev pub plain_made : Word2 → Made
@@ -58,5 +60,5 @@ abbrev pub way_through : Member → ℕ → ℕ → Way
 way_through member m i = if nat_lt i (length member.ops) then way.Amid m i else way.OnLink member.link
 
 -- the rules for the members of one group of an entry
-abbrev pub group_rules : Setup → LinkId → ℕ → Label → ℕ → List Member → List SpotRule
+abbrev pub group_rules : Encoding → LinkId → ℕ → Label → ℕ → List Member → List SpotRule
 group_rules s e q l j group = each_at (λ i member. hop_rules s e q l (record { group = j; member = i }) member) 0 group

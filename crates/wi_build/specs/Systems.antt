@@ -5,33 +5,15 @@ use Rattle.std.proofs.lemmas.List.Elements.{All-map, All-from_get_or}
 use Rattle.wi_weight.specs.declared.kinds.Pair.{Pair}
 use Rattle.wi_weight.specs.declared.kinds.Terms.{Terms}
 use Rattle.wi_weight.specs.declared.kinds.Effort.{Effort}
-use Rattle.wi_net.specs.declared.bounds.Bounds.{Bounds}
-use Rattle.wi_net.specs.Net.{Net}
-use Rattle.wi_query.specs.declared.query.Query.{Query}
-use Rattle.wi_quantity.specs.declared.vector.Part.{Part}
 use Rattle.wi_pds.specs.declared.rule.Word2.TheVariants.{Empty}
 use Rattle.wi_pds.specs.declared.rule.Rule.{Rule}
 use Rattle.wi_pds.specs.Rules.{IsOf}
 use Rattle.wi_rules.specs.declared.spot.Origin.TheVariants.{Nothing}
-use Rattle.wi_rules.specs.Rules.{Setup}
+use Rattle.wi_rules.specs.Rules.{Encoding}
 use Rattle.wi_rules.specs.Numbers.{Layout, NumberedRule, layout_of, rules_at_number}
-use Rattle.wi_setup.specs.Setups.{setup_of}
-use Rattle.wi_setup.specs.Answers.{AreGiven}
+use Rattle.wi_build.specs.Problems.{Problem, IsProblem}
+use Rattle.wi_build.specs.Encodings.{encoding_of}
 use Rattle.wi_build.specs.Tags.{tag_of}
-
--- what rules are made for: a network, a query of it, what runs are weighed by, and what may fail
-pub record Given : Type 0 where
-  pub net : Net
-  pub query : Query
-  pub vector : List (List Part)
-  pub bounds : Bounds
-
-abbrev pub setup_given : Given → Setup
-setup_given g = setup_of g.net g.query g.vector g.bounds
-
--- the query and the bounds are of the network
-abbrev pub IsGiven : Given → Type 0
-IsGiven g = AreGiven g.net g.query g.bounds
 
 -- the weight of six components
 abbrev pub weight : List ℕ → Pair Terms Effort
@@ -51,11 +33,11 @@ abbrev pub rule_at : ℕ → ℕ → NumberedRule → Rule (Pair Terms Effort)
 rule_at n g r = record { from = n; top = g; to = r.to; word = r.word; weight = weight r.weight; tag = tag_of r.origin }
 
 -- the rules of a head, in order
-abbrev pub rules_by : Setup → ℕ → ℕ → List (Rule (Pair Terms Effort))
+abbrev pub rules_by : Encoding → ℕ → ℕ → List (Rule (Pair Terms Effort))
 rules_by s n g = map (λ r. rule_at n g r) (rules_at_number s n g)
 
 -- each of them names the head
-pub rules_name_heads : (s : Setup) (n g : ℕ) → All (IsOf n g) (rules_by s n g)
+pub rules_name_heads : (s : Encoding) (n g : ℕ) → All (IsOf n g) (rules_by s n g)
 rules_name_heads s n g =
     All-map (IsOf n g) (λ r. rule_at n g r) (rules_at_number s n g)
     (All-from_get_or (λ r. IsOf n g (rule_at n g r)) (rules_at_number s n g) (record { to = 0; word = Empty; weight = []; origin = Nothing }) (λ i low. (refl, refl)))
@@ -65,13 +47,13 @@ abbrev pub spot_count : Layout → ℕ
 spot_count y = suc (suc (y.first + (y.last + (y.links * y.path + y.members * 7 * y.path))))
 
 -- the rules of all heads: by rising spot, then by rising symbol
-abbrev pub spot_rules : Setup → ℕ → List (Rule (Pair Terms Effort))
+abbrev pub spot_rules : Encoding → ℕ → List (Rule (Pair Terms Effort))
 spot_rules s n = flat_map (rules_by s n) (range_with_len 0 (suc (length s.net.classes)))
 
-abbrev pub all_rules : Setup → List (Rule (Pair Terms Effort))
+abbrev pub all_rules : Encoding → List (Rule (Pair Terms Effort))
 all_rules s = flat_map (spot_rules s) (range_with_len 0 (spot_count (layout_of s)))
 
 -- what a system on demand keeps: its layout is that of what it was given
-pub record IsLazy (given : Given) (layout : Layout) : Type 0 where
-  pub are_given : IsGiven given
-  pub layout_is : layout ≡ layout_of (setup_given given)
+pub record IsLazy (problem : Problem) (layout : Layout) : Type 0 where
+  pub is_problem : IsProblem problem
+  pub layout_is : layout ≡ layout_of (encoding_of problem)

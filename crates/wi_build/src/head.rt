@@ -3,7 +3,7 @@ ghost use Rattle.std.specs.Prelude.{◌≡◌, slice_get};
 ghost use Rattle.wi_build.specs.Rows.{plain_made, spot_on, way_through};
 
 use crate::weights::effort;
-use wi_labels::Op;
+use wi_labels::{Label, Op};
 use wi_net::{LinkId, Member};
 use wi_pds::Word2;
 use wi_quantity::Weight;
@@ -14,6 +14,14 @@ use wi_rules::{Origin, Spot};
 pub(crate) struct Head {
     pub spot: u64,
     pub symbol: u32,
+}
+
+/// Where a packet is: on a link, with a label on top, the path's automaton in a state.
+#[derive(Clone, Copy)]
+pub(crate) struct Arrival {
+    pub link: LinkId,
+    pub state: u32,
+    pub top: Label,
 }
 
 /// What a rule writes in the place of the top, what it weighs, and what it stands for.

@@ -1,4 +1,4 @@
-//! Laws: that the rules are those of a network and a query. Each runs no code.
+//! Laws: a problem has an encoding, the rules are that encoding's, and their goal runs answer the problem. Each runs no code.
 ghost use Rattle.std.specs.Prelude.{◌≡◌, ◌<◌, ◌^◌, ℕ, List, true, length, Contains};
 ghost use Rattle.wi_weight.specs.Weights.{EachBelow};
 ghost use Rattle.wi_weight.specs.Kinds.{pair_scale, terms_scale, effort_scale};
@@ -11,37 +11,62 @@ ghost use Rattle.wi_quantity.specs.Weighing.{components};
 ghost use Rattle.wi_pds.specs.Rules.{rules_at};
 ghost use Rattle.wi_pds.specs.Runs.{Pops, PopRun, run_weight};
 ghost use Rattle.wi_world.specs.declared.run.Run.{Run};
-ghost use Rattle.wi_rules.specs.Goals.{told_of};
-ghost use Rattle.wi_setup.specs.Answers.{IsAnswering};
-ghost use Rattle.wi_rules.specs.Numbers.{AreRulesOf, told_by};
+ghost use Rattle.wi_rules.specs.declared.spot.Origin.{Origin};
+ghost use Rattle.wi_rules.specs.Rules.{IsEncoding};
+ghost use Rattle.wi_rules.specs.Goals.{origins_for};
+ghost use Rattle.wi_rules.specs.Numbers.{NumberedRule, AreRulesOf, IsSystemOf, origins_by, rules_at_number};
 ghost use Rattle.wi_build.specs.Tags.{origin_of};
-ghost use Rattle.wi_build.specs.Systems.{Given, IsGiven, setup_given, rules_by, all_rules};
+ghost use Rattle.wi_build.specs.Problems.{Problem, IsProblem, IsAnswering};
+ghost use Rattle.wi_build.specs.Encodings.{encoding_of};
+ghost use Rattle.wi_build.specs.Systems.{rules_by, all_rules};
 
-/// The rules on demand are those of the network and the query; their tags say what they stand for.
+use wi_weight::Domain;
+
+/// The automata of a query, the weights of a vector and the bounds are such as rules are made of.
+pub fn problems_have_encodings()
+    ensures { (problem : Problem) → IsProblem problem → IsEncoding (encoding_of problem) }
+{}
+
+/// A system that has these rules has a goal run of a weight exactly where a run of the moving world within the bounds matches
+/// the query and has that weight; and what the rules of a goal run stand for, in their order, tells such a run. The weights
+/// are those of five terms and an effort.
+pub fn goal_runs_are_matching_runs<W: Domain>()
+    ensures forwards { (problem : Problem) (o : Rule W → Origin) (rules : ℕ → ℕ → List (Rule W)) (w : List ℕ) (run : Run) → IsProblem problem → IsSystemOf (encoding_of problem) W.scale W.components o rules → IsAnswering problem w run → Pops W.scale W.components rules 0 0 1 w }
+    ensures backwards { (problem : Problem) (o : Rule W → Origin) (rules : ℕ → ℕ → List (Rule W)) (w : List ℕ) → IsProblem problem → IsSystemOf (encoding_of problem) W.scale W.components o rules → Pops W.scale W.components rules 0 0 1 w → (run : Run) × IsAnswering problem w run }
+    ensures origins { (problem : Problem) (o : Rule W → Origin) (rules : ℕ → ℕ → List (Rule W)) (rs : List (Rule W)) → IsProblem problem → IsSystemOf (encoding_of problem) W.scale W.components o rules → PopRun rules 0 0 1 rs → (run : Run) × IsAnswering problem (run_weight W.scale W.components rs) run × (origins_by o rs ≡ origins_for run) }
+{}
+
+/// The rules of a head are fewer than 2^32, and each component of what a rule weighs is below 2^64.
+pub fn rules_are_few_and_fit()
+    ensures few { (problem : Problem) (n g : ℕ) → IsProblem problem → length (rules_at_number (encoding_of problem) n g) < 2 ^ 32 }
+    ensures fit { (problem : Problem) (n g : ℕ) (rule : NumberedRule) → IsProblem problem → is_vector problem.vector ≡ true → Contains (rules_at_number (encoding_of problem) n g) rule → EachBelow (2 ^ 64) rule.weight }
+{}
+
+/// The rules on demand are those of the problem; their tags say what they stand for.
 pub fn systems_have_the_rules()
-    ensures { (given : Given) → IsGiven given → AreRulesOf (setup_given given) components (λ rule. origin_of rule.tag) (rules_by (setup_given given)) }
+    ensures { (problem : Problem) → IsProblem problem → AreRulesOf (encoding_of problem) components (λ rule. origin_of rule.tag) (rules_by (encoding_of problem)) }
 {}
 
 /// The listed rules are the same, head by head.
 pub fn lists_have_the_rules()
-    ensures heads { (given : Given) (n g : ℕ) → rules_at (all_rules (setup_given given)) n g ≡ rules_by (setup_given given) n g }
-    ensures rules { (given : Given) → IsGiven given → AreRulesOf (setup_given given) components (λ rule. origin_of rule.tag) (rules_at (all_rules (setup_given given))) }
+    ensures heads { (problem : Problem) (n g : ℕ) → rules_at (all_rules (encoding_of problem)) n g ≡ rules_by (encoding_of problem) n g }
+    ensures rules { (problem : Problem) → IsProblem problem → AreRulesOf (encoding_of problem) components (λ rule. origin_of rule.tag) (rules_at (all_rules (encoding_of problem))) }
 {}
 
 /// The rules have a goal run of a weight exactly where a run of the moving world within the bounds matches the query and has
 /// that weight; and what the rules of a goal run stand for, in their order, tells such a run. The listed rules are the same.
 pub fn goal_runs_answer_the_query()
-    ensures forwards { (given : Given) (w : List ℕ) (run : Run) → IsGiven given → IsAnswering given.net given.query given.vector given.bounds w run → Pops (pair_scale terms_scale effort_scale) components (rules_by (setup_given given)) 0 0 1 w }
-    ensures backwards { (given : Given) (w : List ℕ) → IsGiven given → Pops (pair_scale terms_scale effort_scale) components (rules_by (setup_given given)) 0 0 1 w → (run : Run) × IsAnswering given.net given.query given.vector given.bounds w run }
-    ensures told { (given : Given) (rules : List (Rule (Pair Terms Effort))) → IsGiven given → PopRun (rules_by (setup_given given)) 0 0 1 rules → (run : Run) × IsAnswering given.net given.query given.vector given.bounds (run_weight (pair_scale terms_scale effort_scale) components rules) run × (told_by (λ rule. origin_of rule.tag) rules ≡ told_of run) }
+    ensures forwards { (problem : Problem) (w : List ℕ) (run : Run) → IsProblem problem → IsAnswering problem w run → Pops (pair_scale terms_scale effort_scale) components (rules_by (encoding_of problem)) 0 0 1 w }
+    ensures backwards { (problem : Problem) (w : List ℕ) → IsProblem problem → Pops (pair_scale terms_scale effort_scale) components (rules_by (encoding_of problem)) 0 0 1 w → (run : Run) × IsAnswering problem w run }
+    ensures origins { (problem : Problem) (rules : List (Rule (Pair Terms Effort))) → IsProblem problem → PopRun (rules_by (encoding_of problem)) 0 0 1 rules → (run : Run) × IsAnswering problem (run_weight (pair_scale terms_scale effort_scale) components rules) run × (origins_by (λ rule. origin_of rule.tag) rules ≡ origins_for run) }
 {}
 
 /// A head has fewer rules than numbers of 32 bits.
 pub fn heads_have_few_rules()
-    ensures { (given : Given) → IsGiven given → (n g : ℕ) → length (rules_by (setup_given given) n g) < 2 ^ 32 }
+    ensures { (problem : Problem) → IsProblem problem → (n g : ℕ) → length (rules_by (encoding_of problem) n g) < 2 ^ 32 }
 {}
 
 /// The weights of rules fit.
 pub fn weights_fit()
-    ensures { (given : Given) → IsGiven given → is_vector given.vector ≡ true → (n g : ℕ) (r : Rule (Pair Terms Effort)) → Contains (rules_by (setup_given given) n g) r → EachBelow (2 ^ 64) (components r.weight) }
+    ensures { (problem : Problem) → IsProblem problem → is_vector problem.vector ≡ true → (n g : ℕ) (r : Rule (Pair Terms Effort)) → Contains (rules_by (encoding_of problem) n g) r → EachBelow (2 ^ 64) (components r.weight) }
 {}

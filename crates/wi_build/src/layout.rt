@@ -5,7 +5,7 @@ ghost use Rattle.wi_query.specs.Meaning.{IsQueryOf};
 ghost use Rattle.wi_quantity.specs.declared.vector.Part.{Part};
 ghost use Rattle.wi_rules.specs.declared.spot.Spot.{Spot};
 ghost use Rattle.wi_rules.specs.Numbers.{layout_of, number, spot_of, building, closing, on_links, amid};
-ghost use Rattle.wi_setup.specs.Setups.{setup_of};
+ghost use Rattle.wi_build.specs.Encodings.{encoding_of};
 ghost use Rattle.wi_build.specs.Systems.{spot_count};
 ghost use Rattle.wi_build.specs.Tags.{origin_of};
 
@@ -43,7 +43,7 @@ impl Layout {
     /// The layout of a network and a query. It takes no memory.
     pub fn of(net: &Network, query: &Query) -> Layout
         requires { IsQueryOf net.now query.now }
-        ensures { (vector : List (List Part)) (bounds : Bounds) → result ≡ layout_of (setup_of net.now query.now vector bounds) }
+        ensures { (vector : List (List Part)) (bounds : Bounds) → result ≡ layout_of (encoding_of (record { net = net.now; query = query.now; vector = vector; bounds = bounds })) }
     {
         net.keeps();
         let counts = net.counts();

@@ -1,28 +1,45 @@
-//! Rules on demand.
-ghost use Rattle.std.specs.Prelude.{◌≡◌, suc, ◌∷◌, [], ◌++◌, ◌<◌, length, map, IfOk, OnOk};
-ghost use Rattle.wi_nfa.specs.Left.{states_left};
-ghost use Rattle.wi_query.specs.Sets.{holds};
-ghost use Rattle.wi_query.specs.Meaning.{IsQueryOf};
-ghost use Rattle.wi_world.specs.Moves.{AreBounds};
-ghost use Rattle.wi_rules.specs.Numbers.{Fits, layout_of};
-ghost use Rattle.wi_build.specs.Systems.{IsGiven, setup_given, rules_by, spot_count};
-ghost use Rattle.wi_build.specs.Rows.{rule_made, head_rules, spot_on};
+//! Rules on demand: what each head's rules are is answered here, by the methods of one type. First come what the rules are made
+//! of, then the rules that make the first header from the bottom up, set out on the first link and read the last header from
+//! the top down, then those of the packet's travel, and last which of these a head has.
+ghost use Rattle.std.specs.List.{list_all, flat_map, range_with_len};
+ghost use Rattle.std.specs.Prelude.{◌≡◌, suc, ◌∷◌, [], ◌++◌, ◌<◌, length, map, IfOk, OnOk, ◌^◌, Some, true, slice_get, take, IfSome, not, if◌then◌else◌};
+ghost use Rattle.wi_build.specs.Encodings.{encoding_of};
+ghost use Rattle.wi_build.specs.Hops.{IsArrival, AreNeeds, IsGroup, IsMember};
+ghost use Rattle.wi_build.specs.Problems.{IsProblem};
+ghost use Rattle.wi_build.specs.Rows.{rule_made, head_rules, spot_on, rules_for, group_rules};
+ghost use Rattle.wi_build.specs.Systems.{rules_by, spot_count, weight};
 ghost use Rattle.wi_build.specs.Tags.{IsWithin};
+ghost use Rattle.wi_net.specs.LinkSet.{has};
+ghost use Rattle.wi_net.specs.Net.{links_where};
+ghost use Rattle.wi_net.specs.Network.{op_known};
+ghost use Rattle.wi_net.specs.Tables.{all_members, row_members};
+ghost use Rattle.wi_nfa.specs.Left.{states_left};
+ghost use Rattle.wi_pds.specs.declared.rule.Word2.{Word2};
+ghost use Rattle.wi_quantity.specs.Weighing.{hop_weight, is_way_out};
+ghost use Rattle.wi_query.specs.Meaning.{IsQueryOf};
+ghost use Rattle.wi_query.specs.Sets.{holds};
+ghost use Rattle.wi_rules.specs.Numbers.{Fits, layout_of, spot_of};
+ghost use Rattle.wi_rules.specs.Rules.{may_build, written, first_written, plain, build_rules, set_out_rules, hop_rules, entry_rules, on_link_rules};
+ghost use Rattle.wi_rules.specs.declared.spot.Spot.{Spot};
+ghost use Rattle.wi_world.specs.Moves.{AreBounds};
 
-use crate::head::{Head, Made, Way};
-use crate::hops::Place;
+use crate::head::{Arrival, Head, Made, Way, operation, plain};
 use crate::layout::Layout;
+use crate::needs::Needs;
+use crate::states::{after, before};
 use crate::tag::tag_of;
+use crate::weights::{counted, effort};
 use std::alloc::Global;
 use std::marker::Model;
 use wi_base::NoMemory;
-use wi_labels::Label;
-use wi_net::{Bounds, Network};
+use wi_labels::{Class, Label, Op};
+use wi_net::{Bounds, LinkId, Member, Network};
 use wi_nfa::States;
-use wi_pds::{Rule, System};
-use wi_quantity::{Vector, Weight};
+use wi_pds::{Rule, System, Word2};
+use wi_quantity::{Vector, Weight, first_weight, hop_weight};
 use wi_query::{Query, SymbolSet};
-use wi_rules::Spot;
+use wi_rules::{Origin, Spot};
+use wi_world::Step;
 
 /// The rules of a network and a query within bounds, each head's made when they are asked for. A run weighs what the vector
 /// says.
@@ -39,9 +56,10 @@ impl<'a> Model for LazySystem<'a> {
     ghost use Rattle.std.specs.Coded.{codes};
     ghost use Rattle.wi_regex.specs.contracts.regex.Regex as regex;
     ghost use Rattle.wi_query.specs.contracts.symbols.SymbolSet as set;
-    ghost use Rattle.wi_build.specs.Systems.{Given, IsLazy};
+    ghost use Rattle.wi_build.specs.Problems.{Problem};
+    ghost use Rattle.wi_build.specs.Systems.{IsLazy};
 
-    ghost Value = { Given };
+    ghost Value = { Problem };
 
     ghost coded = { Prim.hlevel (codes, (regex.the_row set.the_row).coded) };
 
@@ -75,14 +93,14 @@ impl<'a> LazySystem<'a> {
 
     // How many spots there are.
     pub(crate) fn spots(&self) -> u64
-        ensures { result ≡ spot_count (layout_of (setup_given self.now)) }
+        ensures { result ≡ spot_count (layout_of (encoding_of self.now)) }
     {
         self.layout.spots()
     }
 
     // What every system keeps.
     pub(crate) fn keeps(&self)
-        ensures { IsGiven self.now }
+        ensures { IsProblem self.now }
     {
         let _layout = &self.layout;
     }
@@ -96,7 +114,7 @@ impl<'a> LazySystem<'a> {
         made: Made,
     ) -> Result<(), NoMemory>
         requires { IsWithin made.origin }
-        ensures { OnOk result (rules.new.items ≡ rules.old.items ++ rule_made (setup_given self.now) head to made ∷ []) }
+        ensures { OnOk result (rules.new.items ≡ rules.old.items ++ rule_made (encoding_of self.now) head to made ∷ []) }
     {
         rules.push(Rule {
             from: head.spot,
@@ -119,14 +137,474 @@ impl<'a> LazySystem<'a> {
         made: Made,
     ) -> Result<(), NoMemory>
         requires { IsWithin made.origin }
-        ensures { OnOk result (rules.new.items ≡ rules.old.items ++ map (λ q. rule_made (setup_given self.now) head (spot_on way q) made) (states_left holds states.entry)) }
+        ensures { OnOk result (rules.new.items ≡ rules.old.items ++ map (λ q. rule_made (encoding_of self.now) head (spot_on way q) made) (states_left holds states.entry)) }
     {
         for state in states {
             self.push(rules, head, way.to(state), made)?;
         }
         Ok(())
     }
+}
 
+// What the rules are made of: the automata of the query, what operations write, and weights.
+impl<'a> LazySystem<'a> {
+    /// The network.
+    pub(crate) fn network(&self) -> &'a Network
+        ensures { result.now ≡ self.now.net }
+    {
+        self.net
+    }
+
+    /// What may fail in it.
+    pub(crate) fn limits(&self) -> &'a Bounds
+        ensures { result.now ≡ self.now.bounds }
+    {
+        self.bounds
+    }
+
+    /// How many labels there are.
+    pub(crate) fn labels(&self) -> u32
+        ensures { result ≡ length self.now.net.classes }
+    {
+        self.net.keeps();
+        self.net.counts().labels
+    }
+
+    /// How many links there are.
+    pub(crate) fn links(&self) -> u32
+        ensures { result ≡ length self.now.net.links }
+    {
+        self.net.counts().links
+    }
+
+    /// The spot of a number, if there is one.
+    pub(crate) fn spot_of(&self, number: u64) -> Option<Spot>
+        ensures value { result ≡ spot_of (layout_of (encoding_of self.now)) number }
+        ensures fits { IfSome result (Fits (layout_of (encoding_of self.now))) }
+    {
+        self.layout.spot_of(number)
+    }
+
+    /// How many states the automaton of the first header has.
+    pub(crate) fn first_states(&self) -> u32
+        ensures { result ≡ (encoding_of self.now).first.states }
+    {
+        self.query.first.nfa.states() as u32
+    }
+
+    pub(crate) fn first_accepts(&self, state: u32) -> bool
+        ensures { result ≡ (encoding_of self.now).first.accepts state }
+    {
+        self.query.first.nfa.accepts(state)
+    }
+
+    pub(crate) fn path_accepts(&self, state: u32) -> bool
+        ensures { result ≡ (encoding_of self.now).path.accepts state }
+    {
+        self.query.path.nfa.accepts(state)
+    }
+
+    pub(crate) fn last_accepts(&self, state: u32) -> bool
+        ensures { result ≡ (encoding_of self.now).last.accepts state }
+    {
+        self.query.last.nfa.accepts(state)
+    }
+
+    /// The states of the first header's automaton before one by a label.
+    pub(crate) fn first_before(&self, state: u32, label: u32) -> States<'a, SymbolSet>
+        requires { state < (encoding_of self.now).first.states }
+        ensures { states_left holds result ≡ (encoding_of self.now).first_before state label }
+    {
+        before(&self.query.first, state, label)
+    }
+
+    /// The states of the path's automaton after one by a link.
+    pub(crate) fn path_after(&self, state: u32, link: LinkId) -> States<'a, SymbolSet>
+        requires { state < (encoding_of self.now).path.states }
+        ensures { states_left holds result ≡ (encoding_of self.now).path.next state link.0 }
+    {
+        after(&self.query.path, state, link.0)
+    }
+
+    /// The states of the last header's automaton after one by a label.
+    pub(crate) fn last_after(&self, state: u32, label: Label) -> States<'a, SymbolSet>
+        requires { state < (encoding_of self.now).last.states }
+        ensures { states_left holds result ≡ (encoding_of self.now).last.next state label.0 }
+    {
+        after(&self.query.last, state, label.0)
+    }
+
+    /// Whether a link is known to be down.
+    pub(crate) fn is_down(&self, link: LinkId) -> bool
+        ensures { result ≡ has self.now.bounds.down link }
+    {
+        self.bounds.down.contains(link)
+    }
+
+    /// Whether a label may be pushed on a symbol where a header is made from the bottom up.
+    pub(crate) fn may_build(&self, label: u32, symbol: u32) -> bool
+        requires { label < length self.now.net.classes }
+        ensures { result ≡ may_build self.now.net label symbol }
+    {
+        self.net.keeps();
+        let class = self.net.class(Label(label));
+        if symbol == 0 {
+            return matches!(class, Class::Ip);
+        }
+        let below = symbol - 1;
+        below < self.labels() && Op::Push(Label(label), class).allowed(self.net.class(Label(below)))
+    }
+
+    /// What an operation writes over a label, where it is defined there.
+    pub(crate) fn written(&self, op: Op, top: Label) -> Option<Word2>
+        requires top { top.0 < length self.now.net.classes }
+        requires op { op_known self.now.net op ≡ true }
+        ensures { result ≡ written self.now.net op top.0 }
+    {
+        self.net.keeps();
+        if !op.allowed(self.net.class(top)) {
+            return None;
+        }
+        Some(match op {
+            Op::Swap(label, _) => Word2::One(label.0 + 1),
+            Op::Push(label, _) => Word2::Two(label.0 + 1, top.0 + 1),
+            Op::Pop => Word2::Empty,
+        })
+    }
+
+    /// What a member's first operation writes over a label; the label itself, where there is none.
+    pub(crate) fn first_written(&self, ops: &[Op], top: Label) -> Option<Word2>
+        requires top { top.0 < length self.now.net.classes }
+        requires ops { list_all (op_known self.now.net) ops.now ≡ true }
+        ensures { result ≡ first_written self.now.net ops.now top.0 }
+    {
+        self.net.keeps();
+        match ops.first() {
+            Some(op) => self.written(*op, top),
+            None => Some(Word2::One(top.0 + 1)),
+        }
+    }
+
+    /// The member of a number.
+    pub(crate) fn member(&self, number: u32) -> &'a Member
+        requires { number < row_members self.now.net.rows }
+        ensures value { slice_get (all_members self.now.net.rows) number ≡ Some result.now }
+        ensures ops { list_all (op_known self.now.net) result.now.ops ≡ true }
+    {
+        self.net.keeps();
+        self.net.member(number)
+    }
+
+    /// The weight of setting out on a link, with effort 1.
+    pub(crate) fn first_weight(&self, link: LinkId) -> Weight
+        requires { link.0 < length self.now.net.links }
+        ensures { result ≡ weight ((encoding_of self.now).first_share link ++ 1 ∷ []) }
+    {
+        counted(first_weight(self.vector, self.net, link))
+    }
+
+    /// The weight of a hop, with effort 1, where so many risk groups must have failed before.
+    pub(crate) fn hop_weight(&self, member: &Member, failures: usize) -> Weight
+        requires member { is_way_out self.now.net member.now ≡ true }
+        requires failures { failures < 2 ^ 32 }
+        ensures { result ≡ weight (take 5 (hop_weight self.now.net self.now.vector member.now failures) ++ 1 ∷ []) }
+    {
+        counted(hop_weight(self.vector, self.net, member, failures))
+    }
+}
+
+// Rules that make the first header, set out, and read the last header.
+impl<'a> LazySystem<'a> {
+    /// Start: to each accepting state of the first header.
+    pub(crate) fn push_start(
+        &self,
+        rules: &mut Vec<Rule<Weight>>,
+        head: Head,
+    ) -> Result<(), NoMemory>
+        requires { head.symbol ≡ 0 }
+        ensures { OnOk result (rules.new.items ≡ rules.old.items ++ head_rules self.now head Spot.Start) }
+    {
+        for state in 0..self.first_states() {
+            self.push_accepting(rules, head, state)?;
+        }
+        Ok(())
+    }
+
+    // The rule that begins in a state, if that accepts.
+    fn push_accepting(
+        &self,
+        rules: &mut Vec<Rule<Weight>>,
+        head: Head,
+        state: u32,
+    ) -> Result<(), NoMemory>
+        ensures { OnOk result (rules.new.items ≡ rules.old.items ++ rules_for (encoding_of self.now) head (if (encoding_of self.now).first.accepts state then plain (encoding_of self.now) (Spot.Build state) (Word2.One 0) ∷ [] else [])) }
+    {
+        if self.first_accepts(state) {
+            self.push(rules, head, Spot::Build(state), plain(Word2::One(0)))?;
+        }
+        Ok(())
+    }
+
+    /// Build, past its first state: each label that may be pushed.
+    pub(crate) fn push_build(
+        &self,
+        rules: &mut Vec<Rule<Weight>>,
+        head: Head,
+        state: u32,
+    ) -> Result<(), NoMemory>
+        requires { state < (encoding_of self.now).first.states }
+        ensures { OnOk result (rules.new.items ≡ rules.old.items ++ rules_for (encoding_of self.now) head (flat_map (build_rules (encoding_of self.now) state head.symbol) (range_with_len 0 (length self.now.net.classes)))) }
+    {
+        for label in 0..self.labels() {
+            self.push_label(rules, head, state, label)?;
+        }
+        Ok(())
+    }
+
+    // The rules that push a label.
+    fn push_label(
+        &self,
+        rules: &mut Vec<Rule<Weight>>,
+        head: Head,
+        state: u32,
+        label: u32,
+    ) -> Result<(), NoMemory>
+        requires state { state < (encoding_of self.now).first.states }
+        requires label { label < length self.now.net.classes }
+        ensures { OnOk result (rules.new.items ≡ rules.old.items ++ rules_for (encoding_of self.now) head (build_rules (encoding_of self.now) state head.symbol label)) }
+    {
+        self.keeps();
+        if !self.may_build(label, head.symbol) {
+            return Ok(());
+        }
+        let made = Made {
+            word: Word2::Two(label + 1, head.symbol),
+            weight: effort(),
+            origin: Origin::Pushed(Label(label)),
+        };
+        let states = self.first_before(state, label);
+        self.push_each(rules, head, states, Way::Build, made)
+    }
+
+    /// Build in its first state: each link that isn't known to be down may be the first.
+    pub(crate) fn push_first_links(
+        &self,
+        rules: &mut Vec<Rule<Weight>>,
+        head: Head,
+        top: Label,
+    ) -> Result<(), NoMemory>
+        requires { head.symbol ≡ suc top.0 }
+        ensures { OnOk result (rules.new.items ≡ rules.old.items ++ rules_for (encoding_of self.now) head (flat_map (set_out_rules (encoding_of self.now) top.0) (links_where self.now.net (λ e. not (has self.now.bounds.down e))))) }
+    {
+        rules.reserve(self.links() as usize)?;
+        for link in 0..self.links() {
+            self.push_first_link(rules, head, top, LinkId(link))?;
+        }
+        Ok(())
+    }
+
+    // The rules that set out on a link, if it isn't known to be down.
+    fn push_first_link(
+        &self,
+        rules: &mut Vec<Rule<Weight>>,
+        head: Head,
+        top: Label,
+        link: LinkId,
+    ) -> Result<(), NoMemory>
+        requires symbol { head.symbol ≡ suc top.0 }
+        requires link { link.0 < length self.now.net.links }
+        ensures { OnOk result (rules.new.items ≡ rules.old.items ++ rules_for (encoding_of self.now) head (if not (has self.now.bounds.down link) then set_out_rules (encoding_of self.now) top.0 link else [])) }
+    {
+        self.keeps();
+        if self.is_down(link) {
+            return Ok(());
+        }
+        let made = Made {
+            word: Word2::One(head.symbol),
+            weight: self.first_weight(link),
+            origin: Origin::SetOut(link),
+        };
+        let states = self.path_after(0, link);
+        self.push_each(rules, head, states, Way::OnLink(link), made)
+    }
+
+    /// Close over a label: to each state after it.
+    pub(crate) fn push_close(
+        &self,
+        rules: &mut Vec<Rule<Weight>>,
+        head: Head,
+        state: u32,
+        top: Label,
+    ) -> Result<(), NoMemory>
+        requires symbol { head.symbol ≡ suc top.0 }
+        requires label { top.0 < length self.now.net.classes }
+        requires state { state < (encoding_of self.now).last.states }
+        ensures { OnOk result (rules.new.items ≡ rules.old.items ++ head_rules self.now head (Spot.Close state)) }
+    {
+        let states = self.last_after(state, top);
+        self.push_each(rules, head, states, Way::Close, plain(Word2::Empty))
+    }
+
+    /// Close over the bottom: to the end, from an accepting state.
+    pub(crate) fn push_done(
+        &self,
+        rules: &mut Vec<Rule<Weight>>,
+        head: Head,
+        state: u32,
+    ) -> Result<(), NoMemory>
+        requires { head.symbol ≡ 0 }
+        ensures { OnOk result (rules.new.items ≡ rules.old.items ++ head_rules self.now head (Spot.Close state)) }
+    {
+        if self.last_accepts(state) {
+            self.push(rules, head, Spot::Done, plain(Word2::Empty))?;
+        }
+        Ok(())
+    }
+}
+
+// Rules of the packet's travel: what may happen on a link, and the further operations of a member.
+impl<'a> LazySystem<'a> {
+    /// On a link: the hops of the entry, and last, in an accepting state, to where the last header is read.
+    pub(crate) fn push_on_link(
+        &self,
+        alloc: Global,
+        rules: &mut Vec<Rule<Weight>>,
+        head: Head,
+        at: Arrival,
+    ) -> Result<(), NoMemory>
+        requires { IsArrival self.now at head.symbol }
+        ensures { OnOk result (rules.new.items ≡ rules.old.items ++ rules_for (encoding_of self.now) head (on_link_rules (encoding_of self.now) at.link at.state at.top.0)) }
+    {
+        self.push_entry(alloc, rules, head, at)?;
+        if self.path_accepts(at.state) {
+            self.push(rules, head, Spot::Close(0), plain(Word2::One(head.symbol)))?;
+        }
+        Ok(())
+    }
+
+    // The hops of an entry, group by group, as long as what must have failed may be down.
+    fn push_entry(
+        &self,
+        alloc: Global,
+        rules: &mut Vec<Rule<Weight>>,
+        head: Head,
+        at: Arrival,
+    ) -> Result<(), NoMemory>
+        requires { IsArrival self.now at head.symbol }
+        ensures { OnOk result (rules.new.items ≡ rules.old.items ++ rules_for (encoding_of self.now) head (entry_rules (encoding_of self.now) at.link at.state at.top)) }
+    {
+        self.keeps();
+        let net = self.network();
+        let bounds = self.limits();
+        let mut needs = Needs::none(alloc);
+        let mut first = net.first_member(at.link, at.top);
+        for (j, group) in net.entry(at.link, at.top).iter().enumerate() {
+            if !needs.may_be_down(bounds) {
+                return Ok(());
+            }
+            let members = group.as_slice();
+            self.push_group(rules, head, at, &needs, j as u32, first, members)?;
+            needs.add_members(net, bounds, members)?;
+            first += members.len() as u32;
+        }
+        Ok(())
+    }
+
+    // The hops of a group. Its first member has this number.
+    fn push_group(
+        &self,
+        rules: &mut Vec<Rule<Weight>>,
+        head: Head,
+        at: Arrival,
+        needs: &Needs,
+        group: u32,
+        first: u32,
+        members: &[Member],
+    ) -> Result<(), NoMemory>
+        requires at { IsArrival self.now at head.symbol }
+        requires needs { AreNeeds self.now at needs.now group }
+        requires group { IsGroup self.now at group first members.now }
+        ensures { OnOk result (rules.new.items ≡ rules.old.items ++ rules_for (encoding_of self.now) head (group_rules (encoding_of self.now) at.link at.state at.top group members.now)) }
+    {
+        self.keeps();
+        for (i, member) in members.iter().enumerate() {
+            let step = Step {
+                group,
+                member: i as u32,
+            };
+            self.push_hop(rules, head, at, needs, step, first + i as u32, member)?;
+        }
+        Ok(())
+    }
+
+    // The hops by a member of this number: one for each state that comes after by its link.
+    fn push_hop(
+        &self,
+        rules: &mut Vec<Rule<Weight>>,
+        head: Head,
+        at: Arrival,
+        needs: &Needs,
+        step: Step,
+        number: u32,
+        member: &Member,
+    ) -> Result<(), NoMemory>
+        requires at { IsArrival self.now at head.symbol }
+        requires needs { AreNeeds self.now at needs.now step.group }
+        requires member { IsMember self.now at step number member.now }
+        ensures { OnOk result (rules.new.items ≡ rules.old.items ++ rules_for (encoding_of self.now) head (hop_rules (encoding_of self.now) at.link at.state at.top step member.now)) }
+    {
+        self.keeps();
+        if !needs.may_be_up(self.network(), self.limits(), member.link) {
+            return Ok(());
+        }
+        let Some(word) = self.first_written(member.ops.as_slice(), at.top) else {
+            return Ok(());
+        };
+        let made = Made {
+            word,
+            weight: self.hop_weight(member, needs.risks.len()),
+            origin: Origin::Hop(step),
+        };
+        let states = self.path_after(at.state, member.link);
+        self.push_each(rules, head, states, Way::through(member, number, 1), made)
+    }
+
+    /// Amid the operations of the member of a number, so many of them done: the next one.
+    pub(crate) fn push_operation(
+        &self,
+        rules: &mut Vec<Rule<Weight>>,
+        head: Head,
+        number: u32,
+        done: u32,
+        state: u32,
+        top: Label,
+    ) -> Result<(), NoMemory>
+        requires symbol { head.symbol ≡ suc top.0 }
+        requires label { top.0 < length self.now.net.classes }
+        requires member { number < row_members self.now.net.rows }
+        requires done { (0 < done) × (done < 8) }
+        ensures { OnOk result (rules.new.items ≡ rules.old.items ++ head_rules self.now head (Spot.Mid number done state)) }
+    {
+        self.keeps();
+        let member = self.member(number);
+        let Some(op) = operation(member, done) else {
+            return Ok(());
+        };
+        let Some(word) = self.written(op, top) else {
+            return Ok(());
+        };
+        let made = Made {
+            word,
+            weight: effort(),
+            origin: Origin::Operation(number, done),
+        };
+        let to = Way::through(member, number, done + 1).to(state);
+        self.push(rules, head, to, made)
+    }
+}
+
+// The rules of a head.
+impl<'a> LazySystem<'a> {
     // Puts the rules of a head over the bottom at the end of a list.
     fn push_at_bottom(
         &self,
@@ -134,7 +612,7 @@ impl<'a> LazySystem<'a> {
         head: Head,
         spot: Spot,
     ) -> Result<(), NoMemory>
-        requires spot { Fits (layout_of (setup_given self.now)) spot }
+        requires spot { Fits (layout_of (encoding_of self.now)) spot }
         requires symbol { head.symbol ≡ 0 }
         ensures { OnOk result (rules.new.items ≡ rules.old.items ++ head_rules self.now head spot) }
     {
@@ -155,7 +633,7 @@ impl<'a> LazySystem<'a> {
         spot: Spot,
         top: Label,
     ) -> Result<(), NoMemory>
-        requires spot { Fits (layout_of (setup_given self.now)) spot }
+        requires spot { Fits (layout_of (encoding_of self.now)) spot }
         requires symbol { head.symbol ≡ suc top.0 }
         requires label { top.0 < length self.now.net.classes }
         ensures { OnOk result (rules.new.items ≡ rules.old.items ++ head_rules self.now head spot) }
@@ -166,7 +644,7 @@ impl<'a> LazySystem<'a> {
             Spot::Build(state) => self.push_build(rules, head, state),
             Spot::Close(state) => self.push_close(rules, head, state, top),
             Spot::OnLink(link, state) => {
-                self.push_on_link(alloc, rules, head, Place { link, state, top })
+                self.push_on_link(alloc, rules, head, Arrival { link, state, top })
             }
             Spot::Mid(member, done, state) => {
                 self.push_operation(rules, head, member, done, state, top)
@@ -185,7 +663,7 @@ impl<'a> LazySystem<'a> {
         rules: &mut Vec<Rule<Weight>>,
         head: Head,
     ) -> Result<(), NoMemory>
-        ensures { OnOk result (rules.new.items ≡ rules.old.items ++ rules_by (setup_given self.now) head.spot head.symbol) }
+        ensures { OnOk result (rules.new.items ≡ rules.old.items ++ rules_by (encoding_of self.now) head.spot head.symbol) }
     {
         let Some(spot) = self.spot_of(head.spot) else {
             return Ok(());
@@ -201,15 +679,16 @@ impl<'a> LazySystem<'a> {
 }
 
 impl<'a> System<Weight> for LazySystem<'a> {
-    ghost use Rattle.wi_build.specs.Systems.{setup_given, rules_by, rules_name_heads};
+    ghost use Rattle.wi_build.specs.Encodings.{encoding_of};
+    ghost use Rattle.wi_build.specs.Systems.{rules_by, rules_name_heads};
 
     ghost start_head = { λ s. (0, 0) };
 
-    ghost rules = { λ s. rules_by (setup_given s) };
+    ghost rules = { λ s. rules_by (encoding_of s) };
 
     ghost may_ask = { λ s p g. Unit {0} };
 
-    ghost names_head = { λ s. rules_name_heads (setup_given s) };
+    ghost names_head = { λ s. rules_name_heads (encoding_of s) };
 
     fn start(&self) -> (u64, u32) {
         (0, 0)

@@ -3,26 +3,21 @@
 #![tactic(auto)]
 
 mod head;
-mod header;
-mod hops;
 mod laws;
 mod layout;
 mod lazy;
 mod listed;
 mod needs;
-mod parts;
 mod states;
 mod tag;
 mod weights;
 
 pub use laws::{
-    goal_runs_answer_the_query, heads_have_few_rules, lists_have_the_rules, systems_have_the_rules,
+    goal_runs_answer_the_query, goal_runs_are_matching_runs, heads_have_few_rules,
+    lists_have_the_rules, problems_have_encodings, rules_are_few_and_fit, systems_have_the_rules,
     weights_fit,
 };
 pub use layout::Layout;
 pub use lazy::LazySystem;
 pub use listed::build;
 pub use wi_rules::{Origin, Spot};
-
-#[cfg(test)]
-mod tests;

@@ -2,8 +2,9 @@
 ghost use Rattle.std.specs.Prelude.{◌≡◌, ◌++◌, IfOk, OnOk};
 ghost use Rattle.wi_query.specs.Meaning.{IsQueryOf};
 ghost use Rattle.wi_world.specs.Moves.{AreBounds};
-ghost use Rattle.wi_setup.specs.Setups.{setup_of};
-ghost use Rattle.wi_build.specs.Systems.{setup_given, spot_rules, all_rules};
+ghost use Rattle.wi_build.specs.Encodings.{encoding_of};
+ghost use Rattle.wi_build.specs.Encodings.{encoding_of};
+ghost use Rattle.wi_build.specs.Systems.{spot_rules, all_rules};
 
 use crate::head::Head;
 use crate::lazy::LazySystem;
@@ -21,7 +22,7 @@ fn push_spot(
     rules: &mut Vec<Rule<Weight>>,
     spot: u64,
 ) -> Result<(), NoMemory>
-    ensures { OnOk result (rules.new.items ≡ rules.old.items ++ spot_rules (setup_given system.now) spot) }
+    ensures { OnOk result (rules.new.items ≡ rules.old.items ++ spot_rules (encoding_of system.now) spot) }
 {
     system.keeps();
     for symbol in 0..system.labels() + 1 {
@@ -43,7 +44,7 @@ pub fn build(
     requires query { IsQueryOf net.now query.now }
     requires bounds { AreBounds net.now bounds.now }
     ensures start { IfOk result (λ list. list.start ≡ (0, 0)) }
-    ensures rules { IfOk result (λ list. list.rules ≡ all_rules (setup_of net.now query.now vector.now bounds.now)) }
+    ensures rules { IfOk result (λ list. list.rules ≡ all_rules (encoding_of (record { net = net.now; query = query.now; vector = vector.now; bounds = bounds.now }))) }
 {
     let system = LazySystem::new(alloc, net, query, vector, bounds)?;
     let mut rules = Vec::new(alloc);

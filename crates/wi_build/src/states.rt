@@ -4,7 +4,7 @@ ghost use Rattle.wi_nfa.specs.Automata.{IsPositionAutomaton};
 ghost use Rattle.wi_nfa.specs.Left.{states_left};
 ghost use Rattle.wi_nfa.specs.Rows.{automaton_of};
 ghost use Rattle.wi_query.specs.Sets.{holds};
-ghost use Rattle.wi_setup.specs.Setups.{after, before};
+ghost use Rattle.wi_build.specs.Encodings.{after, before};
 
 use wi_nfa::States;
 use wi_query::{Expression, SymbolSet};

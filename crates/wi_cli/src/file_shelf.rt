@@ -1,21 +1,12 @@
 //! The files of the system, as a shelf.
-ghost use Rattle.std.specs.Prelude.{◌≡◌, ◌≤◌, ◌<◌, ℕ, [], List, None, false, IfOk, OnOk, vec_len, vec_capacity};
-ghost use Rattle.wi_base.specs.declared.shelf.CallKind.{CallKind};
-ghost use Rattle.wi_cli.specs.FileShelf.{call_of};
+ghost use Rattle.std.specs.Prelude.{◌≡◌, ◌≤◌, [], None, false, IfOk, vec_len};
 
 use crate::transfer::{read_within, write_whole};
-use std::alloc::{AllocError, Global};
+use std::alloc::Global;
 use std::marker::Model;
 use std::rt::Files;
 use std::{fs, io};
-use wi_base::{CallKind, FetchRefused, Shelf, StoreRefused};
-
-/// A call that failed: what it was to do, and on which file.
-#[derive(Drop)]
-pub struct FailedCall {
-    pub kind: CallKind,
-    pub name: String,
-}
+use wi_base::{CallKind, FailedCall, FetchRefused, Shelf, StoreRefused, room_to_note};
 
 /// The files of the system, by their paths. It doesn't tell what they hold. It notes its failed calls, and makes room
 /// for the note first: where there is none, no file is touched.
@@ -29,7 +20,7 @@ pub struct FileShelf<R: Files + Drop> {
 impl<R: Files + Drop> Model for FileShelf<R> {
     ghost use Rattle.std.specs.Prelude.{ℕ, List};
     ghost use Rattle.wi_base.specs.declared.shelf.CallKind.{CallKind};
-    ghost use Rattle.wi_cli.specs.FileShelf.{calls_of};
+    ghost use Rattle.wi_base.specs.FailedCalls.{calls_of};
 
     ghost Value = { List (CallKind × List ℕ) };
 
@@ -37,7 +28,7 @@ impl<R: Files + Drop> Model for FileShelf<R> {
 }
 
 impl<R: Files + Drop> FileShelf<R> {
-    ghost use Rattle.wi_cli.specs.FileShelf.{calls_of};
+    ghost use Rattle.wi_base.specs.FailedCalls.{calls_of};
 
     /// No call has failed yet.
     pub fn new(alloc: Global, files: R) -> FileShelf<R>
@@ -59,11 +50,7 @@ impl<R: Files + Drop> FileShelf<R> {
 }
 
 impl<R: Files + Drop> Shelf for FileShelf<R> {
-    ghost told = { λ _. false };
-
-    ghost file = { λ _ _. None };
-
-    ghost failed = { λ s. s };
+    ghost seen = { λ s. record { told = false; file = λ _. None; failed = s } };
 
     fn fetch(&mut self, name: &str, limit: u64) -> Result<Vec<u8>, FetchRefused> {
         let Ok(this_fetch) = room_to_note(&mut self.failed, CallKind::Fetch, name) else {
@@ -92,21 +79,6 @@ impl<R: Files + Drop> Shelf for FileShelf<R> {
             }
         }
     }
-}
-
-// A call as it is noted if it fails. There is room for it in the list.
-fn room_to_note(
-    failed: &mut Vec<FailedCall>,
-    kind: CallKind,
-    name: &str,
-) -> Result<FailedCall, AllocError>
-    ensures call { IfOk result (λ call. call_of call ≡ (kind, name.now)) }
-    ensures room { OnOk result (vec_len failed.new < vec_capacity failed.new) }
-    ensures list { failed.new.items ≡ failed.old.items }
-{
-    failed.reserve(1)?;
-    let name = String::from_str(*failed.allocator(), name)?;
-    Ok(FailedCall { kind, name })
 }
 
 // The bytes of a file.

@@ -38,11 +38,7 @@ impl<W: Write + Drop> StreamSink<W> {
 }
 
 impl<W: Write + Drop> Sink for StreamSink<W> {
-    ghost told = { λ _. false };
-
-    ghost written = { λ _. [] };
-
-    ghost faults = { λ s. s };
+    ghost seen = { λ s. record { told = false; written = []; faults = s } };
 
     fn put(&mut self, piece: &[u8]) -> Result<(), PutRefused> {
         match write_whole(&mut self.to, piece) {

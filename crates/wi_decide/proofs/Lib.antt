@@ -2,5 +2,4 @@ pub mod OrderLemmas
 pub mod SpellingLemmas
 pub mod RuleLemmas
 pub mod AnswerLemmas
-pub mod Classes
 pub mod ShownLemmas

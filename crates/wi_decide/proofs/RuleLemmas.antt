@@ -9,37 +9,38 @@ use Rattle.wi_quantity.specs.Weighing.{components}
 use Rattle.wi_pds.specs.declared.rule.Rule.{Rule}
 use Rattle.wi_pds.specs.Runs.{Pops, PopRun, run_weight}
 use Rattle.wi_saturate.specs.LeastTables.{AreReady}
-use Rattle.wi_rules.specs.Goals.{told_of}
-use Rattle.wi_rules.specs.Numbers.{told_by}
+use Rattle.wi_rules.specs.Goals.{origins_for}
+use Rattle.wi_rules.specs.Numbers.{origins_by}
 use Rattle.wi_rules.proofs.Pops.{match_pops, pops_match, tells_match}
-use Rattle.wi_setup.specs.Answers.{IsAnswering}
-use Rattle.wi_setup.proofs.Sound.{sound, to_match, of_match}
-use Rattle.wi_build.specs.Systems.{Given, IsGiven, rules_by, setup_given}
+use Rattle.wi_build.specs.Problems.{IsAnswering, Problem, IsProblem}
+use Rattle.wi_build.proofs.Sound.{sound, to_match, of_match}
+use Rattle.wi_build.specs.Encodings.{encoding_of}
+use Rattle.wi_build.specs.Systems.{rules_by}
 use Rattle.wi_build.proofs.FitLemmas.{few, fit}
 use Rattle.wi_build.proofs.LawLemmas.{systems}
 use Rattle.wi_decide.specs.Spelled.{origin, scale}
 
-module _ (given : Given) (k : IsGiven given) where
+module _ (problem : Problem) (k : IsProblem problem) where
   -- a run that answers is that of a goal run
-  pub answers_pop : (w : List ℕ) (run : Run) → IsAnswering given.net given.query given.vector given.bounds w run → Pops scale components (rules_by (setup_given given)) 0 0 1 w
+  pub answers_pop : (w : List ℕ) (run : Run) → IsAnswering problem w run → Pops scale components (rules_by (encoding_of problem)) 0 0 1 w
   answers_pop w run a =
-      match_pops (setup_given given) (sound given.net given.query given.vector given.bounds k) scale components origin (rules_by (setup_given given)) (systems given k) refl w run
-      (to_match given.net given.query given.vector given.bounds k w run a)
+      match_pops (encoding_of problem) (sound problem k) scale components origin (rules_by (encoding_of problem)) (systems problem k) refl w run
+      (to_match problem k w run a)
 
   -- a goal run is that of a run that answers
-  pub pops_answer : (w : List ℕ) → Pops scale components (rules_by (setup_given given)) 0 0 1 w → (run : Run) × IsAnswering given.net given.query given.vector given.bounds w run
+  pub pops_answer : (w : List ℕ) → Pops scale components (rules_by (encoding_of problem)) 0 0 1 w → (run : Run) × IsAnswering problem w run
   pops_answer w h =
-      let m = pops_match (setup_given given) (sound given.net given.query given.vector given.bounds k) scale components origin (rules_by (setup_given given)) (systems given k) refl w h in
-      (m.0, of_match given.net given.query given.vector given.bounds k w m.0 m.1)
+      let m = pops_match (encoding_of problem) (sound problem k) scale components origin (rules_by (encoding_of problem)) (systems problem k) refl w h in
+      (m.0, of_match problem k w m.0 m.1)
 
   -- which its rules tell
-  pub rules_tell : (rs : List (Rule (Pair Terms Effort))) → PopRun (rules_by (setup_given given)) 0 0 1 rs
-      → (run : Run) × IsAnswering given.net given.query given.vector given.bounds (run_weight scale components rs) run × (told_by origin rs ≡ told_of run)
+  pub rules_tell : (rs : List (Rule (Pair Terms Effort))) → PopRun (rules_by (encoding_of problem)) 0 0 1 rs
+      → (run : Run) × IsAnswering problem (run_weight scale components rs) run × (origins_by origin rs ≡ origins_for run)
   rules_tell rs h =
-      let m = tells_match (setup_given given) (sound given.net given.query given.vector given.bounds k) scale components origin (rules_by (setup_given given)) (systems given k) refl rs h in
-      (m.0, of_match given.net given.query given.vector given.bounds k (run_weight scale components rs) m.0 m.1, m.2)
+      let m = tells_match (encoding_of problem) (sound problem k) scale components origin (rules_by (encoding_of problem)) (systems problem k) refl rs h in
+      (m.0, of_match problem k (run_weight scale components rs) m.0 m.1, m.2)
 
 -- the rules of each head are few, and fit
-pub ready : (given : Given) (heads : List (ℕ × ℕ)) → IsGiven given → is_vector given.vector ≡ true
-    → AreReady components (rules_by (setup_given given)) heads
-ready given heads k v = record { count = λ p g h. few given k p g; small = λ p g r h there. fit given k v p g r there }
+pub ready : (problem : Problem) (heads : List (ℕ × ℕ)) → IsProblem problem → is_vector problem.vector ≡ true
+    → AreReady components (rules_by (encoding_of problem)) heads
+ready problem heads k v = record { count = λ p g h. few problem k p g; small = λ p g r h there. fit problem k v p g r there }

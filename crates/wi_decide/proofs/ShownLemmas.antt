@@ -23,15 +23,16 @@ use Rattle.wi_quantity.specs.Weighing.{components, term_value, term_values, memb
 use Rattle.wi_pds.specs.declared.rule.Rule.{Rule}
 use Rattle.wi_pds.specs.Runs.{Run, Pops, run_weight, symbols}
 use Rattle.wi_rules.specs.declared.spot.Spot.{Spot}
-use Rattle.wi_rules.specs.Rules.{SpotRule, IsSetup, rules_of}
+use Rattle.wi_rules.specs.Rules.{SpotRule, IsEncoding, rules_of}
 use Rattle.wi_rules.specs.Numbers.{NumberedRule, layout_of, spot_of, numbered, rules_at_number}
 use Rattle.wi_rules.proofs.Lists.{contains_in, map_in, option_in}
-use Rattle.wi_setup.proofs.Sound.{sound}
-use Rattle.wi_setup.proofs.RuleShares.{shares_hold}
-use Rattle.wi_build.specs.Systems.{Given, IsGiven, rule_at, rules_by, setup_given}
+use Rattle.wi_build.proofs.Sound.{sound}
+use Rattle.wi_build.proofs.RuleShares.{shares_hold}
+use Rattle.wi_build.specs.Problems.{Problem, IsProblem, problem_of}
+use Rattle.wi_build.specs.Encodings.{encoding_of}
+use Rattle.wi_build.specs.Systems.{rule_at, rules_by}
 use Rattle.wi_build.proofs.LawLemmas.{weight_tells}
 use Rattle.wi_decide.specs.Spelled.{scale}
-use Rattle.wi_decide.specs.Tables.{asked}
 use Rattle.wi_decide.specs.Refusals.{IsOverflowing}
 
 -- where lists have nothing but 0
@@ -64,53 +65,53 @@ pub record IsZeroFrom (n : ℕ) (share : List ℕ) : Type 0 where
   pub five : length share ≡ 5
   pub past : (i : ℕ) → n ≤ i → slice_index share i ≡ 0
 
-module _ (given : Given) (k : IsGiven given) where
-  is_setup : IsSetup (setup_given given)
-  is_setup = sound given.net given.query given.vector given.bounds k
+module _ (problem : Problem) (k : IsProblem problem) where
+  is_encoding : IsEncoding (encoding_of problem)
+  is_encoding = sound problem k
 
   -- what links and hops add to terms
-  first_zero : (e : LinkId) → IsZeroFrom (length given.vector) (take 5 (first_weight given.net given.vector e.0))
-  first_zero e = record { five = is_setup.first_length e; past = values_at (λ q. link_share q given.net (record { 0 = e.0 })) given.vector }
+  first_zero : (e : LinkId) → IsZeroFrom (length problem.vector) (take 5 (first_weight problem.net problem.vector e.0))
+  first_zero e = record { five = is_encoding.first_length e; past = values_at (λ q. link_share q problem.net (record { 0 = e.0 })) problem.vector }
 
-  entry_at : (groups : List (List Member)) (j : ℕ) (o : Option Member) (i : ℕ) → length given.vector ≤ i
-      → slice_index (take 5 (option_map_or (λ (member : Member). hop_weight given.net given.vector member (risk_count given.net (before given.net groups j))) o (replicate 6 0))) i ≡ 0
+  entry_at : (groups : List (List Member)) (j : ℕ) (o : Option Member) (i : ℕ) → length problem.vector ≤ i
+      → slice_index (take 5 (option_map_or (λ (member : Member). hop_weight problem.net problem.vector member (risk_count problem.net (before problem.net groups j))) o (replicate 6 0))) i ≡ 0
   entry_at groups j None i past = take_at 5 (replicate 6 0) i (zeros_at 6 i)
-  entry_at groups j (Some member) i past = values_at (λ q. member_share q given.net member (risk_count given.net (before given.net groups j))) given.vector i past
+  entry_at groups j (Some member) i past = values_at (λ q. member_share q problem.net member (risk_count problem.net (before problem.net groups j))) problem.vector i past
 
-  step_zero : (e : LinkId) (l : Label) (step : Step) → IsZeroFrom (length given.vector) (take 5 (entry_weight given.net given.vector (entry given.net e l) step.group step.member))
+  step_zero : (e : LinkId) (l : Label) (step : Step) → IsZeroFrom (length problem.vector) (take 5 (entry_weight problem.net problem.vector (entry problem.net e l) step.group step.member))
   step_zero e l step = record {
-    five = is_setup.step_length e l step;
-    past = entry_at (entry given.net e l) step.group (member_in (entry given.net e l) step.group step.member);
+    five = is_encoding.step_length e l step;
+    past = entry_at (entry problem.net e l) step.group (member_in (entry problem.net e l) step.group step.member);
   }
 
   -- what a rule weighs
-  spot_rule_at : (n g : ℕ) (rule : SpotRule) → length rule.share ≡ 5 → ((i : ℕ) → length given.vector ≤ i → slice_index rule.share i ≡ 0)
-      → (i : ℕ) → length given.vector ≤ i → i < 5 → slice_index (components (rule_at n g (numbered (setup_given given) rule)).weight) i ≡ 0
+  spot_rule_at : (n g : ℕ) (rule : SpotRule) → length rule.share ≡ 5 → ((i : ℕ) → length problem.vector ≤ i → slice_index rule.share i ≡ 0)
+      → (i : ℕ) → length problem.vector ≤ i → i < 5 → slice_index (components (rule_at n g (numbered (encoding_of problem) rule)).weight) i ≡ 0
   spot_rule_at n g rule five none i past low =
       ap (λ xs. slice_index xs i) (weight_tells (rule.share ++ 1 ∷ []) (length-append rule.share (1 ∷ []) ∙ omega arith))
       ∙ get_or_append_left rule.share (1 ∷ []) 0 i (omega arith) ∙ none i past
 
-  rule_weighs : (n g : ℕ) (r : Rule (Pair Terms Effort)) → Contains (rules_by (setup_given given) n g) r → (i : ℕ) → length given.vector ≤ i → i < 5 → slice_index (components r.weight) i ≡ 0
+  rule_weighs : (n g : ℕ) (r : Rule (Pair Terms Effort)) → Contains (rules_by (encoding_of problem) n g) r → (i : ℕ) → length problem.vector ≤ i → i < 5 → slice_index (components r.weight) i ≡ 0
   rule_weighs n g r h i past low =
-      let s = setup_given given in
+      let s = encoding_of problem in
       let a = map_in (λ (x : NumberedRule). rule_at n g x) (rules_at_number s n g) r (contains_in (rules_by s n g) r h) in
       let b = option_in (λ (p : Spot). map (λ (x : SpotRule). numbered s x) (rules_of s p g)) (spot_of (layout_of s) n) a.0 a.1 in
       let d = map_in (λ (x : SpotRule). numbered s x) (rules_of s b.0 g) a.0 b.2 in
-      let share : IsZeroFrom (length given.vector) (d.0).share =
-      shares_hold s is_setup (λ (x : List ℕ). IsZeroFrom (length given.vector) x) (record { five = refl; past = λ j p. zeros_at 5 j }) first_zero step_zero b.0 g d.0 d.1 in
+      let share : IsZeroFrom (length problem.vector) (d.0).share =
+      shares_hold s is_encoding (λ (x : List ℕ). IsZeroFrom (length problem.vector) x) (record { five = refl; past = λ j p. zeros_at 5 j }) first_zero step_zero b.0 g d.0 d.1 in
       let same : rule_at n g (numbered s d.0) ≡ r = ap (λ (x : NumberedRule). rule_at n g x) d.2 ∙ a.2 in
       subst (λ (x : Rule (Pair Terms Effort)). slice_index (components x.weight) i ≡ 0) same (spot_rule_at n g d.0 share.five share.past i past low)
 
   -- and what runs do
-  run_at : (rs : List (Rule (Pair Terms Effort))) (p : ℕ) (s : List ℕ) (q : ℕ) (t : List ℕ) → Run (rules_by (setup_given given)) p s rs q t
-      → (i : ℕ) → length given.vector ≤ i → i < 5 → slice_index (run_weight scale components rs) i ≡ 0
+  run_at : (rs : List (Rule (Pair Terms Effort))) (p : ℕ) (s : List ℕ) (q : ℕ) (t : List ℕ) → Run (rules_by (encoding_of problem)) p s rs q t
+      → (i : ℕ) → length problem.vector ≤ i → i < 5 → slice_index (run_weight scale components rs) i ≡ 0
   run_at [] p s q t run i past low = zeros_at 6 i
   run_at (r ∷ rs) p [] q t run i past low = absurd run
   run_at (r ∷ rs) p (g ∷ s) q t (there, more) i past low =
       plus_at (components r.weight) (run_weight scale components rs) i
       ∙ rw (rule_weighs p g r there i past low, run_at rs r.to (symbols r.word ++ s) q t more i past low) refl
 
-  pops_at : (p g q : ℕ) (w : List ℕ) → Pops scale components (rules_by (setup_given given)) p g q w → (i : ℕ) → length given.vector ≤ i → i < 5 → slice_index w i ≡ 0
+  pops_at : (p g q : ℕ) (w : List ℕ) → Pops scale components (rules_by (encoding_of problem)) p g q w → (i : ℕ) → length problem.vector ≤ i → i < 5 → slice_index w i ≡ 0
   pops_at p g q w pops i past low = ap (λ x. slice_index x i) (sym pops.2) ∙ run_at pops.0 p (g ∷ []) q [] pops.1 i past low
 
 -- numbers and a last one are below a bound, where so many of them and the last one are and the others are 0
@@ -122,9 +123,7 @@ below_shown bound zero (x ∷ xs) last some past h =
     (omega arith, below_shown bound zero xs last some (λ i l u. past (suc i) (omega arith) (omega arith)) h)
 below_shown bound (suc n) (x ∷ xs) last some past h = (h.0, below_shown bound n xs last some (λ i l u. past (suc i) (omega arith) (omega arith)) h.1)
 
-pub overflow_shown : (net : Net) (query : Query) (vector : List (List Part)) (w : Pair Terms Effort) → IsNetwork net → IsQueryOf net query → IsOverflowing net query vector (components w)
-    → EachBelow (2 ^ 64) (take (length vector) (components w) ++ w.second.count ∷ []) → ⊥
-overflow_shown net query vector w network is h below =
-    let k : IsGiven (asked net query vector) = record { network = network; query_of = is; bounds_of = is.bounds } in
-    h.overflow.unfit (below_shown (2 ^ 64) (length vector) (take 5 (components w)) w.second.count (omega arith)
-    (λ i past low. take_at 5 (components w) i (pops_at (asked net query vector) k h.p h.g h.q (components w) h.overflow.wanted.least.0 i past (omega (arith, low)))) below)
+pub overflow_shown : (problem : Problem) (w : Pair Terms Effort) → IsProblem problem → IsOverflowing problem (components w) → EachBelow (2 ^ 64) (take (length problem.vector) (components w) ++ w.second.count ∷ []) → ⊥
+overflow_shown problem w k h below =
+    h.overflow.unfit (below_shown (2 ^ 64) (length problem.vector) (take 5 (components w)) w.second.count (omega arith)
+    (λ i past low. take_at 5 (components w) i (pops_at problem k h.p h.g h.q (components w) h.overflow.wanted.least.0 i past (omega (arith, low)))) below)

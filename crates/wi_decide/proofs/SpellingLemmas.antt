@@ -23,12 +23,13 @@ use Rattle.wi_pds.specs.declared.rule.RuleId.{RuleId}
 use Rattle.wi_witness.specs.GoalRuns.{IsNamedRun, Names}
 use Rattle.wi_rules.specs.declared.spot.Origin.{Origin}
 use Rattle.wi_rules.specs.declared.spot.Origin.TheVariants.{Pushed, SetOut, Hop, Operation, Nothing}
-use Rattle.wi_rules.specs.Goals.{telling, told_of, hops_of}
-use Rattle.wi_rules.specs.Numbers.{Layout, told_by}
+use Rattle.wi_rules.specs.Goals.{main_origin, origins_for, hops_of}
+use Rattle.wi_rules.specs.Numbers.{Layout, origins_by}
 use Rattle.wi_rules.proofs.Ops.{class_known}
-use Rattle.wi_setup.specs.Answers.{IsAnswering}
-use Rattle.wi_build.specs.Systems.{Given, IsGiven, rules_by, setup_given}
-use Rattle.wi_decide.specs.Spelled.{AreRulesFor, IsToldRun, Spelled, classed, is_named, is_origin_of, named, origin, scale, unspelled, with_origin, with_rules}
+use Rattle.wi_build.specs.Problems.{IsAnswering, Problem, IsProblem}
+use Rattle.wi_build.specs.Encodings.{encoding_of}
+use Rattle.wi_build.specs.Systems.{rules_by}
+use Rattle.wi_decide.specs.Spelled.{AreRulesFor, IsSpelledRun, Spelled, classed, is_named, is_origin_of, named, origin, scale, unspelled, with_origin, with_rules}
 use Rattle.wi_decide.proofs.RuleLemmas.{rules_tell}
 
 -- what is told of a whole run
@@ -74,7 +75,7 @@ module _ (net : Net) where
       hopped_all (with_origin net s (Hop step)) steps
       ∙ ap (λ (x : List Step). record s { steps = x }) (append_assoc s.steps (step ∷ []) steps)
 
-  told_whole : (run : Run) → labels_known net run.header ≡ true → with_all net unspelled (told_of run) ≡ whole run
+  told_whole : (run : Run) → labels_known net run.header ≡ true → with_all net unspelled (origins_for run) ≡ whole run
   told_whole run k =
       pushed_all unspelled (reverse run.header) (SetOut run.first ∷ hops_of run.steps) (known_reversed run.header k)
       ∙ hopped_all (record { from_bottom = reverse run.header; first = Some run.first; steps = [] }) run.steps
@@ -92,7 +93,7 @@ module _ (net : Net) where
   hops_known [] = refl
   hops_known (step ∷ steps) = hops_known steps
 
-  told_known : (run : Run) → IsNetwork net → labels_known net run.header ≡ true → list_all (is_origin_of net) (told_of run) ≡ true
+  told_known : (run : Run) → IsNetwork net → labels_known net run.header ≡ true → list_all (is_origin_of net) (origins_for run) ≡ true
   told_known run k known = pushes_known (reverse run.header) (SetOut run.first ∷ hops_of run.steps) k (known_reversed run.header known) (hops_known run.steps)
 
   module _ (rules : ℕ → ℕ → List (Rule (Pair Terms Effort))) where
@@ -101,7 +102,7 @@ module _ (net : Net) where
     first_named p g id r e f at = ap (λ (x : ℕ). slice_get (rules x id.g) id.at) e ∙ ap (λ (x : ℕ). slice_get (rules p x) id.at) f ∙ at
 
     -- a rule that tells nothing changes nothing
-    told_one : (s : Spelled) (o : Origin) (os : List Origin) → with_all net (with_origin net s o) os ≡ with_all net s (telling o ++ os)
+    told_one : (s : Spelled) (o : Origin) (os : List Origin) → with_all net (with_origin net s o) os ≡ with_all net s (main_origin o ++ os)
     told_one s (Pushed l) os = refl
     told_one s (SetOut e) os = refl
     told_one s (Hop step) os = refl
@@ -109,7 +110,7 @@ module _ (net : Net) where
     told_one s Nothing os = refl
 
     names_tell : (s : Spelled) (p : ℕ) (stack : List ℕ) (ids : List RuleId) (rs : List (Rule (Pair Terms Effort))) → Names rules p stack ids rs
-        → with_rules net rules s ids ≡ with_all net s (told_by origin rs)
+        → with_rules net rules s ids ≡ with_all net s (origins_by origin rs)
     names_tell s p [] [] [] h = refl
     names_tell s p (g ∷ stack) [] [] h = refl
     names_tell s p [] [] (r ∷ rs) h = absurd h
@@ -120,9 +121,9 @@ module _ (net : Net) where
     names_tell s p (g ∷ stack) (id ∷ ids) (r ∷ rs) h =
         ap (λ (x : Option (Rule (Pair Terms Effort))). with_rules net rules (option_map_or (λ (rule : Rule (Pair Terms Effort)). with_origin net s (origin rule)) x s) ids) (first_named p g id r h.0 h.1 h.2)
         ∙ names_tell (with_origin net s (origin r)) r.to _ ids rs h.3
-        ∙ told_one s (origin r) (told_by origin rs)
+        ∙ told_one s (origin r) (origins_by origin rs)
 
-    known_one : (o : Origin) (os : List Origin) → list_all (is_origin_of net) (telling o ++ os) ≡ true → (is_origin_of net o ≡ true) × (list_all (is_origin_of net) os ≡ true)
+    known_one : (o : Origin) (os : List Origin) → list_all (is_origin_of net) (main_origin o ++ os) ≡ true → (is_origin_of net o ≡ true) × (list_all (is_origin_of net) os ≡ true)
     known_one (Pushed l) os h = and_parts (is_origin_of net (Pushed l)) (list_all (is_origin_of net) os) h
     known_one (SetOut e) os h = (refl, h)
     known_one (Hop step) os h = (refl, h)
@@ -130,7 +131,7 @@ module _ (net : Net) where
     known_one Nothing os h = (refl, h)
 
     names_known : (p : ℕ) (stack : List ℕ) (ids : List RuleId) (rs : List (Rule (Pair Terms Effort))) → Names rules p stack ids rs
-        → list_all (is_origin_of net) (told_by origin rs) ≡ true → list_all (is_named net rules) ids ≡ true
+        → list_all (is_origin_of net) (origins_by origin rs) ≡ true → list_all (is_named net rules) ids ≡ true
     names_known p [] [] [] h known = refl
     names_known p (g ∷ stack) [] [] h known = refl
     names_known p [] [] (r ∷ rs) h known = absurd h
@@ -139,52 +140,52 @@ module _ (net : Net) where
     names_known p [] (id ∷ ids) (r ∷ rs) h known = absurd h
     names_known p (g ∷ stack) (id ∷ ids) [] h known = absurd h
     names_known p (g ∷ stack) (id ∷ ids) (r ∷ rs) h known =
-        let parts = known_one (origin r) (told_by origin rs) known in
+        let parts = known_one (origin r) (origins_by origin rs) known in
         let here : is_named net rules id ≡ true = ap (λ (x : Option (Rule (Pair Terms Effort))). option_map_or (λ (rule : Rule (Pair Terms Effort)). is_origin_of net (origin rule)) x false) (first_named p g id r h.0 h.1 h.2) ∙ parts.0 in
         and_from (is_named net rules id) (list_all (is_named net rules) ids) here (names_known r.to _ ids rs h.3 parts.1)
 
 -- the run that a goal run tells
-pub record IsTold (given : Given) (net : Net) (rules : ℕ → ℕ → List (Rule (Pair Terms Effort))) (ids : List RuleId) (w : List ℕ) (rs : List (Rule (Pair Terms Effort))) (run : Run) : Type 0 where
-  pub answers : IsAnswering given.net given.query given.vector given.bounds w run
-  pub told : told_by origin rs ≡ told_of run
+pub record IsTold (problem : Problem) (net : Net) (rules : ℕ → ℕ → List (Rule (Pair Terms Effort))) (ids : List RuleId) (w : List ℕ) (rs : List (Rule (Pair Terms Effort))) (run : Run) : Type 0 where
+  pub answers : IsAnswering problem w run
+  pub told : origins_by origin rs ≡ origins_for run
   pub named : list_all (is_named net rules) ids ≡ true
   pub whole : with_rules net rules unspelled ids ≡ whole run
 
-module _ (given : Given) (k : IsGiven given) (ids : List RuleId) (w : List ℕ) where
-  at_given : (goal : IsNamedRun scale components (rules_by (setup_given given)) 0 0 1 ids w)
-      → (run : Run) × IsTold given given.net (rules_by (setup_given given)) ids w goal.0 run
+module _ (problem : Problem) (k : IsProblem problem) (ids : List RuleId) (w : List ℕ) where
+  at_given : (goal : IsNamedRun scale components (rules_by (encoding_of problem)) 0 0 1 ids w)
+      → (run : Run) × IsTold problem problem.net (rules_by (encoding_of problem)) ids w goal.0 run
   at_given goal =
-      let t = rules_tell given k goal.0 goal.1 in
-      let answers : IsAnswering given.net given.query given.vector given.bounds w t.0 = subst (λ (x : List ℕ). IsAnswering given.net given.query given.vector given.bounds x t.0) goal.3 t.1 in
-      let known : labels_known given.net t.0.header ≡ true =
-      (and_parts (is_link given.net t.0.first && not (has given.bounds.down t.0.first) && is_valid_header t.0.header) (labels_known given.net t.0.header) answers.moving.start).1 in
-      let all_known : list_all (is_origin_of given.net) (told_by origin goal.0) ≡ true = ap (λ (os : List Origin). list_all (is_origin_of given.net) os) t.2 ∙ told_known given.net t.0 k.network known in (
+      let t = rules_tell problem k goal.0 goal.1 in
+      let answers : IsAnswering problem w t.0 = subst (λ (x : List ℕ). IsAnswering problem x t.0) goal.3 t.1 in
+      let known : labels_known problem.net t.0.header ≡ true =
+      (and_parts (is_link problem.net t.0.first && not (has problem.bounds.down t.0.first) && is_valid_header t.0.header) (labels_known problem.net t.0.header) answers.moving.start).1 in
+      let all_known : list_all (is_origin_of problem.net) (origins_by origin goal.0) ≡ true = ap (λ (os : List Origin). list_all (is_origin_of problem.net) os) t.2 ∙ told_known problem.net t.0 k.network known in (
         t.0,
         record {
           answers = answers;
           told = t.2;
-          named = names_known given.net (rules_by (setup_given given)) 0 (0 ∷ []) ids goal.0 goal.2 all_known;
-          whole = names_tell given.net (rules_by (setup_given given)) unspelled 0 (0 ∷ []) ids goal.0 goal.2
-              ∙ ap (λ (os : List Origin). with_all given.net unspelled os) t.2
-              ∙ told_whole given.net t.0 known;
+          named = names_known problem.net (rules_by (encoding_of problem)) 0 (0 ∷ []) ids goal.0 goal.2 all_known;
+          whole = names_tell problem.net (rules_by (encoding_of problem)) unspelled 0 (0 ∷ []) ids goal.0 goal.2
+              ∙ ap (λ (os : List Origin). with_all problem.net unspelled os) t.2
+              ∙ told_whole problem.net t.0 known;
         },
       )
 
-  by_rules : (rules : ℕ → ℕ → List (Rule (Pair Terms Effort))) → rules ≡ rules_by (setup_given given)
-      → (goal : IsNamedRun scale components rules 0 0 1 ids w) → (run : Run) × IsTold given given.net rules ids w goal.0 run
+  by_rules : (rules : ℕ → ℕ → List (Rule (Pair Terms Effort))) → rules ≡ rules_by (encoding_of problem)
+      → (goal : IsNamedRun scale components rules 0 0 1 ids w) → (run : Run) × IsTold problem problem.net rules ids w goal.0 run
   by_rules rules e =
-      subst (λ (rs : ℕ → ℕ → List (Rule (Pair Terms Effort))). (goal : IsNamedRun scale components rs 0 0 1 ids w) → (run : Run) × IsTold given given.net rs ids w goal.0 run) (sym e) at_given
+      subst (λ (rs : ℕ → ℕ → List (Rule (Pair Terms Effort))). (goal : IsNamedRun scale components rs 0 0 1 ids w) → (run : Run) × IsTold problem problem.net rs ids w goal.0 run) (sym e) at_given
 
 -- the ids of a goal run tell a run that answers
-pub goal_tells : (given : Given) (net : Net) (layout : Layout) (rules : ℕ → ℕ → List (Rule (Pair Terms Effort))) (ids : List RuleId) (w : List ℕ) → AreRulesFor given net layout rules
-    → (goal : IsNamedRun scale components rules 0 0 1 ids w) → (run : Run) × IsTold given net rules ids w goal.0 run
-goal_tells given net layout rules ids w are goal =
-    let t = by_rules given are.are_given ids w rules are.rules_are goal in
-    (t.0, subst (λ (n : Net). IsTold given n rules ids w goal.0 t.0) are.net_is t.1)
+pub goal_tells : (problem : Problem) (net : Net) (layout : Layout) (rules : ℕ → ℕ → List (Rule (Pair Terms Effort))) (ids : List RuleId) (w : List ℕ) → AreRulesFor problem net layout rules
+    → (goal : IsNamedRun scale components rules 0 0 1 ids w) → (run : Run) × IsTold problem net rules ids w goal.0 run
+goal_tells problem net layout rules ids w are goal =
+    let t = by_rules problem are.is_problem ids w rules are.rules_are goal in
+    (t.0, subst (λ (n : Net). IsTold problem n rules ids w goal.0 t.0) are.net_is t.1)
 
 -- a run that was told is the one that it was told of
-pub told_same : (s : Spelled) (run told : Run) → IsToldRun s run → s ≡ whole told → run ≡ told
-told_same s run told is e =
+pub spelled_same : (s : Spelled) (run told : Run) → IsSpelledRun s run → s ≡ whole told → run ≡ told
+spelled_same s run told is e =
     let first : Some run.first ≡ Some told.first = sym is.first ∙ ap (λ (x : Spelled). x.first) e in
     let same_first : run.first ≡ told.first = cc in
     let same_header : run.header ≡ told.header = is.header ∙ ap (λ (x : Spelled). reverse x.from_bottom) e ∙ reverse-reverse told.header in

@@ -19,7 +19,9 @@ use Rattle.wi_rules.specs.declared.spot.Origin.{Origin}
 use Rattle.wi_rules.specs.declared.spot.Origin.TheVariants.{Pushed, SetOut, Hop}
 use Rattle.wi_rules.specs.Numbers.{Layout, layout_of}
 use Rattle.wi_build.specs.Tags.{origin_of}
-use Rattle.wi_build.specs.Systems.{Given, IsGiven, setup_given, rules_by}
+use Rattle.wi_build.specs.Problems.{Problem, IsProblem}
+use Rattle.wi_build.specs.Encodings.{encoding_of}
+use Rattle.wi_build.specs.Systems.{rules_by}
 
 -- how weights compare: by five terms, and then by the effort
 abbrev pub scale : Scale
@@ -30,11 +32,11 @@ abbrev pub origin : Rule (Pair Terms Effort) → Origin
 origin rule = origin_of rule.tag
 
 -- a system's rules are those of a network and a query, and a layout numbers their spots
-pub record AreRulesFor (given : Given) (net : Net) (layout : Layout) (rules : ℕ → ℕ → List (Rule (Pair Terms Effort))) : Type 0 where
-  pub are_given : IsGiven given
-  pub net_is : given.net ≡ net
-  pub layout_is : layout ≡ layout_of (setup_given given)
-  pub rules_are : rules ≡ rules_by (setup_given given)
+pub record AreRulesFor (problem : Problem) (net : Net) (layout : Layout) (rules : ℕ → ℕ → List (Rule (Pair Terms Effort))) : Type 0 where
+  pub is_problem : IsProblem problem
+  pub net_is : problem.net ≡ net
+  pub layout_is : layout ≡ layout_of (encoding_of problem)
+  pub rules_are : rules ≡ rules_by (encoding_of problem)
 
 -- a run as far as rules have told of it: the labels of its first header from the bottom, its first link, its steps
 pub record Spelled : Type 0 where
@@ -75,7 +77,7 @@ abbrev pub is_named : Net → (ℕ → ℕ → List (Rule (Pair Terms Effort))) 
 is_named net rules id = option_map_or (λ rule. is_origin_of net (origin rule)) (named rules id) false
 
 -- the whole run that was told
-pub record IsToldRun (s : Spelled) (run : Run) : Type 0 where
+pub record IsSpelledRun (s : Spelled) (run : Run) : Type 0 where
   pub first : s.first ≡ Some run.first
   pub header : run.header ≡ reverse s.from_bottom
   pub steps : run.steps ≡ s.steps

@@ -7,9 +7,11 @@ ghost use Rattle.wi_quantity.specs.Vectors.{is_vector};
 ghost use Rattle.wi_quantity.specs.Weighing.{components};
 ghost use Rattle.wi_pds.specs.Closed.{AreClosed};
 ghost use Rattle.wi_witness.specs.GoalRuns.{IsNamedRun};
-ghost use Rattle.wi_build.specs.Systems.{Given, IsGiven, setup_given, rules_by};
+ghost use Rattle.wi_build.specs.Problems.{Problem, IsProblem, problem_of};
+ghost use Rattle.wi_build.specs.Encodings.{encoding_of};
+ghost use Rattle.wi_build.specs.Systems.{rules_by};
 ghost use Rattle.wi_decide.specs.Spelled.{scale};
-ghost use Rattle.wi_decide.specs.Tables.{asked, IsTable, HasTable, IsNoTable, IsNotShown, IsLeastRun};
+ghost use Rattle.wi_decide.specs.Tables.{IsTable, HasTable, IsNoTable, IsNotShown, IsLeastRun};
 ghost use Rattle.wi_decide.specs.Decided.{IsDecided};
 ghost use Rattle.wi_decide.specs.Refusals.{IsUndecided, IsUnrefused};
 
@@ -41,9 +43,9 @@ pub fn decide(
     vector: &Vector,
 ) -> Result<Answer, DecideRefused>
     requires { IsQueryOf net.now query.now }
-    ensures decided { IfOk result (λ answer. IsDecided net.now query.now vector.now answer) }
-    ensures refused { IfErr result (λ refused. IsUndecided net.now query.now vector.now refused) }
-    ensures unrefused { IfOk result (λ answer. IsUnrefused net.now query.now vector.now answer) }
+    ensures decided { IfOk result (λ answer. IsDecided (problem_of net.now query.now vector.now) answer) }
+    ensures refused { IfErr result (λ refused. IsUndecided (problem_of net.now query.now vector.now) refused) }
+    ensures unrefused { IfOk result (λ answer. IsUnrefused (problem_of net.now query.now vector.now) answer) }
 {
     net.keeps();
     vector.keeps();
@@ -68,9 +70,9 @@ fn table_of<L: Ledger, M: Ledger>(
     requires other_name { other.name ≡ M.name }
     requires other_parts { other.parts ≡ M.parts }
     requires other_some { 0 < other.parts }
-    requires given { IsGiven system.now }
+    requires problem { IsProblem system.now }
     requires vector { is_vector system.now.vector ≡ true }
-    requires closed { AreClosed (rules_by (setup_given system.now)) (0, 0) heads.now.heads heads.now.pairs }
+    requires closed { AreClosed (rules_by (encoding_of system.now)) (0, 0) heads.now.heads heads.now.pairs }
     ensures table { IfOk result (λ table. IsTable system.now heads.now.heads table) }
     ensures refused { IfErr result (λ refused. IsNoTable system.now heads.now.heads refused) }
 {
@@ -100,11 +102,11 @@ fn answer_of(
     table: &Table<Weight>,
 ) -> Result<Answer, DecideRefused>
     requires query { IsQueryOf net.now query.now }
-    requires system { system.now ≡ asked net.now query.now system.now.vector }
+    requires system { system.now ≡ problem_of net.now query.now system.now.vector }
     requires table { HasTable system.now table.now }
-    ensures decided { IfOk result (λ answer. IsDecided net.now query.now system.now.vector answer) }
-    ensures refused { IfErr result (λ refused. IsUndecided net.now query.now system.now.vector refused) }
-    ensures unrefused { IfOk result (λ answer. IsUnrefused net.now query.now system.now.vector answer) }
+    ensures decided { IfOk result (λ answer. IsDecided (problem_of net.now query.now system.now.vector) answer) }
+    ensures refused { IfErr result (λ refused. IsUndecided (problem_of net.now query.now system.now.vector) refused) }
+    ensures unrefused { IfOk result (λ answer. IsUnrefused (problem_of net.now query.now system.now.vector) answer) }
 {
     net.keeps();
     let Some(weight) = table.best() else {
@@ -128,10 +130,10 @@ fn least_run(
     table: &Table<Weight>,
 ) -> Result<Run, DecideRefused>
     requires query { IsQueryOf net.now query.now }
-    requires system { system.now ≡ asked net.now query.now system.now.vector }
+    requires system { system.now ≡ problem_of net.now query.now system.now.vector }
     requires table { HasTable system.now table.now }
     requires reached { IsSome table.now.best }
-    ensures run { IfOk result (λ run. IfSome table.now.best (λ w. IsLeastRun net.now query.now system.now.vector (components w) run)) }
+    ensures run { IfOk result (λ run. IfSome table.now.best (λ w. IsLeastRun (problem_of net.now query.now system.now.vector) (components w) run)) }
     ensures short { OnOk result (IfSome table.now.best (λ w. w.second.count ≤ 4096)) }
     ensures refused { IfErr result (λ refused. IfSome table.now.best (λ w. IsNotShown w.second.count refused)) }
 {
@@ -143,9 +145,9 @@ fn least_run(
 
 // The rules of a goal run of the goal's weight, if they aren't too many.
 fn goal_run(alloc: Global, table: &Table<Weight>) -> Result<Vec<RuleId>, DecideRefused>
-    requires table { (given : Given) × HasTable given table.now }
+    requires table { (problem : Problem) × HasTable problem table.now }
     requires reached { IsSome table.now.best }
-    ensures run { IfOk result (λ ids. (given : Given) → HasTable given table.now → IfSome table.now.best (λ w. IsNamedRun scale components (rules_by (setup_given given)) 0 0 1 ids.items (components w))) }
+    ensures run { IfOk result (λ ids. (problem : Problem) → HasTable problem table.now → IfSome table.now.best (λ w. IsNamedRun scale components (rules_by (encoding_of problem)) 0 0 1 ids.items (components w))) }
     ensures short { OnOk result (IfSome table.now.best (λ w. w.second.count ≤ 4096)) }
     ensures refused { IfErr result (λ refused. IfSome table.now.best (λ w. IsNotShown w.second.count refused)) }
 {
@@ -166,7 +168,7 @@ fn judged(
 ) -> Result<Answer, NoMemory>
     requires { IsQueryOf net.now query.now }
     ensures run { IfOk result (λ answer. answer.run ≡ Some run) }
-    ensures decided { IfOk result (λ answer. (vector : List (List Part)) → IsLeastRun net.now query.now vector (components weight) run → IsDecided net.now query.now vector answer) }
+    ensures decided { IfOk result (λ answer. (vector : List (List Part)) → IsLeastRun (problem_of net.now query.now vector) (components weight) run → IsDecided (problem_of net.now query.now vector) answer) }
 {
     net.keeps();
     let verdict = verdict(alloc, net, &run, &query.bounds)?;

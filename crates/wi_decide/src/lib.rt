@@ -10,6 +10,3 @@ pub use decision::decide;
 pub use laws::overflows_show;
 pub use refused::DecideRefused;
 pub use spelling::run_of;
-
-#[cfg(test)]
-mod tests;

@@ -3,11 +3,10 @@ ghost use Rattle.std.specs.Prelude.{◌≡◌, ◌∷◌, [], ℕ, List, true, S
 ghost use Rattle.std.specs.List.{list_all, All};
 ghost use Rattle.wi_witness.specs.GoalRuns.{IsNamedRun};
 ghost use Rattle.wi_quantity.specs.Weighing.{components};
-ghost use Rattle.wi_rules.specs.Goals.{told_of};
-ghost use Rattle.wi_rules.specs.Numbers.{told_by};
-ghost use Rattle.wi_setup.specs.Answers.{IsAnswering};
-ghost use Rattle.wi_build.specs.Systems.{Given};
-ghost use Rattle.wi_decide.specs.Spelled.{scale, origin, AreRulesFor, unspelled, with_origin, named, with_rules, is_origin_of, is_named, IsToldRun};
+ghost use Rattle.wi_rules.specs.Goals.{origins_for};
+ghost use Rattle.wi_rules.specs.Numbers.{origins_by};
+ghost use Rattle.wi_build.specs.Problems.{IsAnswering, Problem};
+ghost use Rattle.wi_decide.specs.Spelled.{scale, origin, AreRulesFor, unspelled, with_origin, named, with_rules, is_origin_of, is_named, IsSpelledRun};
 
 use std::alloc::Global;
 use std::marker::Model;
@@ -65,7 +64,7 @@ impl Spelling {
     // The run that was told.
     fn into_run(self, alloc: Global) -> Result<Run, NoMemory>
         requires { IsSome self.first }
-        ensures { IfOk result (λ run. IsToldRun self run) }
+        ensures { IfOk result (λ run. IsSpelledRun self run) }
     {
         let Spelling {
             mut from_bottom,
@@ -131,11 +130,11 @@ pub fn run_of<S: System<Weight>>(
     sys: &S,
     ids: &[RuleId],
 ) -> Result<Run, NoMemory>
-    requires spells { (given : Given) × (w : List ℕ) × AreRulesFor given net.now layout.now (S.rules sys.now) × IsNamedRun scale components (S.rules sys.now) 0 0 1 ids.now w }
+    requires spells { (problem : Problem) × (w : List ℕ) × AreRulesFor problem net.now layout.now (S.rules sys.now) × IsNamedRun scale components (S.rules sys.now) 0 0 1 ids.now w }
     requires asked { All (λ id. S.may_ask sys.now id.p id.g) ids.now }
-    ensures { IfOk result (λ run. (given : Given) (w : List ℕ) → AreRulesFor given net.now layout.now (S.rules sys.now) →
+    ensures { IfOk result (λ run. (problem : Problem) (w : List ℕ) → AreRulesFor problem net.now layout.now (S.rules sys.now) →
         (goal : IsNamedRun scale components (S.rules sys.now) 0 0 1 ids.now w) →
-        IsAnswering given.net given.query given.vector given.bounds w run × (told_by origin goal.0 ≡ told_of run)) }
+        IsAnswering problem w run × (origins_by origin goal.0 ≡ origins_for run)) }
 {
     let spelling = spell(alloc, net, layout, sys, ids)?;
     spelling.into_run(alloc)

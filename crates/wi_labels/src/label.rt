@@ -1,4 +1,5 @@
-//! Labels and their classes.
+//! A label is its number in its network, so that headers and tables hold no texts. Its class stands beside it, since whether
+//! an operation is defined is told by classes alone, without a look into a network.
 
 /// A label's number in its network.
 #[derive(Clone, Copy, PartialEq, Eq, PartialOrd, Ord, Hash, Debug, Default)]

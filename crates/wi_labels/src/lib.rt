@@ -11,6 +11,3 @@ pub use header::{Applied, Header, operations_keep_valid};
 pub use label::{Class, Label};
 pub use no_memory::NoMemory;
 pub use ops::{Op, Ops};
-
-#[cfg(test)]
-mod tests;

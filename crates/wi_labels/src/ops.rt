@@ -1,4 +1,5 @@
-//! Operations on the top of a header.
+//! Which operation is defined on which top is one table of cases, for code and contracts alike. Lists of operations are
+//! short, so those of one or two take no memory of their own.
 ghost use Rattle.std.specs.Prelude.{◌≡◌, ◌++◌, ◌∷◌, [], OnOk, OnErr, IfOk};
 ghost use Rattle.wi_labels.specs.Header.{allowed};
 

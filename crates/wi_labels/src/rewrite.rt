@@ -1,4 +1,5 @@
-//! What operations make of the upper part of a header, before the header changes.
+//! Operations work on a copy of what they touch, so that one that isn't defined leaves nothing to undo: a list of them costs
+//! in its own length, and the header below is never copied.
 ghost use Rattle.std.specs.Prelude.{◌≡◌, ◌<◌, ◌≤◌, [], drop, length, slice_get, Ok, Some, None, true, false};
 ghost use Rattle.wi_labels.specs.Header.{after_op};
 ghost use Rattle.wi_labels.specs.Rewrite.{rewritten};

@@ -9,7 +9,7 @@ use Rattle.wi_net.specs.declared.parts.LinkId.{LinkId}
 use Rattle.wi_net.specs.declared.parts.RouterId.{RouterId}
 use Rattle.wi_net.specs.declared.parts.Link.{Link}
 use Rattle.wi_net.specs.declared.parts.Member.{Member}
-use Rattle.wi_net.specs.declared.parts.Row.{Row}
+use Rattle.wi_net.specs.declared.parts.TableRow.{TableRow}
 use Rattle.wi_net.specs.Net.{Net}
 use Rattle.wi_net.specs.LinkSet.{has}
 use Rattle.wi_net.specs.Net.{is_link, same_risk, widened, is_active, first_active, before, entry}
@@ -159,7 +159,7 @@ member_of net r m h =
 group_of : (net : Net) (r : RouterId) (g : List Member) → is_group_at net r g ≡ true → list_all (is_member_of net) g ≡ true
 group_of net r g h = all_weaken (is_member_at net r) (is_member_of net) g (member_of net r) ((and_parts (nat_lt 0 (length g)) (list_all (is_member_at net r) g) h).1)
 
-pub row_groups : (net : Net) (row : Row) → is_row_of net row ≡ true → are_groups_of net row.groups ≡ true
+pub row_groups : (net : Net) (row : TableRow) → is_row_of net row ≡ true → are_groups_of net row.groups ≡ true
 row_groups net row h = go (slice_get net.links row.link.0) refl
   where
     parts : (nat_lt row.label.0 (length net.labels) ≡ true) × (option_map_or (λ (l : Link). list_all (is_group_at net l.to) row.groups) (slice_get net.links row.link.0) false ≡ true)
@@ -169,7 +169,7 @@ row_groups net row h = go (slice_get net.links row.link.0) refl
     go None eo = let none : false ≡ true = rw eo at parts.1 in cc
     go (Some l) eo = all_weaken (is_group_at net l.to) (λ g. list_all (is_member_of net) g) row.groups (group_of net l.to) (rw eo at parts.1)
 
-groups_of_rows : (net : Net) (rows : List Row) (e : LinkId) (l : Label) → list_all (is_row_of net) rows ≡ true → are_groups_of net (groups_in rows e l) ≡ true
+groups_of_rows : (net : Net) (rows : List TableRow) (e : LinkId) (l : Label) → list_all (is_row_of net) rows ≡ true → are_groups_of net (groups_in rows e l) ≡ true
 groups_of_rows net [] e l k = refl
 groups_of_rows net (row ∷ rows) e l k = go (is_row e l row) refl (groups_of_rows net rows e l)
   where

@@ -11,7 +11,7 @@ use Rattle.wi_net.specs.declared.refused.Limited.TheVariants as limited
 use Rattle.wi_net.specs.declared.parts.RouterId.{RouterId}
 use Rattle.wi_net.specs.declared.parts.LinkId.{LinkId}
 use Rattle.wi_net.specs.declared.parts.Link.{Link}
-use Rattle.wi_net.specs.declared.parts.Row.{Row}
+use Rattle.wi_net.specs.declared.parts.TableRow.{TableRow}
 use Rattle.wi_net.specs.Names.{is_name, place, with_name, number_of}
 use Rattle.wi_net.specs.Ends.{is_out, is_in}
 use Rattle.wi_net.specs.Tables.{is_row, group_members, row_members}
@@ -20,7 +20,7 @@ use Rattle.wi_net.specs.Finding.{find_router, out_place, in_place}
 use Rattle.wi_net.specs.Network.{IsNetwork, is_no_later, are_in_order, is_link_of, is_group_at, is_row_of}
 use Rattle.wi_net.specs.Builder.{Draft, IsDraft, empty, is_first, with_router, with_label, with_new_link, with_row, next_link, first_in, firsts_with, is_group_name, link_ends, add_table, groups_rules}
 use Rattle.wi_net.proofs.GroupLemmas.{all_weaken}
-use Rattle.wi_net.proofs.KeptLists.{nothing_is, all_push, all_get, get_before, place_before, there_from, rule_held, known_held, step_held, given_is}
+use Rattle.wi_net.proofs.KeptLists.{nothing_is, all_push, all_get, get_before, place_before, there_from, rule_held, found_held, step_held, given_is}
 use Rattle.wi_net.proofs.KeptNames.{names_push, names_with, names_longer, number_within}
 use Rattle.wi_net.proofs.KeptLinks.{ends_push, turn_push, out_free, in_free, with_last, first_more, first_new, risks_push, risks_in}
 use Rattle.wi_net.proofs.KeptRows.{Grows, links_more, rows_more, rows_apart_push, row_members_push, groups_held}
@@ -178,8 +178,8 @@ fits_held d from out to into group ends e =
     let named = rule_held (BadName part.Group) (is_group_name group) _ ends room.1 in
     let outs = rule_held (BadName part.Out) (is_name out) _ ends named.1 in
     let ins = rule_held (BadName part.In) (is_name into) _ ends outs.1 in
-    let first = known_held (Unknown part.From) (find_router d.net from) _ ends ins.1 in
-    let second = known_held (Unknown part.To) (find_router d.net to) _ ends first.2 in
+    let first = found_held (Unknown part.From) (find_router d.net from) _ ends ins.1 in
+    let second = found_held (Unknown part.To) (find_router d.net to) _ ends first.2 in
     let out_new = rule_held (Taken part.Out) (is_none (out_place d.net first.0 out)) _ ends second.2 in
     let in_new = rule_held (Taken part.In) (is_none (in_place d.net second.0 into)) _ ends out_new.1 in
     ends_are d from out to into ends first.0 second.0 (ltb-true _ _ room.0) outs.0 ins.0 first.1 second.1 out_new.0 in_new.0 (given_is (first.0, second.0) ends in_new.1)
@@ -285,14 +285,14 @@ link_kept d from out to into distance group ends k small e =
         (and_from (nat_lt l.out_if.0 (length new.net.interfaces)) (nat_lt l.in_if.0 (length new.net.interfaces)) (lt-ltb _ _ (let low = number_within d.net.interfaces out in omega (arith, low, second_longer.0))) (lt-ltb _ _ (number_within (with_name d.net.interfaces out) into)))
 
 -- what the rules of a new row say
-record RowFits (d : Draft) (row : Row) : Type 0 where
+record RowFits (d : Draft) (row : TableRow) : Type 0 where
   room : length d.net.rows < 200000
   is : is_row_of d.net row ≡ true
   new : position (is_row row.link row.label) d.net.rows ≡ None
   counted : row_members d.net.rows + group_members row.groups ≤ 400000
 
 -- what the rules gave is what they say
-row_is : (d : Draft) (row : Row) (l : Link) (k : ℕ) → row_members d.net.rows ≤ 400000 → length d.net.rows < 200000 → slice_get d.net.links row.link.0 ≡ Some l → nat_lt row.label.0 (length d.net.labels) ≡ true → is_none (position (is_row row.link row.label) d.net.rows) ≡ true
+row_is : (d : Draft) (row : TableRow) (l : Link) (k : ℕ) → row_members d.net.rows ≤ 400000 → length d.net.rows < 200000 → slice_get d.net.links row.link.0 ≡ Some l → nat_lt row.label.0 (length d.net.labels) ≡ true → is_none (position (is_row row.link row.label) d.net.rows) ≡ true
     → groups_rules d.net l.to (row_members d.net.rows) row.groups ≡ Ok k → RowFits d row
 row_is d row l k few room at label new rules =
     let held = groups_held d.net l.to (row_members d.net.rows) k row.groups rules in
@@ -304,26 +304,26 @@ row_is d row l k few room at label new rules =
     }
 
 -- the rules of a new row held
-row_held : (d x : Draft) (row : Row) → IsDraft d → add_table d row.link row.label row.groups ≡ Ok x → RowFits d row
+row_held : (d x : Draft) (row : TableRow) → IsDraft d → add_table d row.link row.label row.groups ≡ Ok x → RowFits d row
 unfolding add_table
 row_held d x row k e =
     let room = rule_held (Limit limited.Rows 200000) (nat_lt (length d.net.rows) 200000) _ x e in
-    let link = known_held (Unknown part.In) (slice_get d.net.links row.link.0) _ x room.1 in
+    let link = found_held (Unknown part.In) (slice_get d.net.links row.link.0) _ x room.1 in
     let label = rule_held (Unknown part.Name) (nat_lt row.label.0 (length d.net.labels)) _ x link.2 in
     let new = rule_held Repeated (is_none (position (is_row row.link row.label) d.net.rows)) _ x label.1 in
     let rules = step_held (groups_rules d.net (link.0).to (row_members d.net.rows) row.groups) _ x new.1 in
     row_is d row link.0 rules.0 k.net.few_members (ltb-true _ _ room.0) link.1 label.0 new.0 rules.1
 
 -- a row's link and label have none yet, and its members aren't too many
-pub row_counted : (d : Draft) (row : Row) → IsDraft d → add_table d row.link row.label row.groups ≡ Ok (with_row d row) → (position (is_row row.link row.label) d.net.rows ≡ None) × (row_members d.net.rows + group_members row.groups ≤ 400000)
+pub row_counted : (d : Draft) (row : TableRow) → IsDraft d → add_table d row.link row.label row.groups ≡ Ok (with_row d row) → (position (is_row row.link row.label) d.net.rows ≡ None) × (row_members d.net.rows + group_members row.groups ≤ 400000)
 row_counted d row k e = let fits = row_held d (with_row d row) row k e in (fits.new, fits.counted)
 
 -- a network with a row more has what it had
-row_grows : (d : Draft) (row : Row) → Grows d.net ((with_row d row).net)
+row_grows : (d : Draft) (row : TableRow) → Grows d.net ((with_row d row).net)
 row_grows d row = record { routers = omega arith; labels = omega arith; interfaces = omega arith; classes = λ i c e. e; links = λ i l e. e }
 
 -- a row more
-pub row_kept : (d : Draft) (row : Row) → IsDraft d → add_table d row.link row.label row.groups ≡ Ok (with_row d row) → IsDraft (with_row d row)
+pub row_kept : (d : Draft) (row : TableRow) → IsDraft d → add_table d row.link row.label row.groups ≡ Ok (with_row d row) → IsDraft (with_row d row)
 row_kept d row k e =
     let fits = row_held d (with_row d row) row k e in
     record {

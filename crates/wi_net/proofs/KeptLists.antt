@@ -6,7 +6,7 @@ use Rattle.std.proofs.lemmas.Bool.Decides.{nat_tests}
 use Rattle.std.proofs.lemmas.List.Folds.{list_any-append, list_all-append}
 use Rattle.std.specs.List.{list_any, list_all, position_or_len}
 use Rattle.std.specs.Option.{option_map_or}
-use Rattle.wi_net.specs.Builder.{◌>>=◌, rule, known}
+use Rattle.wi_net.specs.Builder.{◌>>=◌, rule, found_or}
 use Rattle.wi_net.proofs.FindingLemmas.{any_within, none_any}
 
 -- what passes the test for nothing is nothing
@@ -103,9 +103,9 @@ rule_held refusal true rest x e = (refl, e)
 rule_held refusal false rest x e = cc
 
 -- a thing that had to be there was
-pub known_held : {A B E : Type 0} (refusal : E) (o : Option A) (rest : A → Result B E) (x : B) → (known refusal o >>= rest) ≡ Ok x → (v : A) × (o ≡ Some v) × (rest v ≡ Ok x)
-known_held refusal (Some v) rest x e = (v, refl, e)
-known_held refusal None rest x e = cc
+pub found_held : {A B E : Type 0} (refusal : E) (o : Option A) (rest : A → Result B E) (x : B) → (found_or refusal o >>= rest) ≡ Ok x → (v : A) × (o ≡ Some v) × (rest v ≡ Ok x)
+found_held refusal (Some v) rest x e = (v, refl, e)
+found_held refusal None rest x e = cc
 
 -- a step before others gave something
 pub step_held : {A B E : Type 0} (step : Result A E) (rest : A → Result B E) (x : B) → (step >>= rest) ≡ Ok x → (v : A) × (step ≡ Ok v) × (rest v ≡ Ok x)

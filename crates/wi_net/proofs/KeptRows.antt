@@ -15,7 +15,7 @@ use Rattle.wi_net.specs.declared.parts.RouterId.{RouterId}
 use Rattle.wi_net.specs.declared.parts.LinkId.{LinkId}
 use Rattle.wi_net.specs.declared.parts.Link.{Link}
 use Rattle.wi_net.specs.declared.parts.Member.{Member}
-use Rattle.wi_net.specs.declared.parts.Row.{Row}
+use Rattle.wi_net.specs.declared.parts.TableRow.{TableRow}
 use Rattle.wi_net.specs.Tables.{is_row, are_rows_apart, group_members, row_members}
 use Rattle.wi_net.specs.Net.{Net, label_known}
 use Rattle.wi_net.specs.Network.{op_known, leaves, is_member_at, is_group_at, is_row_of, is_link_of}
@@ -82,7 +82,7 @@ group_more old new r group g h =
     and_from (nat_lt 0 (length group)) (list_all (is_member_at new r) group) parts.0 (all_weaken (is_member_at old r) (is_member_at new r) group (λ m k. member_more old new r m g k) parts.1)
 
 -- a row stays one that the network may have
-row_more : (old new : Net) (row : Row) → Grows old new → is_row_of old row ≡ true → is_row_of new row ≡ true
+row_more : (old new : Net) (row : TableRow) → Grows old new → is_row_of old row ≡ true → is_row_of new row ≡ true
 row_more old new row g h =
     let parts = and_parts (nat_lt row.label.0 (length old.labels)) (option_map_or (λ (l : Link). list_all (is_group_at old l.to) row.groups) (slice_get old.links row.link.0) false) h in
     let found = there_parts (λ (l : Link). list_all (is_group_at old l.to) row.groups) (slice_get old.links row.link.0) parts.1 in
@@ -91,15 +91,15 @@ row_more old new row g h =
     (all_weaken (is_group_at old (found.0).to) (is_group_at new (found.0).to) row.groups (λ group k. group_more old new (found.0).to group g k) found.2))
 
 -- the same of each of several rows
-pub rows_more : (old new : Net) (rows : List Row) → Grows old new → list_all (is_row_of old) rows ≡ true → list_all (is_row_of new) rows ≡ true
+pub rows_more : (old new : Net) (rows : List TableRow) → Grows old new → list_all (is_row_of old) rows ≡ true → list_all (is_row_of new) rows ≡ true
 rows_more old new rows g h = all_weaken (is_row_of old) (is_row_of new) rows (λ row k. row_more old new row g k) h
 
 -- two rows are of one link and one label in either order
-row_flip : (x y : Row) → is_row x.link x.label y ≡ is_row y.link y.label x
+row_flip : (x y : TableRow) → is_row x.link x.label y ≡ is_row y.link y.label x
 row_flip x y = rw (same_flip x.link.0 y.link.0, same_flip x.label.0 y.label.0) refl
 
 -- a row more, of a link and a label that have none
-pub rows_apart_push : (rows : List Row) (row : Row) → are_rows_apart rows ≡ true → position (is_row row.link row.label) rows ≡ None → are_rows_apart (rows ++ row ∷ []) ≡ true
+pub rows_apart_push : (rows : List TableRow) (row : TableRow) → are_rows_apart rows ≡ true → position (is_row row.link row.label) rows ≡ None → are_rows_apart (rows ++ row ∷ []) ≡ true
 rows_apart_push [] row all new = refl
 rows_apart_push (x ∷ rows) row all new =
     let parts = and_parts (is_none (position (is_row x.link x.label) rows)) (are_rows_apart rows) all in
@@ -108,7 +108,7 @@ rows_apart_push (x ∷ rows) row all new =
     and_from (is_none (position (is_row x.link x.label) (rows ++ row ∷ []))) (are_rows_apart (rows ++ row ∷ [])) (is_nothing (position (is_row x.link x.label) (rows ++ row ∷ [])) alone) (rows_apart_push rows row parts.1 apart.1)
 
 -- a row more has the members of its groups more
-pub row_members_push : (rows : List Row) (row : Row) → row_members (rows ++ row ∷ []) ≡ row_members rows + group_members row.groups
+pub row_members_push : (rows : List TableRow) (row : TableRow) → row_members (rows ++ row ∷ []) ≡ row_members rows + group_members row.groups
 row_members_push [] row = omega arith
 row_members_push (x ∷ rows) row = omega (arith, row_members_push rows row)
 

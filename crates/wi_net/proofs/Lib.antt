@@ -14,3 +14,4 @@ pub mod KeptRows
 pub mod KeptLemmas
 pub mod DraftLemmas
 pub mod EndLemmas
+pub mod Classes

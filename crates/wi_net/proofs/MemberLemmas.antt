@@ -8,7 +8,7 @@ use Rattle.std.proofs.lemmas.Bool.Decides.{nat_tests}
 use Rattle.wi_labels.specs.declared.label.Label.{Label}
 use Rattle.wi_net.specs.declared.parts.LinkId.{LinkId}
 use Rattle.wi_net.specs.declared.parts.Member.{Member}
-use Rattle.wi_net.specs.declared.parts.Row.{Row}
+use Rattle.wi_net.specs.declared.parts.TableRow.{TableRow}
 use Rattle.wi_net.specs.Tables.{is_row, groups_in, members_of, all_members, group_members, row_members, members_before, starts_from, begun}
 
 -- the first place that passes
@@ -31,10 +31,10 @@ position_missing p xs e = go (nat_lt (position_or_len p xs) (length xs)) refl
     go false b = ltb-false (position_or_len p xs) (length xs) b
 
 -- how many rows stand before that of a link and a label
-abbrev pub place_of : List Row → LinkId → Label → ℕ
+abbrev pub place_of : List TableRow → LinkId → Label → ℕ
 place_of rows e l = prefix_len (λ row. not (is_row e l row)) rows
 
-pub groups_here : (rows : List Row) (e : LinkId) (l : Label) (row : Row) → slice_get rows (place_of rows e l) ≡ Some row → row.groups ≡ groups_in rows e l
+pub groups_here : (rows : List TableRow) (e : LinkId) (l : Label) (row : TableRow) → slice_get rows (place_of rows e l) ≡ Some row → row.groups ≡ groups_in rows e l
 groups_here [] e l row h = cc
 groups_here (x ∷ rows) e l row h = go (is_row e l x) refl (groups_here rows e l row)
   where
@@ -42,7 +42,7 @@ groups_here (x ∷ rows) e l row h = go (is_row e l x) refl (groups_here rows e 
     go true b ih = let same : Some x ≡ Some row = rw b at h in let is : x ≡ row = cc in rw (b, is) refl
     go false b ih = let later : slice_get (x ∷ rows) (1 + place_of rows e l) ≡ Some row = rw b at h in rw b (ih (rw one-add at later))
 
-pub groups_none : (rows : List Row) (e : LinkId) (l : Label) → length rows ≤ place_of rows e l → groups_in rows e l ≡ []
+pub groups_none : (rows : List TableRow) (e : LinkId) (l : Label) → length rows ≤ place_of rows e l → groups_in rows e l ≡ []
 groups_none [] e l h = refl
 groups_none (x ∷ rows) e l h = go (is_row e l x) refl (groups_none rows e l)
   where
@@ -50,11 +50,11 @@ groups_none (x ∷ rows) e l h = go (is_row e l x) refl (groups_none rows e l)
     go true b ih = let less : suc (length rows) ≤ 0 = rw b at h in absurd (omega (arith, less))
     go false b ih = let less : suc (length rows) ≤ 1 + place_of rows e l = rw b at h in rw b (ih (omega (arith, less)))
 
-pub starts_count : (n : ℕ) (rows : List Row) → length (starts_from n rows) ≡ length rows
+pub starts_count : (n : ℕ) (rows : List TableRow) → length (starts_from n rows) ≡ length rows
 starts_count n [] = refl
 starts_count n (row ∷ rows) = ap suc (starts_count (n + group_members row.groups) rows)
 
-pub starts_here : (rows : List Row) (n : ℕ) (e : LinkId) (l : Label) → place_of rows e l < length rows → slice_get (starts_from n rows) (place_of rows e l) ≡ Some (n + members_before rows e l)
+pub starts_here : (rows : List TableRow) (n : ℕ) (e : LinkId) (l : Label) → place_of rows e l < length rows → slice_get (starts_from n rows) (place_of rows e l) ≡ Some (n + members_before rows e l)
 starts_here [] n e l h = absurd (omega arith)
 starts_here (x ∷ rows) n e l h = go (is_row e l x) refl (starts_here rows (n + group_members x.groups) e l)
   where
@@ -65,7 +65,7 @@ starts_here (x ∷ rows) n e l h = go (is_row e l x) refl (starts_here rows (n +
         let less : 1 + place_of rows e l < suc (length rows) = rw b at h in
         rw (b, one-add) (ih (omega (arith, less)) ∙ ap Some (omega arith))
 
-pub before_none : (rows : List Row) (e : LinkId) (l : Label) → length rows ≤ place_of rows e l → members_before rows e l ≡ row_members rows
+pub before_none : (rows : List TableRow) (e : LinkId) (l : Label) → length rows ≤ place_of rows e l → members_before rows e l ≡ row_members rows
 before_none [] e l h = refl
 before_none (x ∷ rows) e l h = go (is_row e l x) refl (before_none rows e l)
   where
@@ -104,10 +104,10 @@ pub members_left : (gs : List (List Member)) (i : ℕ) (g h : List Member) → i
 members_left gs i g h lt is same = rw (drop-cons gs i g lt, ← is, add-one, same) refl
 
 -- where a member's number falls among the rows
-pub record Located (rows : List Row) (n m a : ℕ) : Type 0 where
+pub record Located (rows : List TableRow) (n m a : ℕ) : Type 0 where
   pub place : ℕ
   pub place_is : place + 1 ≡ a
-  pub row : Row
+  pub row : TableRow
   pub row_is : slice_get rows place ≡ Some row
   pub start : ℕ
   pub start_is : slice_get (starts_from n rows) place ≡ Some start
@@ -115,11 +115,11 @@ pub record Located (rows : List Row) (n m a : ℕ) : Type 0 where
   pub high : m < start + group_members row.groups
   pub same : slice_get (all_members rows) (m - n) ≡ slice_get (members_of row.groups) (m - start)
 
-begun_none : (rows : List Row) (k m : ℕ) → m < k → begun m (starts_from k rows) ≡ 0
+begun_none : (rows : List TableRow) (k m : ℕ) → m < k → begun m (starts_from k rows) ≡ 0
 begun_none [] k m lt = refl
 begun_none (row ∷ rows) k m lt = let no_le : nat_le k m ≡ false = grind (arith, nat_tests) in rw no_le refl
 
-pub located : (rows : List Row) (n m : ℕ) → n ≤ m → m < n + row_members rows → Located rows n m (begun m (starts_from n rows))
+pub located : (rows : List TableRow) (n m : ℕ) → n ≤ m → m < n + row_members rows → Located rows n m (begun m (starts_from n rows))
 located [] n m low high = absurd (omega arith)
 located (row ∷ rows) n m low high = go (nat_lt m (n + group_members row.groups)) refl (λ le. located rows (n + group_members row.groups) m le (omega arith))
   where
@@ -158,12 +158,12 @@ located (row ∷ rows) n m low high = go (nat_lt m (n + group_members row.groups
         }
 
 -- rows begin in rising order
-starts_above : (rows : List Row) (k i d : ℕ) → i < length (starts_from k rows) → k ≤ get_or (starts_from k rows) i d
+starts_above : (rows : List TableRow) (k i d : ℕ) → i < length (starts_from k rows) → k ≤ get_or (starts_from k rows) i d
 starts_above [] k i d lt = absurd (omega arith)
 starts_above (row ∷ rows) k zero d lt = omega arith
 starts_above (row ∷ rows) k (suc i) d lt = let ih = starts_above rows (k + group_members row.groups) i d (omega arith) in omega (arith, ih)
 
-pub starts_parted : (m k : ℕ) (rows : List Row) → IsPartitionedBy (λ s. nat_le s m) (starts_from k rows)
+pub starts_parted : (m k : ℕ) (rows : List TableRow) → IsPartitionedBy (λ s. nat_le s m) (starts_from k rows)
 starts_parted m k [] i j d le lt b = absurd (omega (arith, lt))
 starts_parted m k (row ∷ rows) zero zero d le lt b = b
 starts_parted m k (row ∷ rows) zero (suc j) d le lt b =
@@ -194,25 +194,25 @@ get_or_some [] i x y e is = cc
 get_or_some (z ∷ xs) zero x y e is = is ∙ (let same : z ≡ x = cc in same)
 get_or_some (z ∷ xs) (suc i) x y e is = get_or_some xs i x y e is
 
-pub row_groups : (rows : List Row) (e : LinkId) (l : Label) (i : ℕ) (row : Row) → Some i ≡ position (is_row e l) rows → row ≡ get_or rows i row → row.groups ≡ groups_in rows e l
+pub row_groups : (rows : List TableRow) (e : LinkId) (l : Label) (i : ℕ) (row : TableRow) → Some i ≡ position (is_row e l) rows → row ≡ get_or rows i row → row.groups ≡ groups_in rows e l
 row_groups rows e l i row found is =
     let at = position_found (is_row e l) rows i (sym found) in
     groups_here rows e l row (ap (λ k. slice_get rows k) (sym at.0) ∙ get_read rows i row at.1 is)
 
-pub row_start : (rows : List Row) (starts : List ℕ) (e : LinkId) (l : Label) (i s : ℕ) → starts ≡ starts_from 0 rows → Some i ≡ position (is_row e l) rows → s ≡ get_or starts i s → s ≡ members_before rows e l
+pub row_start : (rows : List TableRow) (starts : List ℕ) (e : LinkId) (l : Label) (i s : ℕ) → starts ≡ starts_from 0 rows → Some i ≡ position (is_row e l) rows → s ≡ get_or starts i s → s ≡ members_before rows e l
 row_start rows starts e l i s known found is =
     let at = position_found (is_row e l) rows i (sym found) in
     let there : slice_get starts i ≡ Some (0 + members_before rows e l) = ap (λ ss. slice_get ss i) known ∙ ap (λ k. slice_get (starts_from 0 rows) k) at.0 ∙ starts_here rows 0 e l (omega (arith, at.0, at.1)) in
     get_or_some starts i (0 + members_before rows e l) s there is ∙ omega arith
 
 -- the place of a row is one in the list of first members
-pub row_within : (rows : List Row) (starts : List ℕ) (e : LinkId) (l : Label) (i : ℕ) → starts ≡ starts_from 0 rows → Some i ≡ position (is_row e l) rows → i < length starts
+pub row_within : (rows : List TableRow) (starts : List ℕ) (e : LinkId) (l : Label) (i : ℕ) → starts ≡ starts_from 0 rows → Some i ≡ position (is_row e l) rows → i < length starts
 row_within rows starts e l i known found =
     let at = position_found (is_row e l) rows i (sym found) in
     omega (arith, at.1, ap length known, starts_count 0 rows)
 
 -- no more members stand before a row than there are
-pub before_most : (rows : List Row) (e : LinkId) (l : Label) → members_before rows e l ≤ row_members rows
+pub before_most : (rows : List TableRow) (e : LinkId) (l : Label) → members_before rows e l ≤ row_members rows
 before_most [] e l = omega arith
 before_most (x ∷ rows) e l = go (is_row e l x) refl (before_most rows e l)
   where

@@ -5,7 +5,7 @@ use Rattle.std.proofs.lemmas.List.{take_more}
 use Rattle.wi_net.specs.declared.refused.BuildRefused.{BuildRefused}
 use Rattle.wi_net.specs.declared.parts.RouterId.{RouterId}
 use Rattle.wi_net.specs.declared.parts.Member.{Member}
-use Rattle.wi_net.specs.declared.parts.Row.{Row}
+use Rattle.wi_net.specs.declared.parts.TableRow.{TableRow}
 use Rattle.wi_net.specs.Tables.{row_key, group_members, row_members, starts_from, AreTables}
 use Rattle.wi_net.specs.Net.{Net}
 use Rattle.wi_net.specs.Builder.{group_rules, groups_rules}
@@ -15,16 +15,16 @@ pub group_members_push : (gs : List (List Member)) (g : List Member) → group_m
 group_members_push [] g = omega arith
 group_members_push (x ∷ xs) g = omega (arith, group_members_push xs g)
 
-pub row_members_push : (rows : List Row) (row : Row) → row_members (rows ++ row ∷ []) ≡ row_members rows + group_members row.groups
+pub row_members_push : (rows : List TableRow) (row : TableRow) → row_members (rows ++ row ∷ []) ≡ row_members rows + group_members row.groups
 row_members_push [] row = omega arith
 row_members_push (x ∷ xs) row = omega (arith, row_members_push xs row)
 
-pub starts_push : (n : ℕ) (rows : List Row) (row : Row) → starts_from n (rows ++ row ∷ []) ≡ starts_from n rows ++ (n + row_members rows) ∷ []
+pub starts_push : (n : ℕ) (rows : List TableRow) (row : TableRow) → starts_from n (rows ++ row ∷ []) ≡ starts_from n rows ++ (n + row_members rows) ∷ []
 starts_push n [] row = ap (λ m. m ∷ []) (omega arith)
 starts_push n (x ∷ rows) row = ap (λ ms. n ∷ ms) (starts_push (n + group_members x.groups) rows row ∙ ap (λ m. starts_from (n + group_members x.groups) rows ++ m ∷ []) (omega arith))
 
 -- the rows with one more
-pub tables_added : (rows after : List Row) (keys keys_after : List (ℕ × ℕ)) (starts starts_after : List ℕ) (members total : ℕ) (row : Row)
+pub tables_added : (rows after : List TableRow) (keys keys_after : List (ℕ × ℕ)) (starts starts_after : List ℕ) (members total : ℕ) (row : TableRow)
     → AreTables rows keys starts members → after ≡ rows ++ row ∷ [] → keys_after ≡ map row_key after → starts_after ≡ starts ++ members ∷ [] → total ≡ row_members rows + group_members row.groups → AreTables after keys_after starts_after total
 tables_added rows after keys keys_after starts starts_after members total row t added keyed started count = record {
   keys_are = keyed;

@@ -10,7 +10,7 @@ use Rattle.wi_net.specs.declared.refused.Limited.TheVariants as limited
 use Rattle.wi_net.specs.declared.parts.RouterId.{RouterId}
 use Rattle.wi_net.specs.declared.parts.LinkId.{LinkId}
 use Rattle.wi_net.specs.declared.parts.Member.{Member}
-use Rattle.wi_net.specs.declared.parts.Row.{Row}
+use Rattle.wi_net.specs.declared.parts.TableRow.{TableRow}
 use Rattle.wi_net.specs.Names.{is_name, place, with_name, number_of}
 use Rattle.wi_net.specs.Tables.{is_row, row_members}
 use Rattle.wi_net.specs.Net.{Net, is_link, risk_of}
@@ -47,9 +47,9 @@ abbrev pub ◌>>=◌ : {A B E : Type 0} → Result A E → (A → Result B E) �
 abbrev pub rule : {E : Type 0} → E → Bool → Result (Unit {0}) E
 rule refusal test = if test then Ok tt else Err refusal
 
-abbrev pub known : {A E : Type 0} → E → Option A → Result A E
-known refusal (Some x) = Ok x
-known refusal None = Err refusal
+abbrev pub found_or : {A E : Type 0} → E → Option A → Result A E
+found_or refusal (Some x) = Ok x
+found_or refusal None = Err refusal
 
 -- one more router
 abbrev pub with_router : Draft → List ℕ → Draft
@@ -112,8 +112,8 @@ link_ends draft from out to into group = do
   _ ← rule (BadName part.Group) (is_group_name group)
   _ ← rule (BadName part.Out) (is_name out)
   _ ← rule (BadName part.In) (is_name into)
-  f ← known (Unknown part.From) (find_router draft.net from)
-  t ← known (Unknown part.To) (find_router draft.net to)
+  f ← found_or (Unknown part.From) (find_router draft.net from)
+  t ← found_or (Unknown part.To) (find_router draft.net to)
   _ ← rule (Taken part.Out) (is_none (out_place draft.net f out))
   _ ← rule (Taken part.In) (is_none (in_place draft.net t into))
   Ok (f, t)
@@ -147,13 +147,13 @@ groups_rules net router so_far [] = Ok so_far
 groups_rules net router so_far (g ∷ gs) = group_rules net router so_far g >>= λ n. groups_rules net router n gs
 
 -- one more row
-abbrev pub with_row : Draft → Row → Draft
+abbrev pub with_row : Draft → TableRow → Draft
 with_row draft row = record draft { net = record draft.net { rows = draft.net.rows ++ row ∷ [] } }
 
 unfoldable pub add_table : Draft → LinkId → Label → List (List Member) → Result Draft BuildRefused
 add_table draft link label groups = do
   _ ← rule (Limit limited.Rows 200000) (nat_lt (length draft.net.rows) 200000)
-  l ← known (Unknown part.In) (slice_get draft.net.links link.0)
+  l ← found_or (Unknown part.In) (slice_get draft.net.links link.0)
   _ ← rule (Unknown part.Name) (nat_lt label.0 (length draft.net.labels))
   _ ← rule Repeated (is_none (position (is_row link label) draft.net.rows))
   _ ← groups_rules draft.net l.to (row_members draft.net.rows) groups
@@ -165,6 +165,6 @@ Refuses Memory rules = Unit {0}
 Refuses e rules = rules ≡ Err e
 
 -- what a call answered is what the rules give, unless memory ran out
-abbrev pub Answers : {X Y : Type 0} → (X → Y) → Result X BuildRefused → Result Y BuildRefused → Type 0
-Answers view (Ok x) rules = rules ≡ Ok (view x)
-Answers view (Err e) rules = Refuses e rules
+abbrev pub Gives : {X Y : Type 0} → (X → Y) → Result X BuildRefused → Result Y BuildRefused → Type 0
+Gives view (Ok x) rules = rules ≡ Ok (view x)
+Gives view (Err e) rules = Refuses e rules

@@ -8,7 +8,7 @@ use Rattle.wi_labels.specs.Header.{Entry, same_class}
 use Rattle.wi_net.specs.declared.parts.LinkId.{LinkId}
 use Rattle.wi_net.specs.declared.parts.Link.{Link}
 use Rattle.wi_net.specs.declared.parts.Member.{Member}
-use Rattle.wi_net.specs.declared.parts.Row.{Row}
+use Rattle.wi_net.specs.declared.parts.TableRow.{TableRow}
 use Rattle.wi_net.specs.LinkSet.{has, links_from, numbers_where, risk_in, same_risk_in}
 use Rattle.wi_net.specs.Tables.{groups_in}
 
@@ -19,7 +19,7 @@ pub record Net : Type 0 where
   pub classes : List Class
   pub interfaces : List (List ℕ)
   pub links : List Link
-  pub rows : List Row
+  pub rows : List TableRow
 
 -- the network has a link of this number
 abbrev pub is_link : Net → LinkId → Bool

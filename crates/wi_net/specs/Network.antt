@@ -10,7 +10,7 @@ use Rattle.wi_net.specs.declared.parts.RouterId.{RouterId}
 use Rattle.wi_net.specs.declared.parts.LinkId.{LinkId}
 use Rattle.wi_net.specs.declared.parts.Link.{Link}
 use Rattle.wi_net.specs.declared.parts.Member.{Member}
-use Rattle.wi_net.specs.declared.parts.Row.{Row}
+use Rattle.wi_net.specs.declared.parts.TableRow.{TableRow}
 use Rattle.wi_net.specs.LinkSet.{links_from, sharing}
 use Rattle.wi_net.specs.Names.{are_names}
 use Rattle.wi_net.specs.Ends.{are_ends_apart}
@@ -56,7 +56,7 @@ abbrev pub is_group_at : Net → RouterId → List Member → Bool
 is_group_at net router g = nat_lt 0 (length g) && list_all (is_member_at net router) g
 
 -- a row that a network may have: its groups are of the router that its link reaches
-abbrev pub is_row_of : Net → Row → Bool
+abbrev pub is_row_of : Net → TableRow → Bool
 is_row_of net row = nat_lt row.label.0 (length net.labels) && option_map_or (λ l. list_all (is_group_at net l.to) row.groups) (slice_get net.links row.link.0) false
 
 -- a link between routers of the network, by interfaces that have names
@@ -86,24 +86,43 @@ abbrev pub named_after : Option ℕ → List Link → Option ℕ
 named_after n [] = n
 named_after n (l ∷ links) = named_after (named_next (named_next n l.out_if.0) l.in_if.0) links
 
+-- beside each field, what it is for
 pub record IsNetwork (net : Net) : Type 0 where
+  -- a router's name is a name, and tells it from all others
   pub routers : are_names net.routers ≡ true
+  -- the same of labels, over all classes
   pub labels : are_names net.labels ≡ true
+  -- each label has a class
   pub classes : length net.classes ≡ length net.labels
+  -- labels of a class have numbers without a gap
   pub in_order : are_in_order net.classes ≡ true
+  -- the same interface name of two routers is kept once
   pub interfaces : are_names net.interfaces ≡ true
+  -- interface names are numbered as links name them, so equal files give equal networks
   pub in_turn : named_after (Some 0) net.links ≡ Some (length net.interfaces)
+  -- what a link names can be looked up
   pub links : list_all (is_link_of net) net.links ≡ true
+  -- an end names one link
   pub ends : are_ends_apart net.links ≡ true
+  -- distances are those of a file, so sums of them can be bounded
   pub near : list_all (λ l. nat_lt l.distance (2 ^ 32)) net.links ≡ true
+  -- two links are in one risk group where they name one link, and each risk group is named by one of its own
   pub risks : list_all (is_risk_named net) (all_links net) ≡ true
+  -- a packet that follows a table stays in the network
   pub rows : list_all (is_row_of net) net.rows ≡ true
+  -- a link and a label have at most one entry
   pub rows_apart : are_rows_apart net.rows ≡ true
+  -- the limits of the format: a router's number fits in 32 bits
   pub few_routers : length net.routers ≤ 10000
+  -- and so does a label's
   pub few_labels : length net.labels ≤ 20000
+  -- and a link's
   pub few_links : length net.links ≤ 20000
+  -- a link names two, so these are bounded with the links
   pub few_interfaces : length net.interfaces ≤ 2 * length net.links
+  -- a row's number fits in 32 bits
   pub few_rows : length net.rows ≤ 200000
+  -- a member's number over all rows fits in 32 bits
   pub few_members : row_members net.rows ≤ 400000
 
 -- for each link the links of the risk group that it names

@@ -2,24 +2,24 @@
 use Rattle.std.specs.Prelude.{◌≡◌, ℕ, ◌+◌, ◌&&◌, ◌==◌, Bool, true, List, [], ◌∷◌, ◌++◌, length, map, position, is_none, nat_le, if◌then◌else◌}
 use Rattle.std.specs.List.{prefix_len}
 use Rattle.wi_labels.specs.declared.label.Label.{Label}
-use Rattle.wi_net.specs.declared.parts.Row.{Row}
+use Rattle.wi_net.specs.declared.parts.TableRow.{TableRow}
 use Rattle.wi_net.specs.declared.parts.Member.{Member}
 use Rattle.wi_net.specs.declared.parts.LinkId.{LinkId}
 
 -- a row is that of a link and a label
-abbrev pub is_row : LinkId → Label → Row → Bool
+abbrev pub is_row : LinkId → Label → TableRow → Bool
 is_row e l row = (e.0 == row.link.0) && (l.0 == row.label.0)
 
-abbrev pub row_key : Row → ℕ × ℕ
+abbrev pub row_key : TableRow → ℕ × ℕ
 row_key row = (row.link.0, row.label.0)
 
 -- no two rows are of one link and one label
-abbrev pub are_rows_apart : List Row → Bool
+abbrev pub are_rows_apart : List TableRow → Bool
 are_rows_apart [] = true
 are_rows_apart (row ∷ rows) = is_none (position (is_row row.link row.label) rows) && are_rows_apart rows
 
 -- what the rows say of a link and a label
-abbrev pub groups_in : List Row → LinkId → Label → List (List Member)
+abbrev pub groups_in : List TableRow → LinkId → Label → List (List Member)
 groups_in [] e l = []
 groups_in (row ∷ rows) e l = if is_row e l row then row.groups else groups_in rows e l
 
@@ -28,7 +28,7 @@ abbrev pub members_of : List (List Member) → List Member
 members_of [] = []
 members_of (g ∷ gs) = g ++ members_of gs
 
-abbrev pub all_members : List Row → List Member
+abbrev pub all_members : List TableRow → List Member
 all_members [] = []
 all_members (row ∷ rows) = members_of row.groups ++ all_members rows
 
@@ -37,17 +37,17 @@ abbrev pub group_members : List (List Member) → ℕ
 group_members [] = 0
 group_members (g ∷ gs) = length g + group_members gs
 
-abbrev pub row_members : List Row → ℕ
+abbrev pub row_members : List TableRow → ℕ
 row_members [] = 0
 row_members (row ∷ rows) = group_members row.groups + row_members rows
 
 -- how many members the rows before that of a link and a label have
-abbrev pub members_before : List Row → LinkId → Label → ℕ
+abbrev pub members_before : List TableRow → LinkId → Label → ℕ
 members_before [] e l = 0
 members_before (row ∷ rows) e l = if is_row e l row then 0 else group_members row.groups + members_before rows e l
 
 -- the number of the first member of each row, where so many stand before
-abbrev pub starts_from : ℕ → List Row → List ℕ
+abbrev pub starts_from : ℕ → List TableRow → List ℕ
 starts_from n [] = []
 starts_from n (row ∷ rows) = n ∷ starts_from (n + group_members row.groups) rows
 
@@ -56,7 +56,7 @@ abbrev pub begun : ℕ → List ℕ → ℕ
 begun number starts = prefix_len (λ start. nat_le start number) starts
 
 -- the index has the rows' links and labels; the number of each row's first member is known, and how many members there are
-pub record AreTables (rows : List Row) (keys : List (ℕ × ℕ)) (starts : List ℕ) (members : ℕ) : Type 0 where
+pub record AreTables (rows : List TableRow) (keys : List (ℕ × ℕ)) (starts : List ℕ) (members : ℕ) : Type 0 where
   pub keys_are : keys ≡ map row_key rows
   pub starts_are : starts ≡ starts_from 0 rows
   pub members_are : members ≡ row_members rows

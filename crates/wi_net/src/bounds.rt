@@ -1,4 +1,5 @@
-//! Which links may fail.
+//! The number of failures and what is known of links stand in one value, so that queries, searches and replays are judged by
+//! one definition. A copy costs in the size of the two sets.
 ghost use Rattle.std.specs.Prelude.{◌≡◌, IfOk};
 
 use crate::fails::FailSet;

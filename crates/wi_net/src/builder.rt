@@ -1,16 +1,18 @@
-//! Building a network.
+//! A network is built part by part by one type, so that the rules of a network stand in one place whoever builds it: a call
+//! keeps them or is refused with nothing changed. Each call costs a look-up of the names that it is given; `finish` goes over
+//! the links once.
 ghost use Rattle.std.specs.Prelude.{◌≡◌, ◌+◌, ◌<◌, ◌≤◌, true, None, Ok, length, slice_get, position, is_some, option_map, string_bytes, vec_len, vec_capacity, IfOk, IfSome, OnOk, OnErr};
 ghost use Rattle.std.specs.List.{list_all};
 ghost use Rattle.wi_net.specs.Names.{is_name, is_name_byte};
 ghost use Rattle.wi_net.specs.Tables.{is_row, row_members, group_members};
 ghost use Rattle.wi_net.specs.Finding.{find_router, find_label, out_place, in_place, find_out, find_in};
-ghost use Rattle.wi_net.specs.Network.{IsNetwork, is_no_later};
-ghost use Rattle.wi_net.specs.Builder.{empty, add_router, add_label, link_ends, add_link, add_table, first_in, named_with, firsts_with, with_row, is_group_name, IsDraft, Answers};
+ghost use Rattle.wi_net.specs.Network.{IsNetwork, is_no_later, groups_of};
+ghost use Rattle.wi_net.specs.Builder.{empty, add_router, add_label, link_ends, add_link, add_table, first_in, named_with, firsts_with, with_row, is_group_name, IsDraft, Gives};
 
 use crate::links::Links;
 use crate::names::Names;
 use crate::network::Network;
-use crate::parts::{Link, LinkId, NameId, RouterId, Row};
+use crate::parts::{Link, LinkId, NameId, RouterId, TableRow};
 use crate::refused::{BuildRefused, Limited, Part};
 use crate::risk_groups::RiskGroups;
 use crate::tables::Tables;
@@ -64,7 +66,20 @@ impl NetworkBuilder {
         ensures { IfOk result (λ network. network ≡ self.net) }
     {
         let alloc = *self.firsts.allocator();
-        let risk_groups = RiskGroups::of(alloc, self.links.as_slice())?;
+        match RiskGroups::of(alloc, self.links.as_slice()) {
+            Ok(risk_groups) => Ok(self.indexed(risk_groups)),
+            Err(refused) => {
+                drop(self);
+                Err(refused)
+            }
+        }
+    }
+
+    // The network with the index from a risk group to its links. What only building needs is let go.
+    fn indexed(self, risk_groups: RiskGroups) -> Network
+        requires { risk_groups ≡ groups_of self.net.links }
+        ensures { result ≡ self.net }
+    {
         let NetworkBuilder {
             routers,
             labels,
@@ -72,10 +87,12 @@ impl NetworkBuilder {
             interfaces,
             links,
             tables,
-            named: _,
-            firsts: _,
+            named,
+            firsts,
         } = self;
-        Ok(Network {
+        drop(named);
+        drop(firsts);
+        Network {
             routers,
             labels,
             classes,
@@ -83,13 +100,13 @@ impl NetworkBuilder {
             links,
             tables,
             risk_groups,
-        })
+        }
     }
 
     /// Adds a router. It may be refused by `Limit`, `BadName`, `Repeated`: the first of them in this order.
     #[tactic(auto, unfolding(crate::specs::Builder::add_router))]
     pub fn router(&mut self, name: &str) -> Result<RouterId, BuildRefused>
-        ensures answer { Answers (λ _. self.new) result (add_router self.old name.now) }
+        ensures answer { Gives (λ _. self.new) result (add_router self.old name.now) }
         ensures number { IfOk result (λ r. r.0 ≡ length self.old.net.routers) }
         ensures err { OnErr result (self.new ≡ self.old) }
     {
@@ -112,7 +129,7 @@ impl NetworkBuilder {
     #[tactic(auto, unfolding(crate::specs::Builder::add_label))]
     pub fn label(&mut self, class: Class, name: &str) -> Result<Label, BuildRefused>
         requires { list_all (λ c. is_no_later c class) self.old.net.classes ≡ true }
-        ensures answer { Answers (λ _. self.new) result (add_label self.old class name.now) }
+        ensures answer { Gives (λ _. self.new) result (add_label self.old class name.now) }
         ensures number { IfOk result (λ l. l.0 ≡ length self.old.net.labels) }
         ensures err { OnErr result (self.new ≡ self.old) }
     {
@@ -142,7 +159,7 @@ impl NetworkBuilder {
         in_if: &str,
         group: Option<&str>,
     ) -> Result<(RouterId, RouterId), BuildRefused>
-        ensures answer { Answers (λ ends. ends) result (link_ends self.now from.now out_if.now to.now in_if.now (option_map (λ s. s.now) group.entry)) }
+        ensures answer { Gives (λ ends. ends) result (link_ends self.now from.now out_if.now to.now in_if.now (option_map (λ s. s.now) group.entry)) }
         ensures free_out { IfOk result (λ ends. out_place self.now.net ends.0 out_if.now ≡ None) }
         ensures free_in { IfOk result (λ ends. in_place self.now.net ends.1 in_if.now ≡ None) }
         ensures room { OnOk result (length self.now.net.links < 20000) }
@@ -188,7 +205,7 @@ impl NetworkBuilder {
         distance: u32,
         group: Option<&str>,
     ) -> Result<LinkId, BuildRefused>
-        ensures answer { Answers (λ _. self.new) result (add_link self.old from.now out_if.now to.now in_if.now distance (option_map (λ s. s.now) group.entry)) }
+        ensures answer { Gives (λ _. self.new) result (add_link self.old from.now out_if.now to.now in_if.now distance (option_map (λ s. s.now) group.entry)) }
         ensures number { IfOk result (λ e. e.0 ≡ length self.old.net.links) }
         ensures err { OnErr result (self.new ≡ self.old) }
     {
@@ -217,7 +234,7 @@ impl NetworkBuilder {
     }
 
     /// Adds a row whose rules the caller has checked, as `table` does; there are then so many members.
-    pub fn row(&mut self, row: Row, members: usize) -> Result<(), NoMemory>
+    pub fn row(&mut self, row: TableRow, members: usize) -> Result<(), NoMemory>
         requires rules { add_table self.old row.link row.label row.groups ≡ Ok (with_row self.old row) }
         requires counted { members ≡ row_members self.old.net.rows + group_members row.groups }
         ensures ok { OnOk result (self.new ≡ with_row self.old row) }

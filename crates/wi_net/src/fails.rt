@@ -1,4 +1,5 @@
-//! Sets of links.
+//! Sets of links are rising lists, so that equal sets are equal lists, and are small where few links fail. To look a link up
+//! takes halvings; to add or to take out one moves those behind it.
 ghost use Rattle.std.specs.Prelude.{◌≡◌, ◌≤◌, [], true, length, slice_get, not, IfOk, OnOk, OnErr};
 ghost use Rattle.wi_net.specs.LinkSet.{has, with_link, without, is_rising, place_in};
 
@@ -52,7 +53,8 @@ impl FailSet {
 
     /// The link at a place, in rising order. It takes no memory.
     pub fn at(&self, i: usize) -> Option<LinkId>
-        ensures { result ≡ slice_get self.now i }
+        ensures value { result ≡ slice_get self.now i }
+        ensures rising { is_rising self.now ≡ true }
     {
         self.links.get(i).copied()
     }

@@ -1,4 +1,5 @@
-//! Groups of a table under a set of failed links.
+//! Which group of a table is used is a question to the groups and the failed links alone, so that whoever has them can ask:
+//! it costs a look-up in the set for each member up to the first that is left.
 ghost use Rattle.std.specs.Prelude.{◌≡◌};
 ghost use Rattle.wi_net.specs.Net.{is_active, first_active};
 

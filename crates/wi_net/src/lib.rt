@@ -20,8 +20,5 @@ pub use builder::{NetworkBuilder, is_name};
 pub use fails::FailSet;
 pub use groups::first_active;
 pub use network::{Counts, Network};
-pub use parts::{Group, Link, LinkId, Member, NameId, RouterId, Row};
+pub use parts::{Group, Link, LinkId, Member, NameId, RouterId, TableRow};
 pub use refused::{BuildRefused, Limited, Part};
-
-#[cfg(test)]
-mod tests;

@@ -1,4 +1,5 @@
-//! Links, each found by either of its ends.
+//! Files, queries and scripts name links by their ends, so there are two indexes, and to find a link by either end is one
+//! look-up. They double what a link takes.
 ghost use Rattle.std.specs.Prelude.{◌≡◌, ◌<◌, ◌^◌, ◌++◌, ◌∷◌, [], ℕ, None, length, IfSome, position, slice_get, Some, OnOk, OnErr};
 ghost use Rattle.wi_net.specs.Ends.{is_out, is_in};
 

@@ -1,4 +1,5 @@
-//! Names with numbers.
+//! Routers, labels, interfaces and risk groups are numbers in all but texts: a name is looked up once, by hashing, and kept
+//! once.
 ghost use Rattle.std.specs.Prelude.{◌≡◌, ◌<◌, ◌≤◌, ◌+◌, string_bytes, ◌^◌, ◌++◌, ◌∷◌, [], None, length, slice_get, Some, IfSome, OnOk, OnErr};
 ghost use Rattle.wi_net.specs.Names.{place, with_name, number_of};
 

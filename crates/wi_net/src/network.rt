@@ -1,4 +1,5 @@
-//! Networks.
+//! A finished network never changes, so what is asked often is indexed: entries, ends and names are one look-up each, and a
+//! union of risk groups costs in its own size, not in the number of links.
 ghost use Rattle.std.specs.Prelude.{◌≡◌, ◌<◌, Some, length, slice_get, option_map, IfOk, IfSome};
 ghost use Rattle.wi_net.specs.Names.{place};
 ghost use Rattle.wi_net.specs.Tables.{all_members, members_before, row_members};

@@ -1,4 +1,5 @@
-//! What a network is made of.
+//! Routers, links and interface names are numbers of types of their own, so that none can be taken for another. They cost no
+//! more than the numbers.
 use wi_base::Listed;
 use wi_labels::{Label, Ops};
 
@@ -39,7 +40,7 @@ pub type Group = Listed<Member>;
 
 /// What a table says of an arrival link and a top label: groups, the first of highest priority.
 #[derive(Drop)]
-pub struct Row {
+pub struct TableRow {
     pub link: LinkId,
     pub label: Label,
     pub groups: Listed<Group>,

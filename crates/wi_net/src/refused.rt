@@ -1,4 +1,5 @@
-//! Why a call of the builder is refused.
+//! A refusal carries the part at fault, since a reader of files has to name its place. All refusals are `Copy`, and take no
+//! memory.
 use std::alloc::{AllocError, AllocFailed};
 use wi_base::NoMemory;
 

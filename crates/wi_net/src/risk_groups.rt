@@ -1,4 +1,5 @@
-//! From a risk group to its links, and unions of risk groups.
+//! From a risk group to its links there is an index, made once: without it each union of risk groups would go over all links
+//! of the network, and searches ask for many. It takes a number for each link and a list for each risk group.
 ghost use Rattle.std.specs.Prelude.{◌≡◌, ◌<◌, ◌^◌, ◌==◌, [], true, nat_lt, length, slice_get, slice_set, map, take, IfOk, OnOk};
 ghost use Rattle.std.specs.List.{filter, list_all, list_any, range_with_len};
 ghost use Rattle.wi_net.specs.LinkSet.{has, with_link, numbers_where, risk_in, same_risk_in};

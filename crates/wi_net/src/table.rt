@@ -1,14 +1,15 @@
-//! Tables of a network that is being built.
+//! The rules of a table are checked before the table is added, in the order in which the builder's refusals are told. It
+//! goes over the members once.
 ghost use Rattle.std.specs.Prelude.{◌≡◌, ◌+◌, ◌≤◌, length, IfOk, OnErr};
 ghost use Rattle.std.specs.List.{list_all};
 ghost use Rattle.wi_labels.specs.Header.{same_class};
 ghost use Rattle.wi_net.specs.Tables.{row_members, group_members};
 ghost use Rattle.wi_net.specs.Net.{label_known};
 ghost use Rattle.wi_net.specs.Network.{op_known, leaves};
-ghost use Rattle.wi_net.specs.Builder.{add_table, member_rules, members_rules, group_rules, groups_rules, Answers};
+ghost use Rattle.wi_net.specs.Builder.{add_table, member_rules, members_rules, group_rules, groups_rules, Gives};
 
 use crate::builder::NetworkBuilder;
-use crate::parts::{Group, LinkId, Member, RouterId, Row};
+use crate::parts::{Group, LinkId, Member, RouterId, TableRow};
 use crate::refused::{BuildRefused, Limited, Part};
 use wi_base::Listed;
 use wi_labels::{Class, Label, Op};
@@ -25,7 +26,7 @@ impl NetworkBuilder {
         label: Label,
         groups: Vec<Group>,
     ) -> Result<(), BuildRefused>
-        ensures answer { Answers (λ _. self.new) result (add_table self.old link label groups.items) }
+        ensures answer { Gives (λ _. self.new) result (add_table self.old link label groups.items) }
         ensures err { OnErr result (self.new ≡ self.old) }
     {
         if self.row_count() >= 200000 {
@@ -41,7 +42,7 @@ impl NetworkBuilder {
             return Err(BuildRefused::Repeated);
         }
         let members = groups_total(self, found.to, self.member_count(), groups.as_slice())?;
-        let row = Row {
+        let row = TableRow {
             link,
             label,
             groups: Listed::of(groups),
@@ -59,7 +60,7 @@ fn groups_total(
     groups: &[Group],
 ) -> Result<usize, BuildRefused>
     requires { so_far ≤ 400000 }
-    ensures answer { Answers (λ n. n) result (groups_rules builder.now.net router so_far groups.now) }
+    ensures answer { Gives (λ n. n) result (groups_rules builder.now.net router so_far groups.now) }
     ensures total { IfOk result (λ n. n ≡ so_far + group_members groups.now) }
     ensures few { IfOk result (λ n. n ≤ 400000) }
 {
@@ -78,7 +79,7 @@ fn group_total(
     group: &[Member],
 ) -> Result<usize, BuildRefused>
     requires { so_far ≤ 400000 }
-    ensures answer { Answers (λ n. n) result (group_rules builder.now.net router so_far group.now) }
+    ensures answer { Gives (λ n. n) result (group_rules builder.now.net router so_far group.now) }
     ensures total { IfOk result (λ n. n ≡ so_far + length group.now) }
     ensures few { IfOk result (λ n. n ≤ 400000) }
 {
@@ -95,7 +96,7 @@ fn members_total(
     group: &[Member],
 ) -> Result<usize, BuildRefused>
     requires { so_far ≤ 400000 }
-    ensures answer { Answers (λ n. n) result (members_rules builder.now.net router so_far group.now) }
+    ensures answer { Gives (λ n. n) result (members_rules builder.now.net router so_far group.now) }
     ensures total { IfOk result (λ n. n ≡ so_far + length group.now) }
     ensures few { IfOk result (λ n. n ≤ 400000) }
 {
@@ -114,7 +115,7 @@ fn member_total(
     member: &Member,
 ) -> Result<usize, BuildRefused>
     requires { so_far ≤ 400000 }
-    ensures answer { Answers (λ n. n) result (member_rules builder.now.net router so_far member.now) }
+    ensures answer { Gives (λ n. n) result (member_rules builder.now.net router so_far member.now) }
     ensures total { IfOk result (λ n. n ≡ so_far + 1) }
     ensures few { IfOk result (λ n. n ≤ 400000) }
 {

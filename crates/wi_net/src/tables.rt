@@ -1,9 +1,10 @@
-//! The rows of a network's tables, each found by its link and label, and their members by number.
+//! A row is found by its link and label in one look-up, and a member by its number over all rows in halvings, since a search
+//! names a choice by one number. That takes a pair and a number for each row beside the row itself.
 ghost use Rattle.std.specs.Prelude.{◌≡◌, nat_le, ◌<◌, ◌≤◌, ◌+◌, ◌++◌, ◌∷◌, [], None, Some, length, position, slice_get, option_map, IfSome, OnOk, OnErr};
 ghost use Rattle.wi_net.specs.Tables.{is_row, groups_in, members_of, all_members, row_members, group_members, starts_from, members_before, begun};
 ghost use Rattle.std.specs.List.Sorted.{IsPartitionedBy};
 
-use crate::parts::{Group, LinkId, Member, Row};
+use crate::parts::{Group, LinkId, Member, TableRow};
 use indexmap::IndexSet;
 use std::alloc::Global;
 use std::marker::Model;
@@ -13,7 +14,7 @@ use wi_labels::Label;
 /// A list of rows, of which no two have one link and one label. Members are numbered from 0 over all rows.
 #[derive(Drop)]
 pub struct Tables {
-    rows: Vec<Row>,
+    rows: Vec<TableRow>,
     keys: IndexSet<(u32, u32)>,
     // The number of each row's first member.
     starts: Vec<usize>,
@@ -22,10 +23,10 @@ pub struct Tables {
 
 impl Model for Tables {
     ghost use Rattle.std.specs.Prelude.{List};
-    ghost use Rattle.wi_net.specs.declared.parts.Row.{Row};
+    ghost use Rattle.wi_net.specs.declared.parts.TableRow.{TableRow};
     ghost use Rattle.wi_net.specs.Tables.{AreTables};
 
-    ghost Value = { List Row };
+    ghost Value = { List TableRow };
 
     ghost view = { λ t. t.rows.items };
 
@@ -68,7 +69,7 @@ impl Tables {
     }
 
     /// The row at a place.
-    pub fn at(&self, i: usize) -> &Row
+    pub fn at(&self, i: usize) -> &TableRow
         requires { i < length self.now }
         ensures { slice_get self.now i ≡ Some result.now }
     {
@@ -104,7 +105,7 @@ impl Tables {
     }
 
     /// Adds a row of a link and a label that have none. There are then so many members.
-    pub fn add(&mut self, row: Row, members: usize) -> Result<(), NoMemory>
+    pub fn add(&mut self, row: TableRow, members: usize) -> Result<(), NoMemory>
         requires free { position (is_row row.link row.label) self.old ≡ None }
         requires counted { members ≡ row_members self.old + group_members row.groups }
         ensures ok { OnOk result (self.new ≡ self.old ++ row ∷ []) }
@@ -129,7 +130,7 @@ fn begun(starts: &[usize], number: usize) -> usize
 }
 
 // The member of a number: the last row that begins no later has it.
-fn member_at<'a>(rows: &'a [Row], starts: &[usize], number: usize) -> &'a Member
+fn member_at<'a>(rows: &'a [TableRow], starts: &[usize], number: usize) -> &'a Member
     requires known { starts.now ≡ starts_from 0 rows.now }
     requires within { number < row_members rows.now }
     ensures { slice_get (all_members rows.now) number ≡ Some result.now }

@@ -14,7 +14,7 @@ use Rattle.wi_labels.specs.declared.ops.Op.TheVariants.{Swap, Push, Pop}
 use Rattle.wi_net.specs.declared.parts.Link.{Link}
 use Rattle.wi_net.specs.declared.parts.LinkId.{LinkId}
 use Rattle.wi_net.specs.declared.parts.Member.{Member}
-use Rattle.wi_net.specs.declared.parts.Row.{Row}
+use Rattle.wi_net.specs.declared.parts.TableRow.{TableRow}
 use Rattle.wi_net.specs.Names.{are_names}
 use Rattle.wi_net.specs.Net.{Net}
 use Rattle.wi_net.specs.Network.{IsNetwork}
@@ -140,7 +140,7 @@ op_flat net Pop = lit≤ tt
 way_flat : (net : Net) (m : Member) → depth (way_data net m) ≤ 3
 way_flat net m = let ops = list_flat (op_data net) m.ops 1 (op_flat net) in omega (arith, ops)
 
-row_flat : (net : Net) (row : Row) → depth (row_data net row) ≤ 6
+row_flat : (net : Net) (row : TableRow) → depth (row_data net row) ≤ 6
 row_flat net row = let groups = list_flat (group_data net) row.groups 4 (λ g. list_flat (way_data net) g 3 (way_flat net)) in omega (arith, groups)
 
 link_flat : (net : Net) (l : Link) → depth (link_data net l) ≤ 1

@@ -19,8 +19,8 @@ use Rattle.wi_net.specs.Tables.{is_row, group_members, row_members}
 use Rattle.wi_net.specs.Net.{Net}
 use Rattle.wi_net.specs.Finding.{find_router, find_label, find_out, find_in}
 use Rattle.wi_net.specs.Network.{op_known, leaves}
-use Rattle.wi_net.specs.Builder.{◌>>=◌, Draft, with_row, member_rules, members_rules, group_rules, groups_rules, add_table, known}
-use Rattle.wi_net.proofs.KeptLists.{all_push, step_held, rule_held, known_held, given_is}
+use Rattle.wi_net.specs.Builder.{◌>>=◌, Draft, with_row, member_rules, members_rules, group_rules, groups_rules, add_table, found_or}
+use Rattle.wi_net.proofs.KeptLists.{all_push, step_held, rule_held, found_held, given_is}
 use Rattle.wi_net.proofs.KeptLists as kept
 use Rattle.wi_net.proofs.TableLemmas.{group_members_push}
 use Rattle.wi_netjson.specs.declared.fault.Place.{Place}
@@ -53,9 +53,9 @@ one_known net place (Some word) op e = go (bytes_eq word (codes "pop")) refl
 one_known net place None op e = cc
 
 -- an operation that was made of a label
-made_of : (net : Net) (place : Place) (name : List ℕ) (make : Entry → Op) (op : Op) → (known (UnknownLabel place) (labelled net name) >>= λ l. Ok (make l)) ≡ Ok op → (l : Entry) × (labelled net name ≡ Some l) × (op ≡ make l)
+made_of : (net : Net) (place : Place) (name : List ℕ) (make : Entry → Op) (op : Op) → (found_or (UnknownLabel place) (labelled net name) >>= λ l. Ok (make l)) ≡ Ok op → (l : Entry) × (labelled net name ≡ Some l) × (op ≡ make l)
 made_of net place name make op e =
-    let h = known_held (UnknownLabel place) (labelled net name) (λ l. Ok (make l)) op e in
+    let h = found_held (UnknownLabel place) (labelled net name) (λ l. Ok (make l)) op e in
     (h.0, h.1, sym (given_is (make h.0) op h.2))
 
 -- two words have a label that is known with its class
@@ -110,7 +110,7 @@ way_rules net router n i j m d member e =
     let out = step_held (text (MemberPart i j m way.Out) (get (codes "out") o.0)) _ member o.2 in
     let items = step_held (list (MemberPart i j m way.Ops) (get (codes "ops") o.0)) _ member out.2 in
     let few = rule_held (OverLimit (Member i j m) 400000) (nat_lt n 400000) _ member items.2 in
-    let link = known_held (UnknownInterface (MemberPart i j m way.Out)) (find_out net router out.0) _ member few.1 in
+    let link = found_held (UnknownInterface (MemberPart i j m way.Out)) (find_out net router out.0) _ member few.1 in
     let short = rule_held (OverLimit (MemberPart i j m way.Ops) 8) (nat_le (0 + items_len items.0) 8) _ member link.2 in
     let ops = step_held (each (operation_at net i j m) [] 0 items.0) _ member short.1 in
     let known = ops_known net i j m items.0 ops.0 ops.1 in
@@ -192,9 +192,9 @@ pub row_rules : (draft : Draft) (i : ℕ) (at into name : List ℕ) (router : Ro
     → add_table draft link label groups ≡ Ok (with_row draft (record { link = link; label = label; groups = groups }))
 unfolding table_ends
 row_rules draft i at into name router link label so_far items groups few ends count read =
-    let r = known_held (UnknownRouter (TablePart i table.At)) (find_router draft.net at) _ (router, link, label) ends in
-    let e = known_held (UnknownInterface (TablePart i table.In)) (find_in draft.net r.0 into) _ (router, link, label) r.2 in
-    let l = known_held (UnknownLabel (TablePart i table.Label)) (find_label draft.net name) _ (router, link, label) e.2 in
+    let r = found_held (UnknownRouter (TablePart i table.At)) (find_router draft.net at) _ (router, link, label) ends in
+    let e = found_held (UnknownInterface (TablePart i table.In)) (find_in draft.net r.0 into) _ (router, link, label) r.2 in
+    let l = found_held (UnknownLabel (TablePart i table.Label)) (find_label draft.net name) _ (router, link, label) e.2 in
     let new = rule_held (RepeatedTable (TablePart i table.Label)) (is_none (position (is_row e.0 l.0) draft.net.rows)) _ (router, link, label) l.2 in
     let made : (let all : RouterId × LinkId × Label = (r.0, e.0, l.0) in all ≡ (router, link, label)) = given_is (r.0, e.0, l.0) (router, link, label) new.1 in
     let r_is : r.0 ≡ router = ap (λ (x : RouterId × LinkId × Label). x.0) made in

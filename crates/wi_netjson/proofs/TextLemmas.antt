@@ -8,7 +8,7 @@ use Rattle.wi_labels.specs.declared.ops.Op.{Op}
 use Rattle.wi_labels.specs.declared.ops.Op.TheVariants.{Swap, Push, Pop}
 use Rattle.wi_net.specs.declared.parts.Link.{Link}
 use Rattle.wi_net.specs.declared.parts.Member.{Member}
-use Rattle.wi_net.specs.declared.parts.Row.{Row}
+use Rattle.wi_net.specs.declared.parts.TableRow.{TableRow}
 use Rattle.wi_net.specs.Net.{Net}
 use Rattle.wi_netjson.specs.Written.{list_of, labels_in, labels_data, is_larger, link_data, op_data, way_data, group_data, row_data, network_data, text_of}
 
@@ -30,7 +30,7 @@ op_plain net Pop = refl
 way_plain : (net : Net) (m : Member) → has_float (way_data net m) ≡ false
 way_plain net m = rw (list_plain (op_data net) m.ops (op_plain net)) refl
 
-row_plain : (net : Net) (row : Row) → has_float (row_data net row) ≡ false
+row_plain : (net : Net) (row : TableRow) → has_float (row_data net row) ≡ false
 row_plain net row = rw (list_plain (group_data net) row.groups (λ g. list_plain (way_data net) g (way_plain net))) refl
 
 link_plain : (net : Net) (l : Link) → has_float (link_data net l) ≡ false

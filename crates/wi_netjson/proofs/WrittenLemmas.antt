@@ -18,7 +18,7 @@ use Rattle.wi_labels.specs.Header.{same_class}
 use Rattle.wi_net.specs.declared.parts.Link.{Link}
 use Rattle.wi_net.specs.declared.parts.LinkId.{LinkId}
 use Rattle.wi_net.specs.declared.parts.Member.{Member}
-use Rattle.wi_net.specs.declared.parts.Row.{Row}
+use Rattle.wi_net.specs.declared.parts.TableRow.{TableRow}
 use Rattle.wi_net.specs.Tables.{is_row, are_rows_apart, groups_in}
 use Rattle.wi_net.specs.Net.{Net, entry}
 use Rattle.wi_net.specs.Network.{IsNetwork, is_row_of}
@@ -152,7 +152,7 @@ pub way_written : (net : Net) (m : Member) (l : Link) (out : List ℕ) (ops v : 
     → v ≡ object (member (codes "ops") ops (member (codes "out") (string out) no_members)) → v ≡ way_data net m
 way_written net m l out ops v at at_out is made = made ∙ rw (is, at, named net.interfaces l.out_if.0 out at_out) refl
 
-pub row_written : (net : Net) (row : Row) (l : Link) (to into name : List ℕ) (groups v : Data) → slice_get net.links row.link.0 ≡ Some l → slice_get net.routers l.to.0 ≡ Some to → slice_get net.interfaces l.in_if.0 ≡ Some into → slice_get net.labels row.label.0 ≡ Some name
+pub row_written : (net : Net) (row : TableRow) (l : Link) (to into name : List ℕ) (groups v : Data) → slice_get net.links row.link.0 ≡ Some l → slice_get net.routers l.to.0 ≡ Some to → slice_get net.interfaces l.in_if.0 ≡ Some into → slice_get net.labels row.label.0 ≡ Some name
     → groups ≡ list_of (group_data net) row.groups → v ≡ object (member (codes "at") (string to) (member (codes "groups") groups (member (codes "in") (string into) (member (codes "label") (string name) no_members)))) → v ≡ row_data net row
 row_written net row l to into name groups v at at_to at_in at_name is made = made ∙ rw (is, at, named net.routers l.to.0 to at_to, named net.interfaces l.in_if.0 into at_in, named net.labels row.label.0 name at_name) refl
 
@@ -163,26 +163,26 @@ none_at p (y ∷ xs) zero x none at = let same : y ≡ x = cc in ap p (sym same)
 none_at p (y ∷ xs) (suc i) x none at = none_at p xs i x (none_parts p y xs none).1 at
 
 -- the groups of a row are what the rows say of its link and label
-groups_of_row : (rows : List Row) (i : ℕ) (row : Row) → are_rows_apart rows ≡ true → slice_get rows i ≡ Some row → groups_in rows row.link row.label ≡ row.groups
+groups_of_row : (rows : List TableRow) (i : ℕ) (row : TableRow) → are_rows_apart rows ≡ true → slice_get rows i ≡ Some row → groups_in rows row.link row.label ≡ row.groups
 groups_of_row [] i row apart at = cc
 groups_of_row (x ∷ rows) zero row apart at =
     let same : x ≡ row = cc in
     let here : is_row row.link row.label x ≡ true = rw same (and_from (row.link.0 == row.link.0) (row.label.0 == row.label.0) (eq-eqb row.link.0 row.link.0 refl) (eq-eqb row.label.0 row.label.0 refl)) in
-    rw here (ap (λ (r : Row). r.groups) same)
+    rw here (ap (λ (r : TableRow). r.groups) same)
 groups_of_row (x ∷ rows) (suc i) row apart at =
     let parts = and_parts (is_none (position (is_row x.link x.label) rows)) (are_rows_apart rows) apart in
     let other : is_row x.link x.label row ≡ false = none_at (is_row x.link x.label) rows i row (nothing_is (position (is_row x.link x.label) rows) parts.0) at in
     let flipped : is_row row.link row.label x ≡ false = rw (same_flip row.link.0 x.link.0, same_flip row.label.0 x.label.0) other in
     rw flipped (groups_of_row rows i row parts.1 at)
 
-abbrev pub row_of : LinkId → Label → List (List Member) → Row
+abbrev pub row_of : LinkId → Label → List (List Member) → TableRow
 row_of link label groups = record { link = link; label = label; groups = groups }
 
 -- the row at a place, by its link and label
-pub row_found : (net : Net) (i : ℕ) (link : LinkId) (label : Label) (groups : List (List Member)) → IsNetwork net → option_map {U = LinkId × Label} (λ (r : Row). (r.link, r.label)) (slice_get net.rows i) ≡ Some (link, label) → groups ≡ entry net link label → slice_get net.rows i ≡ Some (row_of link label groups)
+pub row_found : (net : Net) (i : ℕ) (link : LinkId) (label : Label) (groups : List (List Member)) → IsNetwork net → option_map {U = LinkId × Label} (λ (r : TableRow). (r.link, r.label)) (slice_get net.rows i) ≡ Some (link, label) → groups ≡ entry net link label → slice_get net.rows i ≡ Some (row_of link label groups)
 row_found net i link label groups k found is = go (slice_get net.rows i) refl
   where
-    go : (o : Option Row) → slice_get net.rows i ≡ o → slice_get net.rows i ≡ Some (row_of link label groups)
+    go : (o : Option TableRow) → slice_get net.rows i ≡ o → slice_get net.rows i ≡ Some (row_of link label groups)
     go (Some row) at =
         let given : (let o : Option (LinkId × Label) = Some (row.link, row.label) in o ≡ Some (link, label)) = rw at at found in
         let pair : (let p : LinkId × Label = (row.link, row.label) in p ≡ (link, label)) = cc in
@@ -192,7 +192,7 @@ row_found net i link label groups k found is = go (slice_get net.rows i) refl
         at ∙ ap (λ e. Some (row_of e row.label row.groups)) link_is ∙ ap (λ l. Some (row_of link l row.groups)) label_is ∙ ap (λ gs. Some (row_of link label gs)) groups_are
     go None at = let none : (let o : Option (LinkId × Label) = None in o ≡ Some (link, label)) = rw at at found in cc
 
-pub row_in : (net : Net) (i : ℕ) (row : Row) → IsNetwork net → slice_get net.rows i ≡ Some row → is_row_of net row ≡ true
+pub row_in : (net : Net) (i : ℕ) (row : TableRow) → IsNetwork net → slice_get net.rows i ≡ Some row → is_row_of net row ≡ true
 row_in net i row k at = all_get (is_row_of net) net.rows i row k.rows at
 
 pub class_all : (class : Class) (classes : List Class) (labels : List (List ℕ)) (values : Vec Value) (i : ℕ) → length classes ≡ length labels → length labels ≤ i

@@ -5,7 +5,7 @@ use Rattle.serde_json.specs.Read.{read}
 use Rattle.serde_json.specs.Data.{Data}
 use Rattle.serde_json.specs.Find.{get}
 use Rattle.wi_net.specs.Net.{Net}
-use Rattle.wi_net.specs.Builder.{◌>>=◌, Draft, empty, rule, known}
+use Rattle.wi_net.specs.Builder.{◌>>=◌, Draft, empty, rule, found_or}
 use Rattle.wi_netjson.specs.declared.fault.Place.TheVariants.{File, Format}
 use Rattle.wi_netjson.specs.declared.fault.NetFault.{NetFault}
 use Rattle.wi_netjson.specs.declared.fault.NetFault.TheVariants.{NotJson, UnknownFormat, OverLimit}
@@ -42,6 +42,6 @@ few_bytes bytes = rule (OverLimit File 67108864) (nat_le (length bytes) 67108864
 unfoldable pub network_of : List ℕ → Result Net NetFault
 network_of bytes = do
   _ ← few_bytes bytes
-  d ← known (NotJson File) (json_of bytes)
+  d ← found_or (NotJson File) (json_of bytes)
   draft ← file_of empty d
   Ok draft.net

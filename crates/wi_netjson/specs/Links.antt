@@ -4,7 +4,7 @@ use Rattle.serde_json.specs.Data.{Data}
 use Rattle.serde_json.specs.Find.{get}
 use Rattle.wi_net.specs.Names.{is_name}
 use Rattle.wi_net.specs.Finding.{find_router, find_out, find_in}
-use Rattle.wi_net.specs.Builder.{◌>>=◌, Draft, with_new_link, is_group_name, rule, known}
+use Rattle.wi_net.specs.Builder.{◌>>=◌, Draft, with_new_link, is_group_name, rule, found_or}
 use Rattle.wi_netjson.specs.declared.fault.Place.TheVariants.{Links, Link, LinkPart}
 use Rattle.wi_netjson.specs.declared.fault.LinkPart.TheVariants as on
 use Rattle.wi_netjson.specs.declared.fault.NetFault.{NetFault}
@@ -22,8 +22,8 @@ link_rules draft i from out to into distance group = do
   _ ← rule (BadName (LinkPart i on.Group)) (is_group_name group)
   _ ← rule (BadName (LinkPart i on.Out)) (is_name out)
   _ ← rule (BadName (LinkPart i on.In)) (is_name into)
-  f ← known (UnknownRouter (LinkPart i on.From)) (find_router draft.net from)
-  t ← known (UnknownRouter (LinkPart i on.To)) (find_router draft.net to)
+  f ← found_or (UnknownRouter (LinkPart i on.From)) (find_router draft.net from)
+  t ← found_or (UnknownRouter (LinkPart i on.To)) (find_router draft.net to)
   _ ← rule (InterfaceTaken (LinkPart i on.Out)) (is_none (find_out draft.net f out))
   _ ← rule (InterfaceTaken (LinkPart i on.In)) (is_none (find_in draft.net t into))
   Ok (with_new_link draft f out t into distance group)

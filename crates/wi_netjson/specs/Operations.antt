@@ -8,7 +8,7 @@ use Rattle.wi_labels.specs.declared.ops.Op.TheVariants.{Swap, Push, Pop}
 use Rattle.wi_labels.specs.Header.{Entry}
 use Rattle.wi_net.specs.Net.{Net}
 use Rattle.wi_net.specs.Finding.{find_label}
-use Rattle.wi_net.specs.Builder.{◌>>=◌, known}
+use Rattle.wi_net.specs.Builder.{◌>>=◌, found_or}
 use Rattle.wi_netjson.specs.declared.fault.Place.{Place}
 use Rattle.wi_netjson.specs.declared.fault.Place.TheVariants.{Operation}
 use Rattle.wi_netjson.specs.declared.fault.NetFault.{NetFault}
@@ -21,8 +21,8 @@ labelled net name = option_and_then (λ l. option_map (λ c. (l, c)) (slice_get 
 -- a word and a label
 abbrev pub two_words : Net → Place → Option (List ℕ) → Option (List ℕ) → Result Op NetFault
 two_words net place (Some word) (Some name) =
-    if bytes_eq word (codes "swap") then (known (UnknownLabel place) (labelled net name) >>= λ l. Ok (Swap l.0 l.1))
-    else if bytes_eq word (codes "push") then (known (UnknownLabel place) (labelled net name) >>= λ l. Ok (Push l.0 l.1))
+    if bytes_eq word (codes "swap") then (found_or (UnknownLabel place) (labelled net name) >>= λ l. Ok (Swap l.0 l.1))
+    else if bytes_eq word (codes "push") then (found_or (UnknownLabel place) (labelled net name) >>= λ l. Ok (Push l.0 l.1))
     else Err (BadOperation place)
 two_words net place _ _ = Err (BadOperation place)
 

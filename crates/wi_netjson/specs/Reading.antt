@@ -3,7 +3,7 @@ use Rattle.std.specs.Prelude.{◌≡◌, ℕ, ◌+◌, List, Option, Some, None,
 use Rattle.serde_json.specs.Data.{Data, Items, no_items, item, Num}
 use Rattle.serde_json.specs.Find.{as_str, as_array, as_object, as_number, as_u64}
 use Rattle.serde_json.specs.Events.{items_len}
-use Rattle.wi_net.specs.Builder.{◌>>=◌, rule, known}
+use Rattle.wi_net.specs.Builder.{◌>>=◌, rule, found_or}
 use Rattle.wi_netjson.specs.declared.fault.Place.{Place}
 use Rattle.wi_netjson.specs.declared.fault.NetFault.{NetFault}
 use Rattle.wi_netjson.specs.declared.fault.NetFault.TheVariants.{Memory, WrongShape, OverLimit, BadNumber}
@@ -20,7 +20,7 @@ Gives view (Err fault) read = Fails fault read
 
 -- what is there, or the wrong shape
 abbrev pub shaped : {A : Type 0} → Place → Option A → Result A NetFault
-shaped place found = known (WrongShape place) found
+shaped place found = found_or (WrongShape place) found
 
 abbrev pub text : Place → Option Data → Result (List ℕ) NetFault
 text place found = shaped place (option_and_then as_str found)

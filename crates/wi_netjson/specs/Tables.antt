@@ -10,7 +10,7 @@ use Rattle.wi_net.specs.declared.parts.Member.{Member as Way}
 use Rattle.wi_net.specs.Tables.{is_row, group_members, row_members}
 use Rattle.wi_net.specs.Net.{Net}
 use Rattle.wi_net.specs.Finding.{find_router, find_label, find_out, find_in}
-use Rattle.wi_net.specs.Builder.{◌>>=◌, Draft, with_row, rule, known}
+use Rattle.wi_net.specs.Builder.{◌>>=◌, Draft, with_row, rule, found_or}
 use Rattle.wi_netjson.specs.declared.fault.Place.TheVariants.{Tables, Table, TablePart, Group, Member, MemberPart}
 use Rattle.wi_netjson.specs.declared.fault.TablePart.TheVariants as table
 use Rattle.wi_netjson.specs.declared.fault.MemberPart.TheVariants as way
@@ -26,7 +26,7 @@ way_at net router so_far i j m d = do
   out ← text (MemberPart i j m way.Out) (get (codes "out") o)
   items ← list (MemberPart i j m way.Ops) (get (codes "ops") o)
   _ ← rule (OverLimit (Member i j m) 400000) (nat_lt so_far 400000)
-  link ← known (UnknownInterface (MemberPart i j m way.Out)) (find_out net router out)
+  link ← found_or (UnknownInterface (MemberPart i j m way.Out)) (find_out net router out)
   _ ← limited (MemberPart i j m way.Ops) 8 0 items
   ops ← each (operation_at net i j m) [] 0 items
   Ok (record { link = link; ops = ops })
@@ -49,9 +49,9 @@ group_at net router so_far i before j d = group_members_at net router (so_far + 
 -- the router, the arrival link and the label of a table
 unfoldable pub table_ends : Net → ℕ → List ℕ → List ℕ → List ℕ → Result (RouterId × LinkId × LabelId) NetFault
 table_ends net i at into name = do
-  router ← known (UnknownRouter (TablePart i table.At)) (find_router net at)
-  link ← known (UnknownInterface (TablePart i table.In)) (find_in net router into)
-  label ← known (UnknownLabel (TablePart i table.Label)) (find_label net name)
+  router ← found_or (UnknownRouter (TablePart i table.At)) (find_router net at)
+  link ← found_or (UnknownInterface (TablePart i table.In)) (find_in net router into)
+  label ← found_or (UnknownLabel (TablePart i table.Label)) (find_label net name)
   _ ← rule (RepeatedTable (TablePart i table.Label)) (is_none (position (is_row link label) net.rows))
   Ok (router, link, label)
 

@@ -13,7 +13,7 @@ use Rattle.wi_labels.specs.Header.{same_class}
 use Rattle.wi_net.specs.declared.parts.Link.{Link}
 use Rattle.wi_net.specs.declared.parts.LinkId.{LinkId}
 use Rattle.wi_net.specs.declared.parts.Member.{Member}
-use Rattle.wi_net.specs.declared.parts.Row.{Row}
+use Rattle.wi_net.specs.declared.parts.TableRow.{TableRow}
 use Rattle.wi_net.specs.Net.{Net}
 
 -- the name of a number
@@ -86,7 +86,7 @@ way_data net m = object (member (codes "ops") (list_of (op_data net) m.ops) (mem
 abbrev pub group_data : Net → List Member → Data
 group_data net group = list_of (way_data net) group
 
-abbrev pub row_data : Net → Row → Data
+abbrev pub row_data : Net → TableRow → Data
 row_data net row =
     object (member (codes "at") (string (target_name net row.link))
     (member (codes "groups") (list_of (group_data net) row.groups)

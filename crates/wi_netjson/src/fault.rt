@@ -1,4 +1,5 @@
-//! What is wrong with a network file, and where.
+//! A fault names one place, as numbers and words of the format, so that it is `Copy` and takes no memory; its text is made
+//! only where it is shown.
 use std::alloc::AllocFailed;
 use thiserror::Error;
 use wi_labels::Class;

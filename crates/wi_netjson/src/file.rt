@@ -1,7 +1,8 @@
-//! A whole network file.
+//! The parts of a file are read in one fixed order, so that of several faults the same one is told each time. The whole JSON
+//! value is in memory until the network is built; files over 64 MiB are refused before.
 ghost use Rattle.std.specs.Prelude.{◌≡◌, option_map};
 ghost use Rattle.serde_json.specs.View.{view};
-ghost use Rattle.wi_net.specs.Builder.{empty, known};
+ghost use Rattle.wi_net.specs.Builder.{empty, found_or};
 ghost use Rattle.wi_netjson.specs.Reading.{Gives};
 ghost use Rattle.wi_netjson.specs.File.{json_of, has_groups, file_of, network_of, few_bytes};
 
@@ -38,7 +39,7 @@ fn few_bytes(bytes: &[u8]) -> Result<(), NetFault>
 
 // The value that bytes read as.
 fn value_of(alloc: Global, bytes: &[u8]) -> Result<Value, NetFault>
-    ensures { Gives view result (known (NetFault.NotJson Place.File) (json_of bytes.now)) }
+    ensures { Gives view result (found_or (NetFault.NotJson Place.File) (json_of bytes.now)) }
 {
     match Value::from_slice(alloc, bytes) {
         Ok(value) => Ok(value),
@@ -60,14 +61,11 @@ fn file_of(alloc: Global, value: &Value) -> Result<NetworkBuilder, NetFault>
     match fill(alloc, &mut builder, value) {
         Ok(()) => Ok(builder),
         Err(fault) => {
-            discard(builder);
+            drop(builder);
             Err(fault)
         }
     }
 }
-
-// A drop of so many fields in place makes long proofs, so it has a function of its own.
-fn discard(_builder: NetworkBuilder) {}
 
 // Adds all of a file.
 #[tactic(auto, unfolding(crate::specs::File::file_of))]

@@ -1,4 +1,5 @@
-//! The labels of a network file.
+//! The three lists of labels are read one after the other, since labels are numbered class by class and a name is unique over
+//! all of them: a label costs one look-up.
 ghost use Rattle.std.specs.Prelude.{◌≡◌, ◌+◌, ◌<◌, ◌≤◌, true, length, OnOk, option_map};
 ghost use Rattle.std.specs.List.{list_all};
 ghost use Rattle.serde_json.specs.View.{view, items_view};
@@ -57,7 +58,7 @@ fn each_label(builder: &mut NetworkBuilder, class: Class, values: &[Value]) -> R
     Ok(())
 }
 
-#[tactic(auto, using(crate::proofs::Classes::one_later), unfolding(crate::specs::Labels::label_at, wi_net::specs::Builder::add_label))]
+#[tactic(auto, using(wi_net::proofs::Classes::one_later), unfolding(crate::specs::Labels::label_at, wi_net::specs::Builder::add_label))]
 fn label(
     builder: &mut NetworkBuilder,
     class: Class,

@@ -15,6 +15,3 @@ mod written;
 pub use fault::{LinkPart, MemberPart, NetFault, Place, TablePart};
 pub use file::read_network;
 pub use written::write_network;
-
-#[cfg(test)]
-mod tests;

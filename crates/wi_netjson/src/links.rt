@@ -1,4 +1,5 @@
-//! The links of a network file.
+//! The shapes of all members of a link come before any name is looked up, as the format's order of faults has it. A link
+//! costs a look-up for each of its names.
 ghost use Rattle.std.specs.Prelude.{◌≡◌, ◌+◌, ◌<◌, ◌≤◌, OnOk, length, option_map};
 ghost use Rattle.serde_json.specs.View.{view, items_view};
 ghost use Rattle.wi_netjson.specs.Reading.{Gives, each};

@@ -1,8 +1,9 @@
-//! The operations of a member of a group.
+//! An operation names its label alone: the class is the network's, so no file can give a label another one. An operation
+//! costs one look-up.
 ghost use Rattle.std.specs.Prelude.{◌≡◌, [], option_map};
 ghost use Rattle.serde_json.specs.Find.{as_array};
 ghost use Rattle.serde_json.specs.View.{view, items_view};
-ghost use Rattle.wi_net.specs.Builder.{known};
+ghost use Rattle.wi_net.specs.Builder.{found_or};
 ghost use Rattle.wi_netjson.specs.Reading.{Gives, each};
 ghost use Rattle.wi_netjson.specs.Operations.{operation_at, operation_of, one_word, two_words, labelled};
 
@@ -86,7 +87,7 @@ fn two_words(
 
 // The label of a name, with its class.
 fn labelled(builder: &NetworkBuilder, place: Place, name: &str) -> Result<(Label, Class), NetFault>
-    ensures { Gives (λ l. l) result (known (NetFault.UnknownLabel place) (labelled builder.now.net name.now)) }
+    ensures { Gives (λ l. l) result (found_or (NetFault.UnknownLabel place) (labelled builder.now.net name.now)) }
 {
     match builder.find_label(name) {
         Some(label) => match builder.class(label) {

@@ -1,4 +1,5 @@
-//! Lists that take little more room than they need.
+//! Most groups have one member, and a list that grows begins with room for several: over hundreds of thousands of groups that
+//! is most of the memory. Lists here begin with room for one and double, which costs a few more moves.
 ghost use Rattle.std.specs.Prelude.{◌≡◌, ◌++◌, ◌∷◌, [], OnOk};
 
 use wi_base::NoMemory;

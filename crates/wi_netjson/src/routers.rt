@@ -1,4 +1,4 @@
-//! The routers of a network file.
+//! Routers come first, since links and tables name them. A router costs one look-up, for a name that came before.
 ghost use Rattle.std.specs.Prelude.{◌≡◌, ◌+◌, ◌<◌, ◌≤◌, OnOk, length};
 ghost use Rattle.serde_json.specs.View.{view, items_view};
 ghost use Rattle.wi_netjson.specs.Reading.{Gives, each};

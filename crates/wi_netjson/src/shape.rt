@@ -1,4 +1,5 @@
-//! The shapes of values.
+//! What kind of value stands at a place is asked for each part of a file, so each kind is one function that names the fault.
+//! Nothing is copied: texts and lists are lent by the JSON value.
 ghost use Rattle.std.specs.Prelude.{◌≡◌, ◌+◌, ◌≤◌, length, OnOk, option_map};
 ghost use Rattle.serde_json.specs.View.{view, items_view};
 ghost use Rattle.wi_netjson.specs.Reading.{Gives, text, list, object, limited, whole, optional_text};

@@ -1,4 +1,5 @@
-//! The tables of a network file.
+//! A table's own checks come before those of its groups, and a member's before the next member's, as the format's order of
+//! faults has it. What was checked here isn't checked by the builder again: a member costs a look-up for each name.
 ghost use Rattle.std.specs.Prelude.{◌≡◌, ◌+◌, ◌≤◌, ◌<◌, [], length, OnOk, IfOk};
 ghost use Rattle.serde_json.specs.View.{view, items_view};
 ghost use Rattle.wi_net.specs.Tables.{group_members};
@@ -13,7 +14,7 @@ use serde_json::Value;
 use std::alloc::Global;
 use wi_base::Listed;
 use wi_labels::Label;
-use wi_net::{Group, LinkId, Member, NetworkBuilder, RouterId, Row};
+use wi_net::{Group, LinkId, Member, NetworkBuilder, RouterId, TableRow};
 
 /// Adds the tables of a file.
 #[tactic(auto, unfolding(crate::specs::Tables::tables_of))]
@@ -54,7 +55,7 @@ fn table(
     let (router, link, label) = table_ends(builder, i, at, into, name)?;
     let so_far = builder.member_count();
     let (groups, members) = groups(alloc, builder, router, so_far, i, values)?;
-    let row = Row {
+    let row = TableRow {
         link,
         label,
         groups: Listed::of(groups),

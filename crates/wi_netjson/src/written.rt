@@ -1,4 +1,5 @@
-//! The canonical text of a network.
+//! One text for each network, so that what is written can be compared and kept by its bytes, and reads as the same network.
+//! The whole JSON value is made before its text.
 ghost use Rattle.std.specs.Prelude.{◌≡◌, ◌++◌, ◌∷◌, [], true, false, codes, decimal, string_bytes, slice_index_or, ◌≤◌, length, Ok, IfOk, OnOk};
 ghost use Rattle.std.specs.List.{list_all};
 ghost use Rattle.serde_json.specs.Data.{string, number, unsigned, object, member, no_members};

@@ -12,6 +12,3 @@ mod tables;
 pub use laws::{accepts_what_matches, rising_lists_are_equal, start_is_never_entered};
 pub use nfa::{Nfa, NfaRefused, POSITION_LIMIT};
 pub use states::States;
-
-#[cfg(test)]
-mod tests;

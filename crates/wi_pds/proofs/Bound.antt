@@ -8,7 +8,7 @@ use Rattle.wi_pds.specs.declared.rule.Rule.{Rule}
 use Rattle.wi_weight.specs.Weights.{Scale, WeightLaws, IsWeight, plus, zero_weight, AtMost}
 use Rattle.wi_weight.specs.Order.{weight_zero, at_most_self, at_most_trans, below_from_at_most, grows_left, plus_at_most_left, plus_at_most_right}
 use Rattle.wi_pds.specs.Runs.{symbols, Run, run_weight}
-use Rattle.wi_pds.specs.Closed.{Leads, AreClosed, Summary, Listed, Chain, Within, AreClosedRows, Bounds}
+use Rattle.wi_pds.specs.Closed.{Leads, AreClosed, Summary, Listed, Chain, Within, AreClosedRows, BoundsRuns}
 
 -- symbols may stand on each other, over g
 abbrev pub Stacked : List (ℕ × ℕ) → ℕ → List ℕ → Type 0
@@ -110,7 +110,7 @@ module _ {W : Type 0} (m : Scale) (c : W → List ℕ) (laws : WeightLaws m) (ad
       )
 
   -- the law of the bound
-  pub bounds : Bounds m c rules heads pairs rows bound
+  pub bounds : BoundsRuns m c rules heads pairs rows bound
   bounds = record {
     stays = λ p g q w x at run pair. (stands_run rules start heads pairs closed run.0 p (g ∷ x ∷ []) q (x ∷ []) (run_over rules run.0 p (g ∷ []) q [] (x ∷ []) run.1) (at, (pair, tt))).0;
     bounded = λ p g q w at run n.

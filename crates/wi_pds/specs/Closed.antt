@@ -54,7 +54,7 @@ pub record AreClosedRows {W : Type 0} (m : Scale) (c : W → List ℕ) (rules : 
       → Chain m rows r.to (symbols r.word) q w → Within m bound (plus (c r.weight) w) → HasRow m rows p g q (plus (c r.weight) w)
 
 -- What follows each run that pops the symbol of a head, and that there is a row of at most its weight if that is within the bound.
-pub record Bounds {W : Type 0} (m : Scale) (c : W → List ℕ) (rules : ℕ → ℕ → List (Rule W))
+pub record BoundsRuns {W : Type 0} (m : Scale) (c : W → List ℕ) (rules : ℕ → ℕ → List (Rule W))
     (heads pairs : List (ℕ × ℕ)) (rows : List Summary) (bound : Option (List ℕ)) : Type 0 where
   pub stays : (p g q : ℕ) (w : List ℕ) (x : ℕ) → Contains heads (p, g) → Pops m c rules p g q w → Contains pairs (g, x) → Contains heads (q, x)
   pub bounded : (p g q : ℕ) (w : List ℕ) → Contains heads (p, g) → Pops m c rules p g q w → Within m bound w → HasRow m rows p g q w

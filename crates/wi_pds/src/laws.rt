@@ -1,7 +1,7 @@
 //! The law of the bound.
 ghost use Rattle.std.specs.Prelude.{ℕ, List, Option};
 ghost use Rattle.wi_pds.specs.declared.rule.Rule.{Rule};
-ghost use Rattle.wi_pds.specs.Closed.{AreClosed, AreClosedRows, Bounds, Summary};
+ghost use Rattle.wi_pds.specs.Closed.{AreClosed, AreClosedRows, BoundsRuns, Summary};
 
 use wi_weight::Domain;
 
@@ -12,5 +12,5 @@ pub fn rows_bound_runs<W: Domain>()
     ensures { (rules : ℕ → ℕ → List (Rule W)) (start : ℕ × ℕ) (heads pairs : List (ℕ × ℕ)) (rows : List Summary) (bound : Option (List ℕ)) →
         AreClosed rules start heads pairs →
         AreClosedRows W.scale W.components rules heads rows bound →
-        Bounds W.scale W.components rules heads pairs rows bound }
+        BoundsRuns W.scale W.components rules heads pairs rows bound }
 {}

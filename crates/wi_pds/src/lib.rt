@@ -13,6 +13,3 @@ pub use laws::rows_bound_runs;
 pub use rule::{Rule, RuleId, Word2};
 pub use rule_list::RuleList;
 pub use system::System;
-
-#[cfg(test)]
-mod tests;

@@ -5,9 +5,9 @@ use Rattle.std.proofs.lemmas.Bool.Decides.{nat_tests}
 use Rattle.wi_text.specs.Characters.{is_space, is_digit, is_letter}
 use Rattle.wi_quantity.specs.declared.written.Class.{Class}
 use Rattle.wi_quantity.specs.declared.written.Class.TheVariants.{Space, Zero, Nonzero, Letter, Star, Plus, Comma, Other}
-use Rattle.wi_quantity.specs.declared.written.Place.{Place}
-use Rattle.wi_quantity.specs.declared.written.Place.TheVariants.{Start, AfterZero, InNumber, AfterNumber, AfterStar, InWord, AfterWord}
-use Rattle.wi_quantity.specs.Syntax.{class_of, next_place}
+use Rattle.wi_quantity.specs.declared.written.Stage.{Stage}
+use Rattle.wi_quantity.specs.declared.written.Stage.TheVariants.{Start, AfterZero, InNumber, AfterNumber, AfterStar, InWord, AfterWord}
+use Rattle.wi_quantity.specs.Syntax.{class_of, next_stage}
 
 pub space_class : (b : ℕ) → is_space b ≡ true → class_of b ≡ Space
 space_class b e = rw e refl
@@ -147,7 +147,7 @@ wide_class b wide = other (class_of b) refl
     other Comma e = let l = (is_of b).comma e in absurd (omega (arith, l))
     other Other e = e
 
-pub no_next : (p : Place) → next_place p Other ≡ None
+pub no_next : (p : Stage) → next_stage p Other ≡ None
 no_next Start = refl
 no_next AfterZero = refl
 no_next InNumber = refl

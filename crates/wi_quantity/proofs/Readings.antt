@@ -7,22 +7,22 @@ use Rattle.wi_text.specs.Characters.{is_space}
 use Rattle.wi_text.specs.Machines.{at_end}
 use Rattle.wi_text.specs.Spelling.{Spells}
 use Rattle.wi_quantity.specs.declared.written.Class.TheVariants as class
-use Rattle.wi_quantity.specs.declared.written.Place.{Place}
-use Rattle.wi_quantity.specs.declared.written.Place.TheVariants.{Start, AfterNumber, AfterStar, InWord, AfterWord}
+use Rattle.wi_quantity.specs.declared.written.Stage.{Stage}
+use Rattle.wi_quantity.specs.declared.written.Stage.TheVariants.{Start, AfterNumber, AfterStar, InWord, AfterWord}
 use Rattle.wi_quantity.specs.Written.{Token, Word, spelling, IsToken, WrittenPart, WrittenTerm, Written, number_tokens, part_tokens, more_parts, more_terms, Reads, parts_of, terms_of}
-use Rattle.wi_quantity.specs.Syntax.{next_place, may_end, stop}
+use Rattle.wi_quantity.specs.Syntax.{next_stage, may_end, stop}
 use Rattle.wi_quantity.specs.Noting.{Noted, nothing, part_of, end_part, end_term, note_all}
 use Rattle.wi_quantity.proofs.Leads.{Leads, Ends, ends_along, leads_first, spaces_lead, spaced_mark, word_leads, number_leads, given_some}
 use Rattle.wi_quantity.proofs.Classes.{space_class}
 
-ends_same : (p : Place) (d : Noted) (at : ℕ) (text : List ℕ) (s t : List (List WrittenPart)) → s ≡ t → Ends p d at text s → Ends p d at text t
+ends_same : (p : Stage) (d : Noted) (at : ℕ) (text : List ℕ) (s t : List (List WrittenPart)) → s ≡ t → Ends p d at text s → Ends p d at text t
 ends_same p d at text s t e ends = record { stops = ends.stops; notes = ends.notes ∙ e }
 
-ends_text : (p : Place) (d : Noted) (at : ℕ) (text other : List ℕ) (s : List (List WrittenPart)) → text ≡ other → Ends p d at other s → Ends p d at text s
+ends_text : (p : Stage) (d : Noted) (at : ℕ) (text other : List ℕ) (s : List (List WrittenPart)) → text ≡ other → Ends p d at other s → Ends p d at text s
 ends_text p d at text other s e ends = let P : List ℕ → Type 0 = λ t. Ends p d at t s in subst P (sym e) ends
 
 -- a piece leads to where a text may end
-ends_here : (p q : Place) (d : Noted) (at : ℕ) (s : List ℕ) → may_end q ≡ true → Leads p d at s q d → Ends p d at s (end_term d).terms
+ends_here : (p q : Stage) (d : Noted) (at : ℕ) (s : List ℕ) → may_end q ≡ true → Leads p d at s q d → Ends p d at s (end_term d).terms
 ends_here p q d at s may leads =
     let whole : s ++ [] ≡ s = append-nil s in
     let none : at_end (may_end q) (at + length s) ≡ None = ap (λ b. at_end b (at + length s)) may in
@@ -39,7 +39,7 @@ spaces_end d at (b ∷ s) all =
     (leads_first InWord AfterWord AfterWord d d d at b class.Space s (space_class b parts.0) refl refl (spaces_lead AfterWord d (at + 1) s refl parts.1))
 
 -- a word, and what follows
-word_reads : (p : Place) (d : Noted) (at n : ℕ) (s : List ℕ) (ts : List Token) (text : List ℕ) (terms : List (List WrittenPart)) → next_place p class.Space ≡ Some p → next_place p class.Letter ≡ Some InWord → d.word ≡ (0, [])
+word_reads : (p : Stage) (d : Noted) (at n : ℕ) (s : List ℕ) (ts : List Token) (text : List ℕ) (terms : List (List WrittenPart)) → next_stage p class.Space ≡ Some p → next_stage p class.Letter ≡ Some InWord → d.word ≡ (0, [])
     → Spells spelling IsToken at (Word n s ∷ ts) text
     → ((at' : ℕ) (text' : List ℕ) → Spells spelling IsToken at' ts text' → Ends InWord (record d { word = (n, s) }) at' text' terms) → Ends p d at text terms
 word_reads p d at n s ts text terms stays goes none (space, rest, all, is, (here, some, letters, apart), more) then =

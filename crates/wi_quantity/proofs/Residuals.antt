@@ -7,10 +7,10 @@ use Rattle.wi_text.specs.Machines.{at_end, goes_on}
 use Rattle.wi_text.specs.Spelling.{Spells}
 use Rattle.wi_quantity.specs.declared.written.Class.{Class}
 use Rattle.wi_quantity.specs.declared.written.Class.TheVariants as class
-use Rattle.wi_quantity.specs.declared.written.Place.{Place}
-use Rattle.wi_quantity.specs.declared.written.Place.TheVariants.{Start, AfterZero, InNumber, AfterNumber, AfterStar, InWord, AfterWord}
+use Rattle.wi_quantity.specs.declared.written.Stage.{Stage}
+use Rattle.wi_quantity.specs.declared.written.Stage.TheVariants.{Start, AfterZero, InNumber, AfterNumber, AfterStar, InWord, AfterWord}
 use Rattle.wi_quantity.specs.Written.{Token, Word, Number, Star, Plus, Comma, spelling, IsToken, WrittenPart, WrittenTerm, part_tokens, more_parts, more_terms, IsWeightsText}
-use Rattle.wi_quantity.specs.Syntax.{class_of, next_place, may_end, stop}
+use Rattle.wi_quantity.specs.Syntax.{class_of, next_stage, may_end, stop}
 use Rattle.wi_quantity.proofs.Classes.{is_of, not_digit, not_letter, nonzero_digit}
 
 abbrev Spelled : ℕ → List Token → List ℕ → Type 0
@@ -49,7 +49,7 @@ Letters at text = (s : List ℕ) × (rest : List ℕ) × (list_all is_letter s �
 abbrev Digits : ℕ → List ℕ → Type 0
 Digits at text = (s : List ℕ) × (rest : List ℕ) × (list_all is_digit s ≡ true) × (text ≡ s ++ rest) × (begins_with is_digit rest ≡ false) × Factor (at + length s) rest
 
-abbrev After : Place → ℕ → List ℕ → Type 0
+abbrev After : Stage → ℕ → List ℕ → Type 0
 After Start at text = (part : WrittenPart) × (ps : List WrittenPart) × (ts : List WrittenTerm) × Spelled at (part_tokens part (more_parts ps (more_terms ts))) text
 After AfterZero at text = (begins_with is_digit text ≡ false) × Factor at text
 After InNumber at text = Digits at text
@@ -136,12 +136,12 @@ no_letters at text apart more =
     let place : at ≡ at + 0 = omega arith in
     let Q : ℕ → Type 0 = λ k. Rest k text in ([], text, refl, refl, apart, subst Q place more)
 
-abbrev Next : Option Place → ℕ → List ℕ → Type 0
+abbrev Next : Option Stage → ℕ → List ℕ → Type 0
 Next None at text = ⊥
 Next (Some p) at text = After p at text
 
 -- a byte before what may come after it
-comes : (p : Place) (c : Class) (b at : ℕ) (text : List ℕ) → class_of b ≡ c → Next (next_place p c) (at + 1) text → After p at (b ∷ text)
+comes : (p : Stage) (c : Class) (b at : ℕ) (text : List ℕ) → class_of b ≡ c → Next (next_stage p c) (at + 1) text → After p at (b ∷ text)
 comes Start class.Space b at text e (part, ps, ts, spelled) = (part, ps, ts, spaced b at (part_tokens part (more_parts ps (more_terms ts))) text ((is_of b).space e) spelled)
 comes Start class.Zero b at text e h = zero_start b at text ((is_of b).zero e) h
 comes Start class.Nonzero b at text e h = digits_start b at text ((is_of b).nonzero e).0 ((is_of b).nonzero e).1 h
@@ -199,7 +199,7 @@ comes AfterWord class.Nonzero b at text e h = absurd h
 comes AfterWord class.Star b at text e h = absurd h
 comes AfterWord class.Other b at text e h = absurd h
 
-ended : (p : Place) (at : ℕ) → at_end (may_end p) at ≡ None → After p at []
+ended : (p : Stage) (at : ℕ) → at_end (may_end p) at ≡ None → After p at []
 ended InWord at h = no_letters at [] refl ([], [], refl)
 ended AfterWord at h = ([], [], refl)
 ended Start at h = cc
@@ -208,13 +208,13 @@ ended InNumber at h = cc
 ended AfterNumber at h = cc
 ended AfterStar at h = cc
 
-on : (o : Option Place) (at : ℕ) (text : List ℕ) → ((p : Place) → stop p (at + 1) text ≡ None → After p (at + 1) text) → goes_on o at (λ p. stop p (at + 1) text) ≡ None → Next o (at + 1) text
+on : (o : Option Stage) (at : ℕ) (text : List ℕ) → ((p : Stage) → stop p (at + 1) text ≡ None → After p (at + 1) text) → goes_on o at (λ p. stop p (at + 1) text) ≡ None → Next o (at + 1) text
 on None at text rest h = cc
 on (Some p) at text rest h = rest p h
 
-pub spelled_all : (p : Place) (at : ℕ) (text : List ℕ) → stop p at text ≡ None → After p at text
+pub spelled_all : (p : Stage) (at : ℕ) (text : List ℕ) → stop p at text ≡ None → After p at text
 spelled_all p at [] h = ended p at h
-spelled_all p at (b ∷ text) h = comes p (class_of b) b at text refl (on (next_place p (class_of b)) at text (λ q g. spelled_all q (at + 1) text g) h)
+spelled_all p at (b ∷ text) h = comes p (class_of b) b at text refl (on (next_stage p (class_of b)) at text (λ q g. spelled_all q (at + 1) text g) h)
 
 pub text_spelled : (text : List ℕ) → stop Start 0 text ≡ None → IsWeightsText text
 text_spelled text h = from (spelled_all Start 0 text h)

@@ -14,7 +14,7 @@ use Rattle.wi_world.specs.declared.run.Quantity.{Quantity}
 use Rattle.wi_world.specs.declared.run.Quantity.TheVariants.{Links, Hops, Distance, Failures, Tunnels}
 use Rattle.wi_world.specs.declared.run.Run.{Run}
 use Rattle.wi_world.specs.declared.run.Step.{Step}
-use Rattle.wi_world.specs.Moves.{Place, member_at, through, moved, needed}
+use Rattle.wi_world.specs.Moves.{Location, member_at, through, moved, needed}
 use Rattle.wi_world.specs.Runs.{link_share, hop_share, sum_over, quantity_of, effort_of}
 use Rattle.wi_quantity.specs.declared.vector.Part.{Part}
 use Rattle.wi_quantity.specs.Weighing.{term_value, term_values, weight_of, is_push, is_pop, growth, member_share, first_weight, hop_weight, step_weight, steps_weight}
@@ -110,14 +110,14 @@ growth_is ops h next e = go (outcome 0 ops h) refl e
         omega (arith, all, e2)
 
 -- a step weighs what its hop adds to each quantity
-step_shares : (net : Net) (at next : Place) (step : Step) (m : Member) → through at.1 m ≡ Some next → (q : Quantity) → member_share q net m (risk_count net (needed net at step)) ≡ link_share q net next.0 + hop_share q net at step next
+step_shares : (net : Net) (at next : Location) (step : Step) (m : Member) → through at.1 m ≡ Some next → (q : Quantity) → member_share q net m (risk_count net (needed net at step)) ≡ link_share q net next.0 + hop_share q net at step next
 step_shares net at next step m e q = go (after_ops m.ops at.1) refl e q
   where
     go : (o : Option (List Entry)) → after_ops m.ops at.1 ≡ o → option_map (λ (h : List Entry). (m.link, h)) o ≡ Some next → (q : Quantity) → member_share q net m (risk_count net (needed net at step)) ≡ link_share q net next.0 + hop_share q net at step next
     go None eo e q = cc
     go (Some h) eo e q = let is : (m.link, h) ≡ next = cc in by next is q
       where
-        by : (n : Place) → (m.link, h) ≡ n → (q : Quantity) → member_share q net m (risk_count net (needed net at step)) ≡ link_share q net n.0 + hop_share q net at step n
+        by : (n : Location) → (m.link, h) ≡ n → (q : Quantity) → member_share q net m (risk_count net (needed net at step)) ≡ link_share q net n.0 + hop_share q net at step n
         by n is q = rw (← is) (each q)
           where
             each : (q : Quantity) → member_share q net m (risk_count net (needed net at step)) ≡ link_share q net m.link + hop_share q net at step (m.link, h)
@@ -127,7 +127,7 @@ step_shares net at next step m e q = go (after_ops m.ops at.1) refl e q
             each Failures = refl
             each Tunnels = ap (λ n. 0 + n) (growth_is m.ops at.1 h eo)
 
-pub step_weighs : (net : Net) (vector : List (List Part)) (at next : Place) (step : Step) → moved net at step ≡ Some next → step_weight net vector at step ≡ term_values (λ q. link_share q net next.0 + hop_share q net at step next) vector ++ 0 ∷ []
+pub step_weighs : (net : Net) (vector : List (List Part)) (at next : Location) (step : Step) → moved net at step ≡ Some next → step_weight net vector at step ≡ term_values (λ q. link_share q net next.0 + hop_share q net at step next) vector ++ 0 ∷ []
 step_weighs net vector at next step e = go (member_at net at step) refl e
   where
     go : (o : Option Member) → member_at net at step ≡ o → option_and_then (λ m. through at.1 m) o ≡ Some next
@@ -136,14 +136,14 @@ step_weighs net vector at next step e = go (member_at net at step) refl e
     go (Some m) eo e = rw eo (same_values _ _ vector (step_shares net at next step m e))
 
 -- what steps add to a quantity
-abbrev steps_share : Net → Place → List Step → Quantity → ℕ
+abbrev steps_share : Net → Location → List Step → Quantity → ℕ
 steps_share net at steps q = sum_over net (λ here step next. link_share q net next.0 + hop_share q net here step next) at steps
 
-pub steps_weigh : (net : Net) (vector : List (List Part)) (at : Place) (steps : List Step) → steps_weight net vector at steps ≡ term_values (steps_share net at steps) vector ++ 0 ∷ []
+pub steps_weigh : (net : Net) (vector : List (List Part)) (at : Location) (steps : List Step) → steps_weight net vector at steps ≡ term_values (steps_share net at steps) vector ++ 0 ∷ []
 steps_weigh net vector at [] = values_zero vector
 steps_weigh net vector at (step ∷ steps) = go (moved net at step) refl (λ next. steps_weigh net vector next steps)
   where
-    go : (o : Option Place) → moved net at step ≡ o → ((next : Place) → steps_weight net vector next steps ≡ term_values (steps_share net next steps) vector ++ 0 ∷ [])
+    go : (o : Option Location) → moved net at step ≡ o → ((next : Location) → steps_weight net vector next steps ≡ term_values (steps_share net next steps) vector ++ 0 ∷ [])
         → option_map_or (λ next. plus (step_weight net vector at step) (steps_weight net vector next steps)) o (replicate 6 0) ≡ term_values (steps_share net at (step ∷ steps)) vector ++ 0 ∷ []
     go None eo ih = values_zero vector ∙ same_values (λ q. 0) (steps_share net at (step ∷ steps)) vector (λ q. rw eo refl)
     go (Some next) eo ih =

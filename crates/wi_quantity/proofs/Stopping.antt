@@ -5,17 +5,17 @@ use Rattle.std.proofs.lemmas.Str.{IsCharBoundary-start, IsCharBoundary-after_asc
 use Rattle.wi_text.specs.Machines.{at_end, goes_on}
 use Rattle.wi_text.specs.Prefixes.{IsFaultAt}
 use Rattle.wi_text.proofs.Stops.{fault_at}
-use Rattle.wi_quantity.specs.declared.written.Place.{Place}
-use Rattle.wi_quantity.specs.declared.written.Place.TheVariants.{Start, AfterZero, InNumber, AfterNumber, AfterStar, InWord, AfterWord}
+use Rattle.wi_quantity.specs.declared.written.Stage.{Stage}
+use Rattle.wi_quantity.specs.declared.written.Stage.TheVariants.{Start, AfterZero, InNumber, AfterNumber, AfterStar, InWord, AfterWord}
 use Rattle.wi_quantity.specs.Written.{Written, Reads, IsWeightsText, parts_of, terms_of, WrittenPart}
-use Rattle.wi_quantity.specs.Syntax.{next_place, next_after, may_end, stop}
+use Rattle.wi_quantity.specs.Syntax.{next_stage, next_after, may_end, stop}
 use Rattle.wi_quantity.specs.Noting.{nothing, end_term, note_all}
 use Rattle.wi_quantity.proofs.Classes.{wide_class, no_next}
 use Rattle.wi_quantity.proofs.Readings.{text_reads}
 use Rattle.wi_quantity.proofs.Residuals.{text_spelled}
 
--- a text with which each place may end
-completion : Place → List ℕ
+-- a text with which each stage may end
+completion : Stage → List ℕ
 completion Start = 97 ∷ []
 completion AfterZero = 42 ∷ 97 ∷ []
 completion InNumber = 42 ∷ 97 ∷ []
@@ -24,7 +24,7 @@ completion AfterStar = 97 ∷ []
 completion InWord = []
 completion AfterWord = []
 
-completes : (p : Place) (i : ℕ) → stop p i (completion p) ≡ None
+completes : (p : Stage) (i : ℕ) → stop p i (completion p) ≡ None
 unfolding completion
 completes Start i = refl
 completes AfterZero i = refl
@@ -35,7 +35,7 @@ completes InWord i = refl
 completes AfterWord i = refl
 
 -- a byte that leads on is ASCII
-ascii : (p q : Place) (b : ℕ) → next_after p b ≡ Some q → b < 128
+ascii : (p q : Stage) (b : ℕ) → next_after p b ≡ Some q → b < 128
 ascii p q b e = by (wide b)
   where
     wide : (b : ℕ) → (b < 128) ⊎ (128 ≤ b)
@@ -43,7 +43,7 @@ ascii p q b e = by (wide b)
 
     by : (b < 128) ⊎ (128 ≤ b) → b < 128
     by (inl h) = h
-    by (inr h) = let none : next_after p b ≡ None = ap (next_place p) (wide_class b h) ∙ no_next p in cc
+    by (inr h) = let none : next_after p b ≡ None = ap (next_stage p) (wide_class b h) ∙ no_next p in cc
 
 -- a stop is so many bytes on, at a character
 record IsStop (at : ℕ) (text : List ℕ) (k : ℕ) : Type 0 where
@@ -51,7 +51,7 @@ record IsStop (at : ℕ) (text : List ℕ) (k : ℕ) : Type 0 where
   pub is : k ≡ at + count
   pub whole : IsCharBoundary text count
 
-stop_is : (p : Place) (at : ℕ) (text : List ℕ) (k : ℕ) → IsUtf8 text → stop p at text ≡ Some k → IsStop at text k
+stop_is : (p : Stage) (at : ℕ) (text : List ℕ) (k : ℕ) → IsUtf8 text → stop p at text ≡ Some k → IsStop at text k
 stop_is p at [] k utf8 h = record { count = 0; is = ended (may_end p) h; whole = IsCharBoundary-start [] utf8 }
   where
     ended : (b : Bool) → at_end b at ≡ Some k → k ≡ at + 0
@@ -59,7 +59,7 @@ stop_is p at [] k utf8 h = record { count = 0; is = ended (may_end p) h; whole =
     ended false h = let e : k ≡ at = cc in omega (arith, e)
 stop_is p at (b ∷ text) k utf8 h = by (next_after p b) refl h (λ q u g. stop_is q (at + 1) text k u g)
   where
-    by : (o : Option Place) → next_after p b ≡ o → goes_on o at (λ q. stop q (at + 1) text) ≡ Some k → ((q : Place) → IsUtf8 text → stop q (at + 1) text ≡ Some k → IsStop (at + 1) text k) → IsStop at (b ∷ text) k
+    by : (o : Option Stage) → next_after p b ≡ o → goes_on o at (λ q. stop q (at + 1) text) ≡ Some k → ((q : Stage) → IsUtf8 text → stop q (at + 1) text ≡ Some k → IsStop (at + 1) text k) → IsStop at (b ∷ text) k
     by None e g rest = record { count = 0; is = (let i : k ≡ at = cc in omega (arith, i)); whole = IsCharBoundary-start (b ∷ text) utf8 }
     by (Some q) e g rest = from (rest q past g)
       where

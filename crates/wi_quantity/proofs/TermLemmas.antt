@@ -11,7 +11,7 @@ use Rattle.wi_quantity.specs.declared.fault.WeightFault.TheVariants.{Syntax, Unk
 use Rattle.wi_quantity.specs.Written.{Token, Word, Number, Star, Plus, Comma, spelling, IsToken, WrittenPart, WrittenTerm, Written, number_tokens, part_tokens, more_parts, more_terms, parts_of, terms_of}
 use Rattle.wi_quantity.specs.Faults.{Means, IsFault, unknown_word, too_many, too_large, part_meant, quantity_named}
 use Rattle.wi_quantity.specs.Meaning.{has_number, have_numbers, unknown_among, many_among, is_large, large_among, AreMeant, IsFaultOf}
-use Rattle.wi_quantity.specs.declared.written.Place.TheVariants.{Start}
+use Rattle.wi_quantity.specs.declared.written.Stage.TheVariants.{Start}
 use Rattle.wi_quantity.specs.Syntax.{stop}
 use Rattle.wi_quantity.specs.Noting.{nothing, end_term, note_all}
 use Rattle.wi_quantity.proofs.Stopping.{IsNoted, noted_is}

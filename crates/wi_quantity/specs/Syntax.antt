@@ -4,8 +4,8 @@ use Rattle.wi_text.specs.Characters.{is_space, is_letter}
 use Rattle.wi_text.specs.Machines.{first_stop}
 use Rattle.wi_quantity.specs.declared.written.Class.{Class}
 use Rattle.wi_quantity.specs.declared.written.Class.TheVariants.{Space, Zero, Nonzero, Letter, Star, Plus, Comma, Other}
-use Rattle.wi_quantity.specs.declared.written.Place.{Place}
-use Rattle.wi_quantity.specs.declared.written.Place.TheVariants.{Start, AfterZero, InNumber, AfterNumber, AfterStar, InWord, AfterWord}
+use Rattle.wi_quantity.specs.declared.written.Stage.{Stage}
+use Rattle.wi_quantity.specs.declared.written.Stage.TheVariants.{Start, AfterZero, InNumber, AfterNumber, AfterStar, InWord, AfterWord}
 
 -- a byte's kind
 abbrev pub class_of : ℕ → Class
@@ -19,38 +19,38 @@ class_of b =
     else (if b == 44 then Comma else Other))))))
 
 -- where a byte of a kind leads
-abbrev pub next_place : Place → Class → Option Place
-next_place Start Space = Some Start
-next_place Start Zero = Some AfterZero
-next_place Start Nonzero = Some InNumber
-next_place Start Letter = Some InWord
-next_place Start _ = None
-next_place AfterZero Space = Some AfterNumber
-next_place AfterZero Star = Some AfterStar
-next_place AfterZero _ = None
-next_place InNumber Zero = Some InNumber
-next_place InNumber Nonzero = Some InNumber
-next_place InNumber Space = Some AfterNumber
-next_place InNumber Star = Some AfterStar
-next_place InNumber _ = None
-next_place AfterNumber Space = Some AfterNumber
-next_place AfterNumber Star = Some AfterStar
-next_place AfterNumber _ = None
-next_place AfterStar Space = Some AfterStar
-next_place AfterStar Letter = Some InWord
-next_place AfterStar _ = None
-next_place InWord Letter = Some InWord
-next_place InWord Space = Some AfterWord
-next_place InWord Plus = Some Start
-next_place InWord Comma = Some Start
-next_place InWord _ = None
-next_place AfterWord Space = Some AfterWord
-next_place AfterWord Plus = Some Start
-next_place AfterWord Comma = Some Start
-next_place AfterWord _ = None
+abbrev pub next_stage : Stage → Class → Option Stage
+next_stage Start Space = Some Start
+next_stage Start Zero = Some AfterZero
+next_stage Start Nonzero = Some InNumber
+next_stage Start Letter = Some InWord
+next_stage Start _ = None
+next_stage AfterZero Space = Some AfterNumber
+next_stage AfterZero Star = Some AfterStar
+next_stage AfterZero _ = None
+next_stage InNumber Zero = Some InNumber
+next_stage InNumber Nonzero = Some InNumber
+next_stage InNumber Space = Some AfterNumber
+next_stage InNumber Star = Some AfterStar
+next_stage InNumber _ = None
+next_stage AfterNumber Space = Some AfterNumber
+next_stage AfterNumber Star = Some AfterStar
+next_stage AfterNumber _ = None
+next_stage AfterStar Space = Some AfterStar
+next_stage AfterStar Letter = Some InWord
+next_stage AfterStar _ = None
+next_stage InWord Letter = Some InWord
+next_stage InWord Space = Some AfterWord
+next_stage InWord Plus = Some Start
+next_stage InWord Comma = Some Start
+next_stage InWord _ = None
+next_stage AfterWord Space = Some AfterWord
+next_stage AfterWord Plus = Some Start
+next_stage AfterWord Comma = Some Start
+next_stage AfterWord _ = None
 
 -- whether the text may end there
-abbrev pub may_end : Place → Bool
+abbrev pub may_end : Stage → Bool
 may_end InWord = true
 may_end AfterWord = true
 may_end Start = false
@@ -59,9 +59,9 @@ may_end InNumber = false
 may_end AfterNumber = false
 may_end AfterStar = false
 
-abbrev pub next_after : Place → ℕ → Option Place
-next_after place b = next_place place (class_of b)
+abbrev pub next_after : Stage → ℕ → Option Stage
+next_after stage b = next_stage stage (class_of b)
 
 -- where the reading of a text stops
-abbrev pub stop : Place → ℕ → List ℕ → Option ℕ
-stop place i text = first_stop next_after may_end place i text
+abbrev pub stop : Stage → ℕ → List ℕ → Option ℕ
+stop stage i text = first_stop next_after may_end stage i text

@@ -14,7 +14,7 @@ use Rattle.wi_world.specs.declared.run.Quantity.{Quantity}
 use Rattle.wi_world.specs.declared.run.Quantity.TheVariants.{Failures, Tunnels}
 use Rattle.wi_world.specs.declared.run.Run.{Run}
 use Rattle.wi_world.specs.declared.run.Step.{Step}
-use Rattle.wi_world.specs.Moves.{Place, groups_at, moved}
+use Rattle.wi_world.specs.Moves.{Location, groups_at, moved}
 use Rattle.wi_world.specs.Runs.{link_share, quantity_of, effort_of}
 use Rattle.wi_quantity.specs.declared.vector.Part.{Part}
 
@@ -69,11 +69,11 @@ abbrev pub entry_weight : Net → List (List Part) → List (List Member) → �
 entry_weight net vector groups j m = option_map_or (λ member. hop_weight net vector member (risk_count net (before net groups j))) (member_in groups j m) (replicate 6 0)
 
 -- the weight of a step, without effort
-abbrev pub step_weight : Net → List (List Part) → Place → Step → List ℕ
+abbrev pub step_weight : Net → List (List Part) → Location → Step → List ℕ
 step_weight net vector at step = entry_weight net vector (groups_at net at.0 at.1) step.group step.member
 
 -- the sum of the weights of steps, as far as they lead
-abbrev pub steps_weight : Net → List (List Part) → Place → List Step → List ℕ
+abbrev pub steps_weight : Net → List (List Part) → Location → List Step → List ℕ
 steps_weight net vector at [] = replicate 6 0
 steps_weight net vector at (step ∷ steps) =
     option_map_or (λ next. plus (step_weight net vector at step) (steps_weight net vector next steps)) (moved net at step) (replicate 6 0)

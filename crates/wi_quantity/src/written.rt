@@ -1,8 +1,8 @@
 //! Weights texts as they are written.
 ghost use Rattle.std.specs.Prelude.{◌≡◌, ◌<◌, [], IfOk, OnOk, option_map};
-ghost use Rattle.wi_quantity.specs.Syntax.{class_of, next_place, may_end, stop};
+ghost use Rattle.wi_quantity.specs.Syntax.{class_of, next_stage, may_end, stop};
 ghost use Rattle.wi_quantity.specs.Noting.{with_letter, noted, note_all, part_of, end_part, end_term, nothing};
-ghost use Rattle.wi_quantity.specs.declared.written.Place.TheVariants.{Start};
+ghost use Rattle.wi_quantity.specs.declared.written.Stage.TheVariants.{Start};
 
 use std::alloc::Global;
 use std::marker::Model;
@@ -119,7 +119,7 @@ enum Class {
 
 // What a text was read up to.
 #[derive(Clone, Copy)]
-enum Place {
+enum Stage {
     Start,
     AfterZero,
     InNumber,
@@ -144,46 +144,46 @@ fn class_of(byte: u8) -> Class
     }
 }
 
-fn next_place(place: Place, class: Class) -> Option<Place>
-    ensures { result ≡ next_place place class }
+fn next_stage(stage: Stage, class: Class) -> Option<Stage>
+    ensures { result ≡ next_stage stage class }
 {
-    match (place, class) {
-        (Place::Start, Class::Space) => Some(Place::Start),
-        (Place::Start, Class::Zero) => Some(Place::AfterZero),
-        (Place::Start, Class::Nonzero) => Some(Place::InNumber),
-        (Place::Start | Place::AfterStar | Place::InWord, Class::Letter) => Some(Place::InWord),
-        (Place::InNumber, Class::Zero | Class::Nonzero) => Some(Place::InNumber),
-        (Place::AfterZero | Place::InNumber | Place::AfterNumber, Class::Space) => Some(
-            Place::AfterNumber,
+    match (stage, class) {
+        (Stage::Start, Class::Space) => Some(Stage::Start),
+        (Stage::Start, Class::Zero) => Some(Stage::AfterZero),
+        (Stage::Start, Class::Nonzero) => Some(Stage::InNumber),
+        (Stage::Start | Stage::AfterStar | Stage::InWord, Class::Letter) => Some(Stage::InWord),
+        (Stage::InNumber, Class::Zero | Class::Nonzero) => Some(Stage::InNumber),
+        (Stage::AfterZero | Stage::InNumber | Stage::AfterNumber, Class::Space) => Some(
+            Stage::AfterNumber,
         ),
-        (Place::AfterZero | Place::InNumber | Place::AfterNumber, Class::Star) => Some(
-            Place::AfterStar,
+        (Stage::AfterZero | Stage::InNumber | Stage::AfterNumber, Class::Star) => Some(
+            Stage::AfterStar,
         ),
-        (Place::AfterStar, Class::Space) => Some(Place::AfterStar),
-        (Place::InWord | Place::AfterWord, Class::Space) => Some(Place::AfterWord),
-        (Place::InWord | Place::AfterWord, Class::Plus | Class::Comma) => Some(Place::Start),
+        (Stage::AfterStar, Class::Space) => Some(Stage::AfterStar),
+        (Stage::InWord | Stage::AfterWord, Class::Space) => Some(Stage::AfterWord),
+        (Stage::InWord | Stage::AfterWord, Class::Plus | Class::Comma) => Some(Stage::Start),
         _ => None,
     }
 }
 
-fn may_end(place: Place) -> bool
-    ensures { result ≡ may_end place }
+fn may_end(stage: Stage) -> bool
+    ensures { result ≡ may_end stage }
 {
-    matches!(place, Place::InWord | Place::AfterWord)
+    matches!(stage, Stage::InWord | Stage::AfterWord)
 }
 
 /// How many bytes of a text begin a weights text, where the text isn't one.
 pub fn stop(text: &[u8]) -> Option<usize>
     ensures { result ≡ stop Start 0 text.now }
 {
-    let mut place = Place::Start;
+    let mut stage = Stage::Start;
     for (i, byte) in text.iter().enumerate() {
-        match next_place(place, class_of(*byte)) {
-            Some(next) => place = next,
+        match next_stage(stage, class_of(*byte)) {
+            Some(next) => stage = next,
             None => return Some(i),
         }
     }
-    if may_end(place) {
+    if may_end(stage) {
         None
     } else {
         Some(text.len())

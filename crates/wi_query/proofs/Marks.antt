@@ -25,11 +25,11 @@ use Rattle.wi_syntax.specs.declared.written.End.TheVariants as end
 use Rattle.wi_syntax.specs.declared.written.Pair.{Pair}
 use Rattle.wi_query.specs.Sets.{SymbolMarks, holds, among, class_named, is_label_named, is_label_of, is_router_named, is_interface_named, comes_from, goes_to, is_link_between, is_link_of}
 use Rattle.wi_query.specs.Unknown.{Unknown, ALabel, ARouter, AnInterface, unless, unknown_label, unknown_in_label_atom, unknown_in_end, unknown_in_pair, unknown_in_link_atom}
-use Rattle.wi_query.specs.Names.{label_meant, is_meant, place_meant, ends_meant, is_placed, is_between, marks_of, chosen, label_marks, link_marks}
+use Rattle.wi_query.specs.Names.{label_meant, is_meant, end_meant, ends_meant, is_at, is_between, marks_of, chosen, label_marks, link_marks}
 use Rattle.wi_query.specs.declared.names.LabelName.{LabelName}
 use Rattle.wi_query.specs.declared.names.LabelName.TheVariants.{OfClass, One}
-use Rattle.wi_query.specs.declared.names.Place.{Place}
-use Rattle.wi_query.specs.declared.names.Place.TheVariants as place
+use Rattle.wi_query.specs.declared.names.EndMeant.{EndMeant}
+use Rattle.wi_query.specs.declared.names.EndMeant.TheVariants as end_meant_by
 use Rattle.wi_query.specs.declared.names.Ends.{Ends}
 use Rattle.wi_query.proofs.Lists.{nothing_unknown}
 
@@ -114,20 +114,20 @@ names_known net names ms e = nothing_unknown (label_meant net) (unknown_label ne
 abbrev Finder : Type 0
 Finder = RouterId → List ℕ → Option LinkId
 
-pub end_known : (net : Net) (find : Finder) (end : End) (p : Place) → place_meant net find end ≡ Some p → unknown_in_end net find end ≡ []
+pub end_known : (net : Net) (find : Finder) (end : End) (p : EndMeant) → end_meant net find end ≡ Some p → unknown_in_end net find end ≡ []
 end_known net find end.Any p e = refl
 end_known net find (end.Router router) p e = go (find_router net router.text) e
   where
-    go : (o : Option RouterId) → option_map place.At o ≡ Some p → unless (is_some o) ARouter router ≡ []
+    go : (o : Option RouterId) → option_map end_meant_by.At o ≡ Some p → unless (is_some o) ARouter router ≡ []
     go (Some id) e = refl
     go None e = cc
 end_known net find (end.Interface router interface) p e = go (find_router net router.text) e
   where
-    within : (id : RouterId) (o : Option LinkId) → option_map place.By o ≡ Some p → unless (is_some o) AnInterface interface ≡ []
+    within : (id : RouterId) (o : Option LinkId) → option_map end_meant_by.By o ≡ Some p → unless (is_some o) AnInterface interface ≡ []
     within id (Some l) e = refl
     within id None e = cc
 
-    go : (o : Option RouterId) → option_map place.By (option_and_then (λ id. find id interface.text) o) ≡ Some p → ◌≡◌ {A = List Unknown} (elim o [ None ↦ (ARouter, router) ∷ [] | Some id ↦ unless (is_some (find id interface.text)) AnInterface interface ]) []
+    go : (o : Option RouterId) → option_map end_meant_by.By (option_and_then (λ id. find id interface.text) o) ≡ Some p → ◌≡◌ {A = List Unknown} (elim o [ None ↦ (ARouter, router) ∷ [] | Some id ↦ unless (is_some (find id interface.text)) AnInterface interface ]) []
     go (Some id) e = within id (find id interface.text) e
     go None e = cc
 
@@ -137,17 +137,17 @@ is_end net find end.Any router x = true
 is_end net find (end.Router name) router x = is_router_named net name router
 is_end net find (end.Interface name interface) router x = is_interface_named net find name interface x
 
-placed_end : (net : Net) (find : Finder) (end : End) (p : Place) (router : RouterId) (x : ℕ) → place_meant net find end ≡ Some p → is_placed p router x ≡ is_end net find end router x
-placed_end net find end.Any p router x e = let is : p ≡ place.Any = cc in rw is refl
+placed_end : (net : Net) (find : Finder) (end : End) (p : EndMeant) (router : RouterId) (x : ℕ) → end_meant net find end ≡ Some p → is_at p router x ≡ is_end net find end router x
+placed_end net find end.Any p router x e = let is : p ≡ end_meant_by.Any = cc in rw is refl
 placed_end net find (end.Router name) p router x e = go (find_router net name.text) e
   where
-    go : (o : Option RouterId) → option_map place.At o ≡ Some p → is_placed p router x ≡ option_map_or (λ (id : RouterId). id.0 == router.0) o false
-    go (Some id) e = let is : p ≡ place.At id = cc in rw is refl
+    go : (o : Option RouterId) → option_map end_meant_by.At o ≡ Some p → is_at p router x ≡ option_map_or (λ (id : RouterId). id.0 == router.0) o false
+    go (Some id) e = let is : p ≡ end_meant_by.At id = cc in rw is refl
     go None e = cc
 placed_end net find (end.Interface name interface) p router x e = go (option_and_then (λ id. find id interface.text) (find_router net name.text)) e
   where
-    go : (o : Option LinkId) → option_map place.By o ≡ Some p → is_placed p router x ≡ option_map_or (λ (l : LinkId). l.0 == x) o false
-    go (Some l) e = let is : p ≡ place.By l = cc in rw is refl
+    go : (o : Option LinkId) → option_map end_meant_by.By o ≡ Some p → is_at p router x ≡ option_map_or (λ (l : LinkId). l.0 == x) o false
+    go (Some l) e = let is : p ≡ end_meant_by.By l = cc in rw is refl
     go None e = cc
 
 from_end : (net : Net) (end : End) (x : ℕ) (l : Link) → slice_get net.links x ≡ Some l → comes_from net end x ≡ is_end net (find_out net) end l.from x
@@ -162,16 +162,16 @@ to_end net (end.Interface router interface) x l e = refl
 
 -- both ends
 record BothMeant (net : Net) (pair : Pair) (ends : Ends) : Type 0 where
-  source : place_meant net (find_out net) pair.from ≡ Some ends.source
-  target : place_meant net (find_in net) pair.to ≡ Some ends.target
+  source : end_meant net (find_out net) pair.from ≡ Some ends.source
+  target : end_meant net (find_in net) pair.to ≡ Some ends.target
 
 both_meant : (net : Net) (pair : Pair) (ends : Ends) → ends_meant net pair ≡ Some ends → BothMeant net pair ends
-both_meant net pair ends e = go (place_meant net (find_out net) pair.from) (place_meant net (find_in net) pair.to) refl refl e
+both_meant net pair ends e = go (end_meant net (find_out net) pair.from) (end_meant net (find_in net) pair.to) refl refl e
   where
-    go : (a b : Option Place) → place_meant net (find_out net) pair.from ≡ a → place_meant net (find_in net) pair.to ≡ b
+    go : (a b : Option EndMeant) → end_meant net (find_out net) pair.from ≡ a → end_meant net (find_in net) pair.to ≡ b
         → option_and_then (λ source. option_map (λ target. record { source = source; target = target }) b) a ≡ Some ends → BothMeant net pair ends
     go (Some s) (Some t) ea eb e =
-        let make : Place → Place → Ends = λ source target. record { source = source; target = target } in
+        let make : EndMeant → EndMeant → Ends = λ source target. record { source = source; target = target } in
         let is : make s t ≡ ends = cc in
         record { source = ea ∙ ap (λ (k : Ends). Some k.source) is; target = eb ∙ ap (λ (k : Ends). Some k.target) is }
     go (Some s) None ea eb e = cc

@@ -18,10 +18,10 @@ nothing_on_top [] g e = cc
 nothing_on_top (f ∷ rest) g e = cc
 
 -- the last bracket that is open is closed
-pub frames_closed : (t : TreeReading) (gs rest : List Frame) (g : Frame) (r : Reading) → AreFrames t.outer gs → gs ≡ rest ++ g ∷ [] → ((f : TreeFrame) → IsFrame f g → IsFrame (with_item f (grouped (finished t.current))) r.current) → r.outer.items ≡ rest → IsReading (closed t.current t.outer) r
+pub frames_closed : (t : TreeReading SymbolMarks) (gs rest : List Frame) (g : Frame) (r : Reading) → AreFrames t.outer gs → gs ≡ rest ++ g ∷ [] → ((f : TreeFrame SymbolMarks) → IsFrame f g → IsFrame (with_item f (grouped (finished t.current))) r.current) → r.outer.items ≡ rest → IsReading (closed t.current t.outer) r
 frames_closed t gs rest g r stack is around left = go t.outer stack
   where
-    go : (outer : List TreeFrame) → AreFrames outer gs → IsReading (closed t.current outer) r
+    go : (outer : List (TreeFrame SymbolMarks)) → AreFrames outer gs → IsReading (closed t.current outer) r
     go [] none = absurd (nothing_on_top rest g (sym is ∙ none))
     go (f ∷ fs) top =
         let same = same_from_push rest top.1 g top.0 (sym is ∙ top.2) in

@@ -66,20 +66,20 @@ module _ {A : Type 0} (m : A → SymbolMarks) where
   set_tree_regex t r h = absurd h
 
   -- what was read of the signs of an expression
-  finished_read : (signs : List (Sign A)) (e : IsExpression (λ a. true) signs) (r : TreeReading) → r ≡ after_signs at_start (set_signs m signs) → finished r.current ≡ Some (set_tree m e.0)
+  finished_read : (signs : List (Sign A)) (e : IsExpression (λ a. true) signs) (r : TreeReading SymbolMarks) → r ≡ after_signs at_start (set_signs m signs) → finished r.current ≡ Some (set_tree m e.0)
   finished_read signs e r is =
-      ap (λ (s : TreeReading). finished s.current) (is ∙ ap (λ s. after_signs at_start s) (ap (λ s. set_signs m s) (sym e.2) ∙ sym (set_tree_signs e.0 [])))
+      ap (λ (s : TreeReading SymbolMarks). finished s.current) (is ∙ ap (λ s. after_signs at_start s) (ap (λ s. set_signs m s) (sym e.2) ∙ sym (set_tree_signs e.0 [])))
       ∙ tree_is_read (set_tree m e.0) (set_tree_is AnExpression e.0 e.1)
 
   -- what was read so far, and what the signs that are left make of it
   abbrev Reads : List (Sign A) → ℕ → Reading → Type 0
-  Reads signs i r = (t : TreeReading) × IsReading t r × (after_signs t (set_signs m (drop i signs)) ≡ after_signs at_start (set_signs m signs))
+  Reads signs i r = (t : TreeReading SymbolMarks) × IsReading t r × (after_signs t (set_signs m (drop i signs)) ≡ after_signs at_start (set_signs m signs))
 
   -- one sign more
   pub sign_read : (signs : List (Sign A)) (i : ℕ) (s : Sign A) (set : Sign SymbolMarks) (old new : Reading)
-      → ((t : TreeReading) × IsReading t old × (after_signs t (set_signs m (drop i signs)) ≡ after_signs at_start (set_signs m signs)))
-      → slice_get signs i ≡ Some s → set ≡ set_sign m s → ((t : TreeReading) → IsReading t old → IsReading (after_sign t set) new)
-      → (t : TreeReading) × IsReading t new × (after_signs t (set_signs m (drop (i + 1) signs)) ≡ after_signs at_start (set_signs m signs))
+      → ((t : TreeReading SymbolMarks) × IsReading t old × (after_signs t (set_signs m (drop i signs)) ≡ after_signs at_start (set_signs m signs)))
+      → slice_get signs i ≡ Some s → set ≡ set_sign m s → ((t : TreeReading SymbolMarks) → IsReading t old → IsReading (after_sign t set) new)
+      → (t : TreeReading SymbolMarks) × IsReading t new × (after_signs t (set_signs m (drop (i + 1) signs)) ≡ after_signs at_start (set_signs m signs))
   sign_read signs i s set old new so_far there made step = (
     after_sign so_far.0 set,
     step so_far.0 so_far.1,
@@ -87,12 +87,12 @@ module _ {A : Type 0} (m : A → SymbolMarks) where
   )
 
   -- all of them
-  all_read : (signs : List (Sign A)) (i : ℕ) (r : Reading) → Reads signs i r → length signs ≤ i → (t : TreeReading) × IsReading t r × (t ≡ after_signs at_start (set_signs m signs))
+  all_read : (signs : List (Sign A)) (i : ℕ) (r : Reading) → Reads signs i r → length signs ≤ i → (t : TreeReading SymbolMarks) × IsReading t r × (t ≡ after_signs at_start (set_signs m signs))
   all_read signs i r so_far past = (so_far.0, so_far.1, sym (ap (λ left. after_signs so_far.0 (set_signs m left)) (nothing_after signs i past)) ∙ so_far.2)
 
   pub regex_is_read : (signs : List (Sign A)) (e : IsExpression (λ a. true) signs) (i : ℕ) (r : Reading) (part : Option (Regex SymbolMarks)) (made : Regex SymbolMarks)
-      → ((t : TreeReading) × IsReading t r × (after_signs t (set_signs m (drop i signs)) ≡ after_signs at_start (set_signs m signs)))
-      → length signs ≤ i → ((t : TreeReading) → IsReading t r → IsPart (finished t.current) part) → part ≡ Some made → AreSignsOf (λ a x. holds (m a) x) signs made
+      → ((t : TreeReading SymbolMarks) × IsReading t r × (after_signs t (set_signs m (drop i signs)) ≡ after_signs at_start (set_signs m signs)))
+      → length signs ≤ i → ((t : TreeReading SymbolMarks) → IsReading t r → IsPart (finished t.current) part) → part ≡ Some made → AreSignsOf (λ a x. holds (m a) x) signs made
   regex_is_read signs e i r part made so_far past held is =
       let all = all_read signs i r so_far past in
       let P : Option SetTree → Option (Regex SymbolMarks) → Type 0 = IsPart in
@@ -101,8 +101,8 @@ module _ {A : Type 0} (m : A → SymbolMarks) where
       (e.0, e.1, e.2, set_tree_regex e.0 made whole)
 
   pub something_is_read : (signs : List (Sign A)) (e : IsExpression (λ a. true) signs) (i : ℕ) (r : Reading) (part : Option (Regex SymbolMarks))
-      → ((t : TreeReading) × IsReading t r × (after_signs t (set_signs m (drop i signs)) ≡ after_signs at_start (set_signs m signs)))
-      → length signs ≤ i → ((t : TreeReading) → IsReading t r → IsPart (finished t.current) part) → part ≡ None → ⊥
+      → ((t : TreeReading SymbolMarks) × IsReading t r × (after_signs t (set_signs m (drop i signs)) ≡ after_signs at_start (set_signs m signs)))
+      → length signs ≤ i → ((t : TreeReading SymbolMarks) → IsReading t r → IsPart (finished t.current) part) → part ≡ None → ⊥
   something_is_read signs e i r part so_far past held is =
       let all = all_read signs i r so_far past in
       let P : Option SetTree → Option (Regex SymbolMarks) → Type 0 = IsPart in

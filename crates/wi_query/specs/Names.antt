@@ -17,8 +17,8 @@ use Rattle.wi_query.specs.declared.fault.QueryFault.{QueryFault}
 use Rattle.wi_query.specs.declared.fault.QueryFault.TheVariants.{Memory, UnknownLabel, UnknownRouter, UnknownInterface}
 use Rattle.wi_query.specs.declared.names.LabelName.{LabelName}
 use Rattle.wi_query.specs.declared.names.LabelName.TheVariants.{OfClass, One}
-use Rattle.wi_query.specs.declared.names.Place.{Place}
-use Rattle.wi_query.specs.declared.names.Place.TheVariants as place
+use Rattle.wi_query.specs.declared.names.EndMeant.{EndMeant}
+use Rattle.wi_query.specs.declared.names.EndMeant.TheVariants as end_meant_by
 use Rattle.wi_query.specs.declared.names.Ends.{Ends}
 use Rattle.wi_query.specs.declared.names.Side.{Side}
 use Rattle.wi_query.specs.declared.names.Side.TheVariants.{Source, Target}
@@ -50,23 +50,23 @@ finder net Source = find_out net
 finder net Target = find_in net
 
 -- what an end of a link stands for
-abbrev pub place_meant : Net → (RouterId → List ℕ → Option LinkId) → End → Option Place
-place_meant net find end.Any = Some place.Any
-place_meant net find (end.Router router) = option_map place.At (find_router net router.text)
-place_meant net find (end.Interface router interface) = option_map place.By (option_and_then (λ id. find id interface.text) (find_router net router.text))
+abbrev pub end_meant : Net → (RouterId → List ℕ → Option LinkId) → End → Option EndMeant
+end_meant net find end.Any = Some end_meant_by.Any
+end_meant net find (end.Router router) = option_map end_meant_by.At (find_router net router.text)
+end_meant net find (end.Interface router interface) = option_map end_meant_by.By (option_and_then (λ id. find id interface.text) (find_router net router.text))
 
 abbrev pub ends_meant : Net → Pair → Option Ends
 ends_meant net pair =
-    option_and_then (λ source. option_map (λ target. record { source = source; target = target }) (place_meant net (find_in net) pair.to)) (place_meant net (find_out net) pair.from)
+    option_and_then (λ source. option_map (λ target. record { source = source; target = target }) (end_meant net (find_in net) pair.to)) (end_meant net (find_out net) pair.from)
 
 -- whether a link with this router at its end, and of this number, is one that is meant
-abbrev pub is_placed : Place → RouterId → ℕ → Bool
-is_placed place.Any router x = true
-is_placed (place.At id) router x = id.0 == router.0
-is_placed (place.By e) router x = e.0 == x
+abbrev pub is_at : EndMeant → RouterId → ℕ → Bool
+is_at end_meant_by.Any router x = true
+is_at (end_meant_by.At id) router x = id.0 == router.0
+is_at (end_meant_by.By e) router x = e.0 == x
 
 abbrev pub is_between : Net → Ends → ℕ → Bool
-is_between net ends x = option_map_or (λ l. is_placed ends.source l.from x && is_placed ends.target l.to x) (slice_get net.links x) false
+is_between net ends x = option_map_or (λ l. is_at ends.source l.from x && is_at ends.target l.to x) (slice_get net.links x) false
 
 -- each of a list is looked up
 abbrev pub AreMeant : {X M : Type 0} → (X → Option M) → List X → List M → Type 0

@@ -1,5 +1,6 @@
 //! What holds of the texts of queries.
-ghost use Rattle.std.specs.Prelude.{◌≡◌, ℕ, List};
+ghost use Rattle.std.specs.Prelude.{◌≡◌, ℕ, List, [], true};
+ghost use Rattle.wi_syntax.specs.Trees.{Tree, AnExpression, is_tree, signs_of};
 ghost use Rattle.wi_net.specs.Net.{Net};
 ghost use Rattle.wi_query.specs.declared.fault.QueryFault.{QueryFault};
 ghost use Rattle.wi_query.specs.declared.fault.QueryFault.TheVariants.{Memory};
@@ -10,4 +11,9 @@ ghost use Rattle.wi_query.specs.Faults.{IsFault};
 /// The text of a query has no fault.
 pub fn a_query_has_no_fault()
     ensures { (net : Net) (text : List ℕ) (query : Query) (fault : QueryFault) → IsQuery net text query → IsFault net text fault → fault ≡ Memory }
+{}
+
+/// The signs of an expression are those of one tree, so they mean one language.
+pub fn signs_have_one_tree<A>()
+    ensures { (t u : Tree A) → is_tree (λ a. true) AnExpression t ≡ true → is_tree (λ a. true) AnExpression u ≡ true → signs_of t [] ≡ signs_of u [] → t ≡ u }
 {}

@@ -14,9 +14,6 @@ mod tree;
 
 pub use expression::Expression;
 pub use fault::QueryFault;
-pub use laws::a_query_has_no_fault;
+pub use laws::{a_query_has_no_fault, signs_have_one_tree};
 pub use query::{Query, read_query};
 pub use symbols::SymbolSet;
-
-#[cfg(test)]
-mod tests;

@@ -5,7 +5,7 @@ ghost use Rattle.wi_labels.specs.Header.{same_class};
 ghost use Rattle.wi_net.specs.Finding.{find_router};
 ghost use Rattle.wi_query.specs.Sets.{class_of_word, class_named};
 ghost use Rattle.wi_query.specs.Unknown.{ARouter, unknown_label, unknown_in_end, unknown_in_pair};
-ghost use Rattle.wi_query.specs.Names.{IsFirst, label_meant, is_meant, finder, place_meant, ends_meant, is_placed, is_between, AreMeant};
+ghost use Rattle.wi_query.specs.Names.{IsFirst, label_meant, is_meant, finder, end_meant, ends_meant, is_at, is_between, AreMeant};
 
 use crate::fault::QueryFault;
 use std::alloc::Global;
@@ -23,7 +23,7 @@ pub(crate) enum LabelName {
 
 /// What an end of a link stands for.
 #[derive(Clone, Copy)]
-pub(crate) enum Place {
+pub(crate) enum EndMeant {
     Any,
     At(RouterId),
     /// The one link by an interface of a router.
@@ -40,8 +40,8 @@ pub(crate) enum Side {
 /// What both ends of a link stand for.
 #[derive(Clone, Copy)]
 pub(crate) struct Ends {
-    source: Place,
-    target: Place,
+    source: EndMeant,
+    target: EndMeant,
 }
 
 // The characters of a name, to tell it.
@@ -152,17 +152,17 @@ fn link_by(net: &Network, side: Side, router: RouterId, interface: &str) -> Opti
 }
 
 // What an end stands for.
-fn place_of(alloc: Global, net: &Network, side: Side, end: &End) -> Result<Place, QueryFault>
-    ensures found { IfOk result (λ place. place_meant net.now (finder net.now side) end.now ≡ Some place) }
+fn end_of(alloc: Global, net: &Network, side: Side, end: &End) -> Result<EndMeant, QueryFault>
+    ensures found { IfOk result (λ meant. end_meant net.now (finder net.now side) end.now ≡ Some meant) }
     ensures refused { IfErr result (IsFirst (unknown_in_end net.now (finder net.now side) end.now)) }
 {
     match end {
-        End::Any => Ok(Place::Any),
-        End::Router(router) => Ok(Place::At(router_named(alloc, net, router)?)),
+        End::Any => Ok(EndMeant::Any),
+        End::Router(router) => Ok(EndMeant::At(router_named(alloc, net, router)?)),
         End::Interface(router, interface) => {
             let id = router_named(alloc, net, router)?;
             match link_by(net, side, id, interface.as_str()) {
-                Some(link) => Ok(Place::By(link)),
+                Some(link) => Ok(EndMeant::By(link)),
                 None => Err(QueryFault::UnknownInterface(
                     interface.at(),
                     text_of(alloc, interface)?,
@@ -177,8 +177,8 @@ fn ends_of(alloc: Global, net: &Network, pair: &Pair) -> Result<Ends, QueryFault
     ensures found { IfOk result (λ ends. ends_meant net.now pair.now ≡ Some ends) }
     ensures refused { IfErr result (IsFirst (unknown_in_pair net.now pair.now)) }
 {
-    let source = place_of(alloc, net, Side::Source, &pair.from)?;
-    let target = place_of(alloc, net, Side::Target, &pair.to)?;
+    let source = end_of(alloc, net, Side::Source, &pair.from)?;
+    let target = end_of(alloc, net, Side::Target, &pair.to)?;
     Ok(Ends { source, target })
 }
 
@@ -199,13 +199,13 @@ pub(crate) fn pairs_named(
 }
 
 // Whether a link of this number, with this router at its end, is one that is meant.
-fn is_placed(place: Place, router: RouterId, link: LinkId) -> bool
-    ensures { result ≡ is_placed place router link.0 }
+fn is_at(meant: EndMeant, router: RouterId, link: LinkId) -> bool
+    ensures { result ≡ is_at meant router link.0 }
 {
-    match place {
-        Place::Any => true,
-        Place::At(id) => id.0 == router.0,
-        Place::By(one) => one.0 == link.0,
+    match meant {
+        EndMeant::Any => true,
+        EndMeant::At(id) => id.0 == router.0,
+        EndMeant::By(one) => one.0 == link.0,
     }
 }
 
@@ -215,7 +215,7 @@ pub(crate) fn is_between(net: &Network, ends: Ends, link: LinkId) -> bool
     ensures { result ≡ is_between net.now ends link.0 }
 {
     let at = net.link(link);
-    is_placed(ends.source, at.from, link) && is_placed(ends.target, at.to, link)
+    is_at(ends.source, at.from, link) && is_at(ends.target, at.to, link)
 }
 
 /// Whether a label is one that some name stands for.

@@ -1,6 +1,7 @@
 //! From the signs of an expression to the expression. Brackets may nest by the thousand, so they are kept on a stack.
 ghost use Rattle.std.specs.Prelude.{Option, Some, IfOk};
 ghost use Rattle.wi_syntax.specs.declared.written.Sign.{Sign};
+ghost use Rattle.wi_query.specs.Sets.{SymbolMarks};
 ghost use Rattle.wi_query.specs.Frames.{SetTree, TreeFrame, TreeReading, empty_frame, joined, finished, with_item, with_bar, with_repeat, repeated, after_sign, at_start, IsPart, IsFrame, IsReading};
 
 use crate::symbols::SymbolSet;
@@ -90,7 +91,7 @@ impl Frame {
 
     // All that stands in it.
     fn finished(self, alloc: Global) -> Result<Part, NoMemory>
-        ensures { IfOk result (λ part. (t : TreeFrame) → IsFrame t self → IsPart (finished t) part) }
+        ensures { IfOk result (λ part. (t : TreeFrame SymbolMarks) → IsFrame t self → IsPart (finished t) part) }
     {
         let Frame {
             alternatives,
@@ -103,7 +104,7 @@ impl Frame {
 
     // With one item more.
     fn with_item(self, alloc: Global, next: Part) -> Result<Frame, NoMemory>
-        ensures { IfOk result (λ frame. (t : TreeFrame) (i : Option SetTree) → IsFrame t self → IsPart i next → IsFrame (with_item t i) frame) }
+        ensures { IfOk result (λ frame. (t : TreeFrame SymbolMarks) (i : Option SetTree) → IsFrame t self → IsPart i next → IsFrame (with_item t i) frame) }
     {
         let Frame {
             alternatives,
@@ -120,7 +121,7 @@ impl Frame {
 
     // With a bar behind all.
     fn with_bar(self, alloc: Global) -> Result<Frame, NoMemory>
-        ensures { IfOk result (λ frame. (t : TreeFrame) → IsFrame t self → IsFrame (with_bar t) frame) }
+        ensures { IfOk result (λ frame. (t : TreeFrame SymbolMarks) → IsFrame t self → IsFrame (with_bar t) frame) }
     {
         let alternatives = self.finished(alloc)?;
         Ok(Frame {
@@ -132,7 +133,7 @@ impl Frame {
 
     // With its last item repeated.
     fn with_repeat(self, alloc: Global, how: Repeat) -> Result<Frame, NoMemory>
-        ensures { IfOk result (λ frame. (t : TreeFrame) → IsFrame t self → IsFrame (with_repeat how t) frame) }
+        ensures { IfOk result (λ frame. (t : TreeFrame SymbolMarks) → IsFrame t self → IsFrame (with_repeat how t) frame) }
     {
         let Frame {
             alternatives,
@@ -161,7 +162,7 @@ impl Reading {
 
     // With a bracket opened.
     fn opened(self) -> Result<Reading, NoMemory>
-        ensures { IfOk result (λ reading. (t : TreeReading) → IsReading t self → IsReading (after_sign t Sign.Open) reading) }
+        ensures { IfOk result (λ reading. (t : TreeReading SymbolMarks) → IsReading t self → IsReading (after_sign t Sign.Open) reading) }
     {
         let Reading { current, mut outer } = self;
         outer.push(current)?;
@@ -173,7 +174,7 @@ impl Reading {
 
     // With the last bracket closed that is open.
     fn closed(self, alloc: Global) -> Result<Reading, NoMemory>
-        ensures { IfOk result (λ reading. (t : TreeReading) → IsReading t self → IsReading (after_sign t Sign.Close) reading) }
+        ensures { IfOk result (λ reading. (t : TreeReading SymbolMarks) → IsReading t self → IsReading (after_sign t Sign.Close) reading) }
     {
         let Reading { current, mut outer } = self;
         let Some(around) = outer.pop() else {
@@ -185,7 +186,7 @@ impl Reading {
     }
 
     fn with_item(self, alloc: Global, set: SymbolSet) -> Result<Reading, NoMemory>
-        ensures { IfOk result (λ reading. (t : TreeReading) → IsReading t self → IsReading (after_sign t (Sign.Atom set)) reading) }
+        ensures { IfOk result (λ reading. (t : TreeReading SymbolMarks) → IsReading t self → IsReading (after_sign t (Sign.Atom set)) reading) }
     {
         let Reading { current, outer } = self;
         let current = current.with_item(alloc, Some(Regex::Atom(set)))?;
@@ -193,7 +194,7 @@ impl Reading {
     }
 
     fn with_bar(self, alloc: Global) -> Result<Reading, NoMemory>
-        ensures { IfOk result (λ reading. (t : TreeReading) → IsReading t self → IsReading (after_sign t Sign.Or) reading) }
+        ensures { IfOk result (λ reading. (t : TreeReading SymbolMarks) → IsReading t self → IsReading (after_sign t Sign.Or) reading) }
     {
         let Reading { current, outer } = self;
         let current = current.with_bar(alloc)?;
@@ -201,7 +202,7 @@ impl Reading {
     }
 
     fn with_repeat(self, alloc: Global, how: Repeat) -> Result<Reading, NoMemory>
-        ensures { IfOk result (λ reading. (t : TreeReading) → IsReading t self → IsReading (record { current = with_repeat how t.current; outer = t.outer }) reading) }
+        ensures { IfOk result (λ reading. (t : TreeReading SymbolMarks) → IsReading t self → IsReading (record { current = with_repeat how t.current; outer = t.outer }) reading) }
     {
         let Reading { current, outer } = self;
         let current = current.with_repeat(alloc, how)?;
@@ -210,7 +211,7 @@ impl Reading {
 
     /// With the next sign.
     pub(crate) fn after(self, alloc: Global, sign: Sign<SymbolSet>) -> Result<Reading, NoMemory>
-        ensures { IfOk result (λ reading. (t : TreeReading) → IsReading t self → IsReading (after_sign t sign) reading) }
+        ensures { IfOk result (λ reading. (t : TreeReading SymbolMarks) → IsReading t self → IsReading (after_sign t sign) reading) }
     {
         match sign {
             Sign::Atom(set) => self.with_item(alloc, set),
@@ -225,7 +226,7 @@ impl Reading {
 
     /// All that was read, if it is anything.
     pub(crate) fn finished(self, alloc: Global) -> Result<Part, NoMemory>
-        ensures { IfOk result (λ part. (t : TreeReading) → IsReading t self → IsPart (finished t.current) part) }
+        ensures { IfOk result (λ part. (t : TreeReading SymbolMarks) → IsReading t self → IsPart (finished t.current) part) }
     {
         let Reading { current, outer: _ } = self;
         current.finished(alloc)

@@ -10,6 +10,3 @@ pub use atom::{Atom, Symbol};
 pub use laws::star_splits_off;
 pub use no_memory::NoMemory;
 pub use regex::Regex;
-
-#[cfg(test)]
-mod tests;

@@ -8,14 +8,14 @@ use Rattle.wi_net.specs.declared.bounds.Bounds.{Bounds}
 use Rattle.wi_net.specs.Net.{Net, is_link}
 use Rattle.wi_world.specs.declared.run.Run.{Run}
 use Rattle.wi_world.specs.declared.run.Step.{Step}
-use Rattle.wi_world.specs.Moves.{Place, moved}
+use Rattle.wi_world.specs.Moves.{Location, moved}
 use Rattle.wi_world.specs.Runs.{needs}
-use Rattle.wi_trace.proofs.PlayLemmas.{where_links}
+use Rattle.wi_script.proofs.PlayLemmas.{where_links}
 use Rattle.wi_report.specs.Shown.{place_shown}
 use Rattle.wi_report.specs.Reports.{step_shown, steps_shown}
 
 -- a step is shown, and those after it are left
-pub steps_left : (net : Net) (at next : Place) (steps : List Step) (i : ℕ) (d : Step) (text whole new : List ℕ) → i < length steps → moved net at (get_or steps i d) ≡ Some next
+pub steps_left : (net : Net) (at next : Location) (steps : List Step) (i : ℕ) (d : Step) (text whole new : List ℕ) → i < length steps → moved net at (get_or steps i d) ≡ Some next
     → text ++ steps_shown net at (drop i steps) ≡ whole → new ≡ text ++ (place_shown net next ++ step_shown (get_or steps i d) ++ codes "\n") → new ++ steps_shown net next (drop (i + 1) steps) ≡ whole
 steps_left net at next steps i d text whole new within to all put =
     let line : List ℕ = place_shown net next ++ step_shown (get_or steps i d) ++ codes "\n" in

@@ -14,7 +14,7 @@ use Rattle.wi_world.specs.declared.answer.Word.{Word}
 use Rattle.wi_world.specs.declared.answer.Word.TheVariants.{Yes, No, Inconclusive}
 use Rattle.wi_world.specs.declared.answer.Verdict.{Verdict}
 use Rattle.wi_world.specs.declared.answer.Verdict.TheVariants.{Fits, Exceeds, UsesFailed}
-use Rattle.wi_world.specs.Moves.{Place, moved}
+use Rattle.wi_world.specs.Moves.{Location, moved}
 use Rattle.wi_world.specs.Runs.{needs}
 use Rattle.wi_quantity.specs.Weighing.{components}
 use Rattle.wi_trace.specs.declared.answer.Answer.{Answer}
@@ -45,7 +45,7 @@ abbrev pub step_shown : Step → List ℕ
 step_shown step = codes " | group " ++ decimal (step.group + 1) ++ codes " member " ++ decimal (step.member + 1)
 
 -- a line for each step: where it leads, and its group and member
-abbrev pub steps_shown : Net → Place → List Step → List ℕ
+abbrev pub steps_shown : Net → Location → List Step → List ℕ
 steps_shown net at [] = []
 steps_shown net at (step ∷ steps) = option_map_or (λ next. place_shown net next ++ step_shown step ++ codes "\n" ++ steps_shown net next steps) (moved net at step) []
 

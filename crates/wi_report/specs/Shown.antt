@@ -6,7 +6,7 @@ use Rattle.wi_labels.specs.declared.label.Label.{Label}
 use Rattle.wi_labels.specs.Header.{Entry}
 use Rattle.wi_net.specs.declared.parts.LinkId.{LinkId}
 use Rattle.wi_net.specs.Net.{Net}
-use Rattle.wi_world.specs.Moves.{Place}
+use Rattle.wi_world.specs.Moves.{Location}
 use Rattle.wi_text.specs.Names.{quoted, shown}
 
 -- the words of the classes
@@ -42,5 +42,5 @@ header_shown net [] = []
 header_shown net (label ∷ below) = codes " " ++ label_shown net label.0 ++ header_shown net below
 
 -- a link and the header on it
-abbrev pub place_shown : Net → Place → List ℕ
+abbrev pub place_shown : Net → Location → List ℕ
 place_shown net at = link_shown net at.0 ++ codes " |" ++ header_shown net at.1

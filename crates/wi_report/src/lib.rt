@@ -15,9 +15,5 @@ pub use query_faults::query_fault_text;
 pub use refused_decisions::{overflow_text, too_long_text};
 pub use reports::report;
 pub use script_faults::script_fault_text;
-pub use shown::put_place;
 pub use state_lines::states;
 pub use weight_faults::weight_fault_text;
-
-#[cfg(test)]
-mod tests;

@@ -10,7 +10,7 @@ ghost use Rattle.wi_quantity.specs.Weighing.{components};
 ghost use Rattle.wi_report.specs.Shown.{link_shown, links_shown, place_shown};
 ghost use Rattle.wi_report.specs.Reports.{IsKnownRun, numbers_shown, terms_shown, weight_shown, verdict_shown, step_shown, steps_shown, run_shown, moving_shown, found_shown, word_shown, report_of};
 
-use crate::shown::{put_counted, put_known, put_links, put_place};
+use crate::shown::{put_counted, put_known, put_links, put_location};
 use std::alloc::Global;
 use wi_base::NoMemory;
 use wi_labels::{Applied, Header};
@@ -219,7 +219,7 @@ fn put_run(net: &Network, run: &Run, text: &mut Text) -> Result<(), NoMemory>
     requires { IsKnownRun net.now run.now }
     ensures { OnOk result (text.new ≡ text.old ++ run_shown net.now run.now) }
 {
-    put_place(net, run.first, &run.header, text)?;
+    put_location(net, run.first, &run.header, text)?;
     text.put("\n")?;
     let header = twin_of(&run.header)?;
     put_steps(net, run.first, header, run.steps.as_slice(), text)
@@ -303,7 +303,7 @@ fn put_step_line(
     requires header { labels_known net.now header.now ≡ true }
     ensures { OnOk result (text.new ≡ text.old ++ (place_shown net.now (link, header.now) ++ step_shown step ++ codes "\n")) }
 {
-    put_place(net, link, header, text)?;
+    put_location(net, link, header, text)?;
     put_step(step, text)?;
     text.put("\n")
 }

@@ -6,8 +6,8 @@ ghost use Rattle.wi_report.specs.States.{cause_words, script_fault_text};
 use crate::shown::put_counted;
 use std::alloc::Global;
 use wi_base::NoMemory;
+use wi_script::{ScriptCause, ScriptRefused};
 use wi_text::Text;
-use wi_trace::{ScriptCause, ScriptRefused};
 
 /// What is said of a fault of a script: its line, from 1, and what is wrong with it.
 pub fn script_fault_text(alloc: Global, refused: &ScriptRefused) -> Result<Text, NoMemory>

@@ -42,7 +42,7 @@ fn put_header(net: &Network, header: &Header, text: &mut Text) -> Result<(), NoM
 }
 
 /// Adds a link and the header on it.
-pub fn put_place(
+pub(crate) fn put_location(
     net: &Network,
     link: LinkId,
     header: &Header,

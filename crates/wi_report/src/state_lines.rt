@@ -1,15 +1,15 @@
 //! The lines of states.
 ghost use Rattle.std.specs.Prelude.{◌≡◌, ◌++◌, true, codes, IfOk, OnOk};
 ghost use Rattle.std.specs.List.{list_all};
-ghost use Rattle.wi_trace.specs.Plays.{is_state_of};
+ghost use Rattle.wi_script.specs.Plays.{is_state_of};
 ghost use Rattle.wi_report.specs.States.{state_shown, states_shown};
 
-use crate::shown::{put_links, put_place};
+use crate::shown::{put_links, put_location};
 use std::alloc::Global;
 use wi_base::NoMemory;
 use wi_net::Network;
 use wi_text::Text;
-use wi_trace::State;
+use wi_world::State;
 
 /// A line for each state: the link and the header of the packet, and the failed links.
 pub fn states(alloc: Global, net: &Network, states: &[State]) -> Result<Text, NoMemory>
@@ -27,7 +27,7 @@ fn put_state(net: &Network, state: &State, text: &mut Text) -> Result<(), NoMemo
     requires { is_state_of net.now state.now ≡ true }
     ensures { OnOk result (text.new ≡ text.old ++ state_shown net.now state.now) }
 {
-    put_place(net, state.link, &state.header, text)?;
+    put_location(net, state.link, &state.header, text)?;
     text.put(" | failed ")?;
     put_links(net, &state.fails, text)?;
     text.put("\n")

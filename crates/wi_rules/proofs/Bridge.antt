@@ -16,8 +16,8 @@ use Rattle.wi_rules.specs.declared.spot.Origin.{Origin}
 use Rattle.wi_rules.specs.declared.spot.Origin.TheVariants.{SetOut}
 use Rattle.wi_rules.specs.declared.spot.Spot.{Spot}
 use Rattle.wi_rules.specs.declared.spot.Spot.TheVariants.{Start, Done, Build, Close, OnLink, Mid}
-use Rattle.wi_rules.specs.Rules.{Setup, SpotRule, zeros, plain, working, pushing, written, on_way, may_build, build_rules, set_out_rules, entry_rules, on_link_rules, is_label, next_op_rules, rules_of, IsSetup}
-use Rattle.wi_rules.specs.Goals.{Rewrites, rules_weight, telling, told}
+use Rattle.wi_rules.specs.Rules.{Encoding, SpotRule, zeros, plain, working, pushing, written, on_way, may_build, build_rules, set_out_rules, entry_rules, on_link_rules, is_label, next_op_rules, rules_of, IsEncoding}
+use Rattle.wi_rules.specs.Goals.{Rewrites, rules_weight, main_origin, origins_of}
 use Rattle.wi_rules.proofs.Lists.{In, contains_in, in_contains, in_either, map_in, flat_in, if_in, option_in, one_in, length_zeros}
 use Rattle.wi_rules.proofs.Ends.{Ends}
 use Rattle.wi_rules.proofs.HopRun.{Hops, entry_in}
@@ -28,7 +28,7 @@ plus_last [] (n ∷ b) x y h = absurd (omega (arith, h))
 plus_last (m ∷ a) [] x y h = absurd (omega (arith, h))
 plus_last (m ∷ a) (n ∷ b) x y h = ap (λ (r : List ℕ). (m + n) ∷ r) (plus_last a b x y (omega (arith, h)))
 
-module _ (s : Setup) (k : IsSetup s) where
+module _ (s : Encoding) (k : IsEncoding s) where
   of_plain : (to : Spot) (word : Word2) (r : SpotRule) → plain s to word ≡ r → length r.share ≡ s.terms
   of_plain to word r e = subst (λ (x : SpotRule). length x.share ≡ s.terms) e (length_zeros s)
 
@@ -72,7 +72,7 @@ module _ (s : Setup) (k : IsSetup s) where
     pub rules : List SpotRule
     pub run : Rewrites s p stack rules Done []
     pub weight : rules_weight s rules ≡ t ++ n ∷ []
-    pub tells : told rules ≡ os
+    pub tells : origins_of rules ≡ os
 
   pub ends_rewrites : (n : ℕ) (p : Spot) (stack t : List ℕ) (os : List Origin) → Ends s p stack t os n → Spelled p stack t os n
   ends_rewrites zero p stack t os h = record { rules = []; run = (h.0, h.1); weight = ap (λ (x : List ℕ). x ++ 0 ∷ []) (sym h.2); tells = sym h.3 }
@@ -85,7 +85,7 @@ module _ (s : Setup) (k : IsSetup s) where
         rules = h.0 ∷ rest.rules;
         run = (in_contains (rules_of s p g) h.0 h.3, rest.run);
         weight = ap (λ (x : List ℕ). plus (h.0.share ++ 1 ∷ []) x) rest.weight ∙ plus_last h.0.share h.1 1 n long ∙ rw one (ap (λ (x : List ℕ). x ++ suc n ∷ []) (sym h.6));
-        tells = ap (λ (x : List Origin). telling h.0.origin ++ x) rest.tells ∙ sym h.7;
+        tells = ap (λ (x : List Origin). main_origin h.0.origin ++ x) rest.tells ∙ sym h.7;
       }
 
   pub record Counted (p : Spot) (stack : List ℕ) (os : List Origin) (w : List ℕ) : Type 0 where
@@ -95,18 +95,18 @@ module _ (s : Setup) (k : IsSetup s) where
     pub long : length share ≡ s.terms
     pub weight : w ≡ share ++ count ∷ []
 
-  pub rewrites_ends : (rs : List SpotRule) (p : Spot) (stack : List ℕ) → Rewrites s p stack rs Done [] → Counted p stack (told rs) (rules_weight s rs)
+  pub rewrites_ends : (rs : List SpotRule) (p : Spot) (stack : List ℕ) → Rewrites s p stack rs Done [] → Counted p stack (origins_of rs) (rules_weight s rs)
   rewrites_ends [] p stack h = record { share = zeros s; count = 0; ends = (h.0, h.1, refl, refl); long = length_zeros s; weight = refl }
   rewrites_ends (r ∷ rs) p [] h = absurd h
   rewrites_ends (r ∷ rs) p (g ∷ stack) h =
-      let rest : Counted r.to (symbols r.word ++ stack) (told rs) (rules_weight s rs) = rewrites_ends rs r.to (symbols r.word ++ stack) h.1 in
+      let rest : Counted r.to (symbols r.word ++ stack) (origins_of rs) (rules_weight s rs) = rewrites_ends rs r.to (symbols r.word ++ stack) h.1 in
       let i : In (rules_of s p g) r = contains_in (rules_of s p g) r h.0 in
       let long : length r.share ≡ s.terms = rule_length p g r i in
       let one : 1 + rest.count ≡ suc rest.count = omega arith in
       record {
         share = plus r.share rest.share;
         count = suc rest.count;
-        ends = (r, rest.share, told rs, i, rest.ends, rest.long, refl, refl);
+        ends = (r, rest.share, origins_of rs, i, rest.ends, rest.long, refl, refl);
         long = length-plus s.terms r.share rest.share long rest.long;
         weight = ap (λ (x : List ℕ). plus (r.share ++ 1 ∷ []) x) rest.weight ∙ plus_last r.share rest.share 1 rest.count (long ∙ sym rest.long) ∙ rw one refl;
       }

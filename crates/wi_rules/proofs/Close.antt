@@ -6,14 +6,14 @@ use Rattle.wi_net.specs.Net.{label_known, labels_known}
 use Rattle.wi_pds.specs.declared.rule.Word2.TheVariants.{Empty}
 use Rattle.wi_rules.specs.declared.spot.Origin.{Origin}
 use Rattle.wi_rules.specs.declared.spot.Spot.TheVariants.{Done, Close}
-use Rattle.wi_rules.specs.Rules.{Setup, zeros, plain, is_label}
+use Rattle.wi_rules.specs.Rules.{Encoding, zeros, plain, is_label}
 use Rattle.wi_rules.specs.Goals.{Walks}
 use Rattle.wi_rules.proofs.Lists.{In, contains_in, in_contains, in_map, map_in, if_in, one_in, length_zeros}
 use Rattle.wi_rules.proofs.Header.{labels_of}
 use Rattle.wi_rules.proofs.HopRun.{top_label}
 use Rattle.wi_rules.proofs.Ends.{Ends, stack, plain_step, plain_on}
 
-module _ (s : Setup) where
+module _ (s : Encoding) where
   -- A header that the last automaton accepts from a state is popped, one rule a label, and one more for the bottom.
   pub close_forward : (h : List Entry) (q r : ℕ) → labels_known s.net h ≡ true → Walks s.last q (labels_of h) r → s.last.accepts r ≡ true → Ends s (Close q) (stack h) (zeros s) [] (suc (length h))
   close_forward [] q r known w a =

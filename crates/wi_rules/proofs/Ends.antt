@@ -7,52 +7,52 @@ use Rattle.wi_pds.specs.declared.rule.Word2.{Word2}
 use Rattle.wi_pds.specs.Runs.{symbols}
 use Rattle.wi_rules.specs.declared.spot.Origin.{Origin}
 use Rattle.wi_rules.specs.declared.spot.Origin.TheVariants.{Pushed}
-use Rattle.wi_rules.specs.Goals.{telling}
+use Rattle.wi_rules.specs.Goals.{main_origin}
 use Rattle.wi_rules.specs.declared.spot.Spot.{Spot}
 use Rattle.wi_rules.specs.declared.spot.Spot.TheVariants.{Done, Build}
-use Rattle.wi_rules.specs.Rules.{Setup, SpotRule, zeros, plain, working, pushing, rules_of}
+use Rattle.wi_rules.specs.Rules.{Encoding, SpotRule, zeros, plain, working, pushing, rules_of}
 use Rattle.wi_rules.proofs.Lists.{In}
 
 -- n rules lead from a spot and a stack to the end, add t, and stand for os
-abbrev pub Ends : Setup → Spot → List ℕ → List ℕ → List Origin → ℕ → Type 0
+abbrev pub Ends : Encoding → Spot → List ℕ → List ℕ → List Origin → ℕ → Type 0
 Ends s p stack t os zero = (p ≡ Done) × (stack ≡ []) × (t ≡ zeros s) × (os ≡ [])
 Ends s p [] t os (suc n) = ⊥
 Ends s p (g ∷ stack) t os (suc n) =
-    (r : SpotRule) × (u : List ℕ) × (v : List Origin) × In (rules_of s p g) r × Ends s r.to (symbols r.word ++ stack) u v n × (length u ≡ s.terms) × (t ≡ plus r.share u) × (os ≡ telling r.origin ++ v)
+    (r : SpotRule) × (u : List ℕ) × (v : List Origin) × In (rules_of s p g) r × Ends s r.to (symbols r.word ++ stack) u v n × (length u ≡ s.terms) × (t ≡ plus r.share u) × (os ≡ main_origin r.origin ++ v)
 
 -- the symbols of a header over the bottom
 abbrev pub stack : List Entry → List ℕ
 stack [] = 0 ∷ []
 stack (l ∷ header) = suc l.0.0 ∷ stack header
 
-pub plain_step : (s : Setup) (p to : Spot) (word : Word2) (g : ℕ) (below t : List ℕ) (os : List Origin) (n : ℕ) → In (rules_of s p g) (plain s to word) → Ends s to (symbols word ++ below) t os n → length t ≡ s.terms → Ends s p (g ∷ below) t os (suc n)
+pub plain_step : (s : Encoding) (p to : Spot) (word : Word2) (g : ℕ) (below t : List ℕ) (os : List Origin) (n : ℕ) → In (rules_of s p g) (plain s to word) → Ends s to (symbols word ++ below) t os n → length t ≡ s.terms → Ends s p (g ∷ below) t os (suc n)
 plain_step s p to word g below t os n i h l = (plain s to word, t, os, i, h, l, sym (zero_plus s.terms t l), refl)
 
 -- what a plain rule leaves goes on from where it leads, and adds and stands for the same
-pub plain_on : (s : Setup) (r : SpotRule) (to : Spot) (word : Word2) (below t u : List ℕ) (os v : List Origin) (n : ℕ) → plain s to word ≡ r → Ends s r.to (symbols r.word ++ below) u v n → length u ≡ s.terms → t ≡ plus r.share u → os ≡ telling r.origin ++ v → Ends s to (symbols word ++ below) t os n
+pub plain_on : (s : Encoding) (r : SpotRule) (to : Spot) (word : Word2) (below t u : List ℕ) (os v : List Origin) (n : ℕ) → plain s to word ≡ r → Ends s r.to (symbols r.word ++ below) u v n → length u ≡ s.terms → t ≡ plus r.share u → os ≡ main_origin r.origin ++ v → Ends s to (symbols word ++ below) t os n
 plain_on s r to word below t u os v n is ends l et eo =
     let at : Ends s to (symbols word ++ below) u v n = subst (λ (x : SpotRule). Ends s x.to (symbols x.word ++ below) u v n) (sym is) ends in
     let et2 : t ≡ plus (zeros s) u = subst (λ (x : SpotRule). t ≡ plus x.share u) (sym is) et in
-    let eo2 : os ≡ v = subst (λ (x : SpotRule). os ≡ telling x.origin ++ v) (sym is) eo in
+    let eo2 : os ≡ v = subst (λ (x : SpotRule). os ≡ main_origin x.origin ++ v) (sym is) eo in
     let same : u ≡ t = sym (zero_plus s.terms u l) ∙ sym et2 in
     subst (λ (x : List ℕ). Ends s to (symbols word ++ below) x os n) same (subst (λ (x : List Origin). Ends s to (symbols word ++ below) u x n) (sym eo2) at)
 
 -- and so does a rule for a further operation
-pub working_step : (s : Setup) (m i : ℕ) (p to : Spot) (word : Word2) (g : ℕ) (below t : List ℕ) (os : List Origin) (n : ℕ) → In (rules_of s p g) (working s m i to word) → Ends s to (symbols word ++ below) t os n → length t ≡ s.terms → Ends s p (g ∷ below) t os (suc n)
+pub working_step : (s : Encoding) (m i : ℕ) (p to : Spot) (word : Word2) (g : ℕ) (below t : List ℕ) (os : List Origin) (n : ℕ) → In (rules_of s p g) (working s m i to word) → Ends s to (symbols word ++ below) t os n → length t ≡ s.terms → Ends s p (g ∷ below) t os (suc n)
 working_step s m i p to word g below t os n there h l = (working s m i to word, t, os, there, h, l, sym (zero_plus s.terms t l), refl)
 
-pub working_on : (s : Setup) (m i : ℕ) (r : SpotRule) (to : Spot) (word : Word2) (below t u : List ℕ) (os v : List Origin) (n : ℕ) → working s m i to word ≡ r → Ends s r.to (symbols r.word ++ below) u v n → length u ≡ s.terms → t ≡ plus r.share u → os ≡ telling r.origin ++ v → Ends s to (symbols word ++ below) t os n
+pub working_on : (s : Encoding) (m i : ℕ) (r : SpotRule) (to : Spot) (word : Word2) (below t u : List ℕ) (os v : List Origin) (n : ℕ) → working s m i to word ≡ r → Ends s r.to (symbols r.word ++ below) u v n → length u ≡ s.terms → t ≡ plus r.share u → os ≡ main_origin r.origin ++ v → Ends s to (symbols word ++ below) t os n
 working_on s m i r to word below t u os v n is ends l et eo =
     let et2 : t ≡ plus (plain s to word).share u = subst (λ (x : SpotRule). t ≡ plus x.share u) (sym is) et in
-    let eo2 : os ≡ telling (plain s to word).origin ++ v = subst (λ (x : SpotRule). os ≡ telling x.origin ++ v) (sym is) eo in
+    let eo2 : os ≡ main_origin (plain s to word).origin ++ v = subst (λ (x : SpotRule). os ≡ main_origin x.origin ++ v) (sym is) eo in
     plain_on s (plain s to word) to word below t u os v n refl (subst (λ (x : SpotRule). Ends s x.to (symbols x.word ++ below) u v n) (sym is) ends) l et2 eo2
 
 -- what a rule that pushes a label leaves adds the same, and stands for that label and the rest
-pub pushing_on : (s : Setup) (r : SpotRule) (l g q : ℕ) (below t u : List ℕ) (os v : List Origin) (n : ℕ) → pushing s l g q ≡ r → Ends s r.to (symbols r.word ++ below) u v n → length u ≡ s.terms → t ≡ plus r.share u → os ≡ telling r.origin ++ v
+pub pushing_on : (s : Encoding) (r : SpotRule) (l g q : ℕ) (below t u : List ℕ) (os v : List Origin) (n : ℕ) → pushing s l g q ≡ r → Ends s r.to (symbols r.word ++ below) u v n → length u ≡ s.terms → t ≡ plus r.share u → os ≡ main_origin r.origin ++ v
     → Ends s (Build q) (suc l ∷ g ∷ below) t v n × (os ≡ Pushed (record { 0 = l }) ∷ v)
 pushing_on s r l g q below t u os v n is ends len et eo =
     let at : Ends s (Build q) (suc l ∷ g ∷ below) u v n = subst (λ (x : SpotRule). Ends s x.to (symbols x.word ++ below) u v n) (sym is) ends in
     let et2 : t ≡ plus (zeros s) u = subst (λ (x : SpotRule). t ≡ plus x.share u) (sym is) et in
-    let eo2 : os ≡ Pushed (record { 0 = l }) ∷ v = subst (λ (x : SpotRule). os ≡ telling x.origin ++ v) (sym is) eo in
+    let eo2 : os ≡ Pushed (record { 0 = l }) ∷ v = subst (λ (x : SpotRule). os ≡ main_origin x.origin ++ v) (sym is) eo in
     let same : u ≡ t = sym (zero_plus s.terms u len) ∙ sym et2 in
     (subst (λ (x : List ℕ). Ends s (Build q) (suc l ∷ g ∷ below) x v n) same at, eo2)

@@ -13,13 +13,13 @@ use Rattle.wi_pds.specs.declared.rule.Word2.{Word2}
 use Rattle.wi_pds.specs.Runs.{symbols}
 use Rattle.wi_rules.specs.declared.spot.Origin.{Origin}
 use Rattle.wi_rules.specs.declared.spot.Spot.TheVariants.{Done, OnLink, Mid}
-use Rattle.wi_rules.specs.Rules.{Setup, SpotRule, working, written, on_way, rules_of, IsSetup}
+use Rattle.wi_rules.specs.Rules.{Encoding, SpotRule, working, written, on_way, rules_of, IsEncoding}
 use Rattle.wi_rules.proofs.Lists.{In, option_in, one_in, get_in, all_in, drop_get, drop_end}
 use Rattle.wi_rules.proofs.Members.{kept}
 use Rattle.wi_rules.proofs.Ends.{Ends, stack, working_step, working_on}
 use Rattle.wi_rules.proofs.Ops.{Wrote, wrote, Did, did, After}
 
-module _ (s : Setup) (k : IsSetup s) where
+module _ (s : Encoding) (k : IsEncoding s) where
   -- where a member's operations lead, if they aren't done, and if they are
   pub going : (member : Member) (m i q : ℕ) → i < length member.ops → on_way member m i q ≡ Mid m i q
   going member m i q h = rw (lt-ltb i (length member.ops) h) refl

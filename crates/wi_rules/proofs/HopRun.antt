@@ -16,15 +16,15 @@ use Rattle.wi_pds.specs.declared.rule.Word2.{Word2}
 use Rattle.wi_pds.specs.declared.rule.Word2.TheVariants.{One}
 use Rattle.wi_pds.specs.Runs.{symbols}
 use Rattle.wi_world.specs.declared.run.Step.{Step}
-use Rattle.wi_world.specs.Moves.{Place, moved, needed, by_link, is_possible}
+use Rattle.wi_world.specs.Moves.{Location, moved, needed, by_link, is_possible}
 use Rattle.wi_world.specs.Runs.{work}
 use Rattle.wi_world.proofs.Allowed.{Names, member_named, names_by_link, Possible, possible_parts}
 use Rattle.wi_rules.specs.declared.spot.Origin.{Origin}
 use Rattle.wi_rules.specs.declared.spot.Origin.TheVariants.{Hop}
 use Rattle.wi_rules.specs.declared.spot.Spot.{Spot}
 use Rattle.wi_rules.specs.declared.spot.Spot.TheVariants.{Done, Close, OnLink}
-use Rattle.wi_rules.specs.Rules.{Setup, SpotRule, plain, each_at, written, first_written, member_number, on_way, may_use, hop_rules, entry_rules, on_link_rules, is_label, rules_of, IsSetup}
-use Rattle.wi_rules.specs.Goals.{telling, share_at}
+use Rattle.wi_rules.specs.Rules.{Encoding, SpotRule, plain, each_at, written, first_written, member_number, on_way, may_use, hop_rules, entry_rules, on_link_rules, is_label, rules_of, IsEncoding}
+use Rattle.wi_rules.specs.Goals.{main_origin, share_at}
 use Rattle.wi_rules.proofs.Lists.{In, in_left, in_right, in_either, in_map, map_in, in_each0, each0_in, if_in, option_in, one_in, get_below}
 use Rattle.wi_rules.proofs.Ends.{Ends, stack, plain_step, plain_on}
 use Rattle.wi_rules.proofs.Ops.{class_known, Wrote, wrote, Did, did, After, after_from, after_to}
@@ -32,15 +32,15 @@ use Rattle.wi_rules.proofs.Members.{member_numbered}
 use Rattle.wi_rules.proofs.Hop.{gone, op_of, mid_forward, Worked, mid_backward}
 
 -- the rule for a member of an entry
-abbrev pub hop_rule : Setup → LinkId → ℕ → Label → Step → Member → Word2 → ℕ → SpotRule
+abbrev pub hop_rule : Encoding → LinkId → ℕ → Label → Step → Member → Word2 → ℕ → SpotRule
 hop_rule s e q l step member word r = record { to = on_way member (member_number s.net e l step) 1 r; word = word; share = s.step_share e l step; origin = Hop step }
 
 -- the top of a known header is a label of the network
-pub top_label : (s : Setup) (top : Entry) (below : List Entry) → labels_known s.net (top ∷ below) ≡ true → is_label s.net top.0.0 ≡ true
+pub top_label : (s : Encoding) (top : Entry) (below : List Entry) → labels_known s.net (top ∷ below) ≡ true → is_label s.net top.0.0 ≡ true
 top_label s top below known =
     lt-ltb top.0.0 (length s.net.classes) (get_below s.net.classes top.0.0 top.1 (class_known s.net.classes top (and_parts (label_known s.net.classes top) (labels_known s.net below) known).0))
 
-module _ (s : Setup) (k : IsSetup s) where
+module _ (s : Encoding) (k : IsEncoding s) where
   -- a member of an entry
   pub record Listed (e : LinkId) (l : Label) (step : Step) : Type 0 where
     pub group : List Member
@@ -112,24 +112,24 @@ module _ (s : Setup) (k : IsSetup s) where
       (names_by_link s.net (e, top ∷ below) step (λ d. not (has (needed s.net (e, top ∷ below) step) d) && not (has s.bounds.down d)) n parts.1)
 
   -- where a named member leads
-  pub led : (at : Place) (step : Step) (n : Names s.net at step) (next : Place) → moved s.net at step ≡ Some next → (after_ops n.member.ops at.1 ≡ Some next.1) × (next.0 ≡ n.member.link)
+  pub led : (at : Location) (step : Step) (n : Names s.net at step) (next : Location) → moved s.net at step ≡ Some next → (after_ops n.member.ops at.1 ≡ Some next.1) × (next.0 ≡ n.member.link)
   led at step n next m = go (after_ops n.member.ops at.1) refl
     where
       m1 : option_map (λ (h : List Entry). (n.member.link, h)) (after_ops n.member.ops at.1) ≡ Some next
       m1 = rw (member_named s.net at step n) at m
 
       go : (o : Option (List Entry)) → after_ops n.member.ops at.1 ≡ o → (after_ops n.member.ops at.1 ≡ Some next.1) × (next.0 ≡ n.member.link)
-      go None e = let none : ◌≡◌ {A = Option Place} None (Some next) = rw e at m1 in cc
+      go None e = let none : ◌≡◌ {A = Option Location} None (Some next) = rw e at m1 in cc
       go (Some h) e =
-          let some : ◌≡◌ {A = Option Place} (Some (n.member.link, h)) (Some next) = rw e at m1 in
+          let some : ◌≡◌ {A = Option Location} (Some (n.member.link, h)) (Some next) = rw e at m1 in
           let same : (n.member.link, h) ≡ next = cc in
-          (e ∙ ap (λ (x : Place). Some x.1) same, sym (ap (λ (x : Place). x.0) same))
+          (e ∙ ap (λ (x : Location). Some x.1) same, sym (ap (λ (x : Location). x.0) same))
 
-  lead : (at : Place) (step : Step) (n : Names s.net at step) (h : List Entry) → after_ops n.member.ops at.1 ≡ Some h → moved s.net at step ≡ Some (n.member.link, h)
+  lead : (at : Location) (step : Step) (n : Names s.net at step) (h : List Entry) → after_ops n.member.ops at.1 ≡ Some h → moved s.net at step ≡ Some (n.member.link, h)
   lead at step n h e = rw (member_named s.net at step n) (rw e refl)
 
   -- a member's work is by its operations
-  pub work_named : (at : Place) (step : Step) (n : Names s.net at step) (next : Place) → work s.net at step next ≡ max 1 (length n.member.ops)
+  pub work_named : (at : Location) (step : Step) (n : Names s.net at step) (next : Location) → work s.net at step next ≡ max 1 (length n.member.ops)
   work_named at step n next = rw (member_named s.net at step n) refl
 
   -- all operations of a member, of which the hop's rule does the first
@@ -153,7 +153,7 @@ module _ (s : Setup) (k : IsSetup s) where
       rw more (hop_rule s e q top.0 step n.member w.word r, t, os, in_at e q top.0 step n w.word r (top_label s top below known) u word_is i, rw w.stack_is rest, l, refl, refl)
 
   -- A possible hop is made by rules: as many as it has operations, or one if it has none, of the step's weight.
-  pub hop_forward : (e : LinkId) (q r : ℕ) (top : Entry) (below : List Entry) (step : Step) (next : Place) (t : List ℕ) (os : List Origin) (c : ℕ) → is_possible s.net s.bounds (e, top ∷ below) step ≡ true → moved s.net (e, top ∷ below) step ≡ Some next
+  pub hop_forward : (e : LinkId) (q r : ℕ) (top : Entry) (below : List Entry) (step : Step) (next : Location) (t : List ℕ) (os : List Origin) (c : ℕ) → is_possible s.net s.bounds (e, top ∷ below) step ≡ true → moved s.net (e, top ∷ below) step ≡ Some next
       → In (s.path.next q next.0.0) r → labels_known s.net (top ∷ below) ≡ true → Ends s (OnLink next.0 r) (stack next.1) t os c → length t ≡ s.terms
       → Ends s (OnLink e q) (stack (top ∷ below)) (plus (share_at s (e, top ∷ below) step) t) (Hop step ∷ os) (work s.net (e, top ∷ below) step next + c)
   hop_forward e q r top below step next t os c h m i known ends l =
@@ -167,9 +167,9 @@ module _ (s : Setup) (k : IsSetup s) where
       rw (work_named (e, top ∷ below) step p.named next) run
 
   -- a run goes on after a hop
-  pub record Hopped (at : Place) (q : ℕ) (t : List ℕ) (os : List Origin) (c : ℕ) : Type 0 where
+  pub record Hopped (at : Location) (q : ℕ) (t : List ℕ) (os : List Origin) (c : ℕ) : Type 0 where
     pub step : Step
-    pub next : Place
+    pub next : Location
     pub to : ℕ
     pub rest : List ℕ
     pub told : List Origin
@@ -248,7 +248,7 @@ module _ (s : Setup) (k : IsSetup s) where
       hopped h =
           let l : Led h.names.member h.to h.names.member.ops (top ∷ below) ends.1 ends.2 c = member_backward e q top below ends.0 ends.1 ends.2 c h known ends.4 h.names.member.ops refl in
           let n : Names s.net (e, top ∷ below) h.step = record { group = h.names.group; member = h.names.member; group_is = h.names.group_is; member_is = h.names.member_is } in
-          let next : Place = (h.names.member.link, l.header) in
+          let next : Location = (h.names.member.link, l.header) in
           record {
             step = h.step;
             next = next;
@@ -262,7 +262,7 @@ module _ (s : Setup) (k : IsSetup s) where
             ends = l.ends;
             long = ends.5;
             share = ends.6 ∙ ap (λ (x : SpotRule). plus x.share ends.1) (sym h.is);
-            tells = ends.7 ∙ ap (λ (x : SpotRule). telling x.origin ++ ends.2) (sym h.is);
+            tells = ends.7 ∙ ap (λ (x : SpotRule). main_origin x.origin ++ ends.2) (sym h.is);
             number = l.number ∙ rw (work_named (e, top ∷ below) h.step n next) refl;
             known = l.known;
           }

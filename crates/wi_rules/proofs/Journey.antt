@@ -12,13 +12,13 @@ use Rattle.wi_net.specs.Network.{op_known}
 use Rattle.wi_weight.specs.Weights.{plus}
 use Rattle.wi_weight.specs.Sums.{length-plus}
 use Rattle.wi_world.specs.declared.run.Step.{Step}
-use Rattle.wi_world.specs.Moves.{Place, moved, is_possible, follows}
-use Rattle.wi_world.specs.Runs.{places, last_header, sum_over, work}
+use Rattle.wi_world.specs.Moves.{Location, moved, is_possible, follows}
+use Rattle.wi_world.specs.Runs.{locations, last_header, sum_over, work}
 use Rattle.wi_world.proofs.Allowed.{Possible, possible_parts}
 use Rattle.wi_rules.specs.declared.spot.Origin.{Origin}
 use Rattle.wi_rules.specs.declared.spot.Origin.TheVariants.{Hop}
 use Rattle.wi_rules.specs.declared.spot.Spot.TheVariants.{Close, OnLink}
-use Rattle.wi_rules.specs.Rules.{Setup, zeros, IsSetup}
+use Rattle.wi_rules.specs.Rules.{Encoding, zeros, IsEncoding}
 use Rattle.wi_rules.specs.Goals.{Walks, Accepts, share_at, shares, hops_of}
 use Rattle.wi_rules.proofs.Lists.{in_contains, contains_in, length_zeros}
 use Rattle.wi_rules.proofs.Ends.{Ends, stack}
@@ -29,20 +29,20 @@ use Rattle.wi_rules.proofs.Header.{labels_of}
 use Rattle.wi_rules.proofs.Close.{Read, close_forward, close_backward}
 
 -- the numbers of the links after the first
-abbrev pub later : Net → Place → List Step → List ℕ
+abbrev pub later : Net → Location → List Step → List ℕ
 later net at [] = []
 later net at (step ∷ steps) = option_map_or (λ next. next.0.0 ∷ later net next steps) (moved net at step) []
 
-pub links_later : (net : Net) (steps : List Step) (at : Place) → map (λ (e : LinkId). e.0) (map (λ (p : Place). p.0) (places net at steps)) ≡ at.0.0 ∷ later net at steps
+pub links_later : (net : Net) (steps : List Step) (at : Location) → map (λ (e : LinkId). e.0) (map (λ (p : Location). p.0) (locations net at steps)) ≡ at.0.0 ∷ later net at steps
 links_later net [] at = refl
 links_later net (step ∷ steps) at = go (moved net at step) refl (links_later net steps)
   where
-    go : (o : Option Place) → moved net at step ≡ o → ((at : Place) → map (λ (e : LinkId). e.0) (map (λ (p : Place). p.0) (places net at steps)) ≡ at.0.0 ∷ later net at steps)
-        → map (λ (e : LinkId). e.0) (map (λ (p : Place). p.0) (places net at (step ∷ steps))) ≡ at.0.0 ∷ later net at (step ∷ steps)
+    go : (o : Option Location) → moved net at step ≡ o → ((at : Location) → map (λ (e : LinkId). e.0) (map (λ (p : Location). p.0) (locations net at steps)) ≡ at.0.0 ∷ later net at steps)
+        → map (λ (e : LinkId). e.0) (map (λ (p : Location). p.0) (locations net at (step ∷ steps))) ≡ at.0.0 ∷ later net at (step ∷ steps)
     go None m ih = rw m refl
     go (Some next) m ih = rw m (ap (λ (x : List ℕ). at.0.0 ∷ x) (ih next))
 
-module _ (s : Setup) (k : IsSetup s) where
+module _ (s : Encoding) (k : IsEncoding s) where
   after_known : (ops : List Op) (h h2 : List Entry) → list_all (λ (op : Op). op_known s.net op) ops ≡ true → labels_known s.net h ≡ true → After ops h h2 → labels_known s.net h2 ≡ true
   after_known [] h h2 o known a = subst (λ (x : List Entry). labels_known s.net x ≡ true) a known
   after_known (op ∷ ops) [] h2 o known a = let none : ◌≡◌ {A = Option (List Entry)} None (Some a.0) = a.1 in cc
@@ -52,7 +52,7 @@ module _ (s : Setup) (k : IsSetup s) where
       after_known ops a.0 h2 parts.1 (w.known parts.0) a.2
 
   -- a possible hop keeps a header valid and known
-  kept : (e : LinkId) (top : Entry) (below : List Entry) (step : Step) (next : Place) → is_possible s.net s.bounds (e, top ∷ below) step ≡ true → moved s.net (e, top ∷ below) step ≡ Some next
+  kept : (e : LinkId) (top : Entry) (below : List Entry) (step : Step) (next : Location) → is_possible s.net s.bounds (e, top ∷ below) step ≡ true → moved s.net (e, top ∷ below) step ≡ Some next
       → is_valid_header (top ∷ below) ≡ true → labels_known s.net (top ∷ below) ≡ true → (is_valid_header next.1 ≡ true) × (labels_known s.net next.1 ≡ true)
   kept e top below step next h m v known =
       let p : Possible s.net s.bounds (e, top ∷ below) step = possible_parts s.net s.bounds (e, top ∷ below) step h in
@@ -62,20 +62,20 @@ module _ (s : Setup) (k : IsSetup s) where
         after_known p.named.member.ops (top ∷ below) next.1 (ops_of s k n.member _ (numbered s k e top.0 step n)) known (after_from p.named.member.ops (top ∷ below) next.1 way.0),
       )
 
-  share_length : (at : Place) (step : Step) → length (share_at s at step) ≡ s.terms
+  share_length : (at : Location) (step : Step) → length (share_at s at step) ≡ s.terms
   share_length (e, []) step = length_zeros s
   share_length (e, top ∷ below) step = k.step_length e top.0 step
 
-  pub shares_length : (steps : List Step) (at : Place) → length (shares s at steps) ≡ s.terms
+  pub shares_length : (steps : List Step) (at : Location) → length (shares s at steps) ≡ s.terms
   shares_length [] at = length_zeros s
   shares_length (step ∷ steps) at = go (moved s.net at step) refl (shares_length steps)
     where
-      go : (o : Option Place) → moved s.net at step ≡ o → ((at : Place) → length (shares s at steps) ≡ s.terms) → length (shares s at (step ∷ steps)) ≡ s.terms
+      go : (o : Option Location) → moved s.net at step ≡ o → ((at : Location) → length (shares s at steps) ≡ s.terms) → length (shares s at (step ∷ steps)) ≡ s.terms
       go None m ih = rw m (length_zeros s)
       go (Some next) m ih = rw m (length-plus s.terms (share_at s at step) (shares s next steps) (share_length at step) (ih next))
 
   -- the number of rules from a link on
-  abbrev pub count_from : Place → List Step → ℕ
+  abbrev pub count_from : Location → List Step → ℕ
   count_from at steps = sum_over s.net (work s.net) at steps + (length (last_header s.net at steps) + 2)
 
   -- Steps that are possible hops, whose links the path's automaton accepts and whose last header the last one does, are rules to the end.
@@ -90,10 +90,10 @@ module _ (s : Setup) (k : IsSetup s) where
       rw number all
   journey_forward (step ∷ steps) e (top ∷ below) q r v known f w a l = go (moved s.net (e, top ∷ below) step) refl (journey_forward steps)
     where
-      parts : (is_possible s.net s.bounds (e, top ∷ below) step ≡ true) × (option_map_or (λ (next : Place). follows s.net (is_possible s.net s.bounds) next steps) (moved s.net (e, top ∷ below) step) false ≡ true)
-      parts = and_parts (is_possible s.net s.bounds (e, top ∷ below) step) (option_map_or (λ (next : Place). follows s.net (is_possible s.net s.bounds) next steps) (moved s.net (e, top ∷ below) step) false) f
+      parts : (is_possible s.net s.bounds (e, top ∷ below) step ≡ true) × (option_map_or (λ (next : Location). follows s.net (is_possible s.net s.bounds) next steps) (moved s.net (e, top ∷ below) step) false ≡ true)
+      parts = and_parts (is_possible s.net s.bounds (e, top ∷ below) step) (option_map_or (λ (next : Location). follows s.net (is_possible s.net s.bounds) next steps) (moved s.net (e, top ∷ below) step) false) f
 
-      go : (o : Option Place) → moved s.net (e, top ∷ below) step ≡ o
+      go : (o : Option Location) → moved s.net (e, top ∷ below) step ≡ o
           → ((e : LinkId) (h : List Entry) (q r : ℕ) → is_valid_header h ≡ true → labels_known s.net h ≡ true → follows s.net (is_possible s.net s.bounds) (e, h) steps ≡ true
           → Walks s.path q (later s.net (e, h) steps) r → s.path.accepts r ≡ true → Accepts s.last (labels_of (last_header s.net (e, h) steps))
           → Ends s (OnLink e q) (stack h) (shares s (e, h) steps) (hops_of steps) (count_from (e, h) steps))
@@ -124,7 +124,7 @@ module _ (s : Setup) (k : IsSetup s) where
   more e q h t os n r j = record {
     steps = r.step ∷ j.steps;
     state = j.state;
-    possible = and_from (is_possible s.net s.bounds (e, h) r.step) (option_map_or (λ (next : Place). follows s.net (is_possible s.net s.bounds) next j.steps) (moved s.net (e, h) r.step) false) r.possible (rw r.moves j.possible);
+    possible = and_from (is_possible s.net s.bounds (e, h) r.step) (option_map_or (λ (next : Location). follows s.net (is_possible s.net s.bounds) next j.steps) (moved s.net (e, h) r.step) false) r.possible (rw r.moves j.possible);
     walks = rw r.moves (r.to, in_contains (s.path.next q r.next.0.0) r.to r.path, j.walks);
     accepts = j.accepts;
     last = rw r.moves j.last;
@@ -137,7 +137,7 @@ module _ (s : Setup) (k : IsSetup s) where
         );
   }
 
-  works : (at : Place) (q : ℕ) (t : List ℕ) (os : List Origin) (n : ℕ) (r : Hopped s k at q t os n) → r.count < n
+  works : (at : Location) (q : ℕ) (t : List ℕ) (os : List Origin) (n : ℕ) (r : Hopped s k at q t os n) → r.count < n
   works at q t os n r =
       let p : Possible s.net s.bounds at r.step = possible_parts s.net s.bounds at r.step r.possible in
       let x : n ≡ work s.net at r.step r.next + r.count = r.number in

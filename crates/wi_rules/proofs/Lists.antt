@@ -8,7 +8,7 @@ use Rattle.std.proofs.lemmas.Bool.{and_parts, or_cases, or_left, or_right, eq-eq
 use Rattle.wi_net.specs.declared.parts.LinkId.{LinkId}
 use Rattle.wi_net.specs.LinkSet.{has}
 use Rattle.wi_net.proofs.SetLemmas.{same_link}
-use Rattle.wi_rules.specs.Rules.{Setup, zeros, each_at}
+use Rattle.wi_rules.specs.Rules.{Encoding, zeros, each_at}
 
 -- x is one of the elements
 abbrev pub In : {X : Type 0} → List X → X → Type 0
@@ -168,7 +168,7 @@ in_has [] e h = absurd h
 in_has (x ∷ s) e (inl a) = or_left (nat_eq x.0 e.0) (has s e) (eq-eqb x.0 e.0 (ap (λ (y : LinkId). y.0) a))
 in_has (x ∷ s) e (inr b) = or_right (nat_eq x.0 e.0) (has s e) (in_has s e b)
 
-pub length_zeros : (s : Setup) → length (zeros s) ≡ s.terms
+pub length_zeros : (s : Encoding) → length (zeros s) ≡ s.terms
 length_zeros s = length-replicate s.terms 0
 
 pub range_in : (a n i : ℕ) → In (range_with_len a n) i → i < a + n

@@ -15,8 +15,8 @@ use Rattle.wi_pds.specs.Runs.{symbols}
 use Rattle.wi_rules.specs.declared.spot.Origin.{Origin}
 use Rattle.wi_rules.specs.declared.spot.Origin.TheVariants.{Pushed, SetOut}
 use Rattle.wi_rules.specs.declared.spot.Spot.TheVariants.{Start, Done, Build, OnLink}
-use Rattle.wi_rules.specs.Rules.{Automaton, Setup, SpotRule, plain, pushing, may_build, build_rules, set_out_rules, is_label, rules_of, IsAutomaton, IsSetup}
-use Rattle.wi_rules.specs.Goals.{telling, Walks, Accepts}
+use Rattle.wi_rules.specs.Rules.{Automaton, Encoding, SpotRule, plain, pushing, may_build, build_rules, set_out_rules, is_label, rules_of, IsAutomaton, IsEncoding}
+use Rattle.wi_rules.specs.Goals.{main_origin, Walks, Accepts}
 use Rattle.wi_rules.proofs.Lists.{In, contains_in, in_contains, in_map, map_in, in_flat, flat_in, in_filter, filter_in, in_range, if_in, get_below, has_in, in_has}
 use Rattle.wi_rules.proofs.Ends.{Ends, stack, plain_step, plain_on, pushing_on}
 use Rattle.wi_rules.proofs.Ops.{class_known}
@@ -45,7 +45,7 @@ pushes_end : (front : List Entry) (e : Entry) (os : List Origin) → pushes (fro
 pushes_end [] e os = refl
 pushes_end (l ∷ front) e os = pushes_end front e (Pushed l.0 ∷ os)
 
-module _ (s : Setup) (k : IsSetup s) where
+module _ (s : Encoding) (k : IsEncoding s) where
   -- the rule that pushes one more label
   in_build : (l : Entry) (g q m : ℕ) → label_known s.net.classes l ≡ true → may_build s.net l.0.0 g ≡ true → Contains (s.first.next q l.0.0) (suc m) → In (rules_of s (Build (suc m)) g) (pushing s l.0.0 g q)
   in_build l g q m known may c =
@@ -228,6 +228,6 @@ module _ (s : Setup) (k : IsSetup s) where
         ends = subst (λ (x : SpotRule). Ends s x.to (symbols x.word ++ stack h) ends.1 ends.2 n) (sym c.2) ends.4;
         long = ends.5;
         share = ends.6 ∙ ap (λ (x : SpotRule). plus x.share ends.1) (sym c.2);
-        tells = ends.7 ∙ ap (λ (x : SpotRule). telling x.origin ++ ends.2) (sym c.2);
+        tells = ends.7 ∙ ap (λ (x : SpotRule). main_origin x.origin ++ ends.2) (sym c.2);
         number = refl;
       }

@@ -16,8 +16,8 @@ use Rattle.wi_world.proofs.MovingLaws.{moving_possible, possible_moving}
 use Rattle.wi_rules.specs.declared.spot.Origin.{Origin}
 use Rattle.wi_rules.specs.declared.spot.Origin.TheVariants.{Pushed, SetOut}
 use Rattle.wi_rules.specs.declared.spot.Spot.TheVariants.{Start, Build, OnLink}
-use Rattle.wi_rules.specs.Rules.{Setup, SpotRule, IsSetup}
-use Rattle.wi_rules.specs.Goals.{rules_weight, IsGoalRun, HasGoalRun, told, told_of, hops_of, pushes_of, Walks, Accepts, question_of, shares, IsMatch}
+use Rattle.wi_rules.specs.Rules.{Encoding, SpotRule, IsEncoding}
+use Rattle.wi_rules.specs.Goals.{rules_weight, IsGoalRun, HasGoalRun, origins_of, origins_for, hops_of, pushes_of, Walks, Accepts, question_of, shares, IsMatch}
 use Rattle.wi_rules.proofs.Ends.{Ends, stack}
 use Rattle.wi_rules.proofs.Header.{labels_of}
 use Rattle.wi_rules.proofs.Made.{pushes, Begun, SetsOut, start_forward, start_backward, out_forward, out_backward}
@@ -38,7 +38,7 @@ pushes_are (l ∷ h) os =
     ∙ ap (λ (r : List Origin). r ++ os) (sym (tell_append (reverse h) (l ∷ [])))
     ∙ ap (λ (r : List Entry). map (λ (x : Entry). Pushed x.0) r ++ os) (sym one)
 
-module _ (s : Setup) (k : IsSetup s) where
+module _ (s : Encoding) (k : IsEncoding s) where
   -- the number of all rules is the effort
   effort_is : (run : Run) → suc (length run.header + suc (count_from s k (run.first, run.header) run.steps)) ≡ effort_of s.net run
   effort_is run = omega arith
@@ -67,7 +67,7 @@ module _ (s : Setup) (k : IsSetup s) where
       subst (λ (x : List Entry). Ends s Start (0 ∷ []) (plus (s.first_share run.first) (shares s (run.first, run.header) run.steps)) (pushes x (SetOut run.first ∷ hops_of run.steps)) (effort_of s.net run)) (sym is)
       (subst (λ (x : ℕ). Ends s Start (0 ∷ []) (plus (s.first_share run.first) (shares s (run.first, run.header) run.steps)) (pushes (l ∷ h) (SetOut run.first ∷ hops_of run.steps)) x) number all)
 
-  pub goal_of_match : (w : List ℕ) (run : Run) → IsMatch s w run → (rs : List SpotRule) × IsGoalRun s rs × (rules_weight s rs ≡ w) × (told rs ≡ told_of run)
+  pub goal_of_match : (w : List ℕ) (run : Run) → IsMatch s w run → (rs : List SpotRule) × IsGoalRun s rs × (rules_weight s rs ≡ w) × (origins_of rs ≡ origins_for run)
   goal_of_match w run m = go run.header refl
     where
       valid : is_valid_header run.header ≡ true
@@ -77,17 +77,17 @@ module _ (s : Setup) (k : IsSetup s) where
           let p1 = and_parts (is_link s.net run.first && not (has s.bounds.down run.first) && is_valid_header run.header) (labels_known s.net run.header) p0.0 in
           (and_parts (is_link s.net run.first && not (has s.bounds.down run.first)) (is_valid_header run.header) p1.0).1
 
-      go : (x : List Entry) → run.header ≡ x → (rs : List SpotRule) × IsGoalRun s rs × (rules_weight s rs ≡ w) × (told rs ≡ told_of run)
+      go : (x : List Entry) → run.header ≡ x → (rs : List SpotRule) × IsGoalRun s rs × (rules_weight s rs ≡ w) × (origins_of rs ≡ origins_for run)
       go [] is = let no : false ≡ true = rw is at valid in cc
       go (l ∷ h) is =
           let r : Spelled s k Start (0 ∷ []) (plus (s.first_share run.first) (shares s (run.first, run.header) run.steps)) (pushes run.header (SetOut run.first ∷ hops_of run.steps)) (effort_of s.net run) =
           ends_rewrites s k (effort_of s.net run) Start (0 ∷ []) (plus (s.first_share run.first) (shares s (run.first, run.header) run.steps)) (pushes run.header (SetOut run.first ∷ hops_of run.steps)) (begins run l h is m.moving m.matches) in
           (r.rules, r.run, r.weight ∙ m.weight, r.tells ∙ pushes_are run.header (SetOut run.first ∷ hops_of run.steps))
 
-  pub match_of_goal : (rs : List SpotRule) → IsGoalRun s rs → (run : Run) × IsMatch s (rules_weight s rs) run × (told rs ≡ told_of run)
+  pub match_of_goal : (rs : List SpotRule) → IsGoalRun s rs → (run : Run) × IsMatch s (rules_weight s rs) run × (origins_of rs ≡ origins_for run)
   match_of_goal rs g =
-      let c : Counted s k Start (0 ∷ []) (told rs) (rules_weight s rs) = rewrites_ends s k rs Start (0 ∷ []) g in
-      let b : Begun s k c.share (told rs) c.count = start_backward s k c.share (told rs) c.count c.ends in
+      let c : Counted s k Start (0 ∷ []) (origins_of rs) (rules_weight s rs) = rewrites_ends s k rs Start (0 ∷ []) g in
+      let b : Begun s k c.share (origins_of rs) c.count = start_backward s k c.share (origins_of rs) c.count c.ends in
       let o : SetsOut s k b.header c.share b.told b.count = out_backward s k b.header c.share b.told b.count b.part b.ends in
       let le : o.count ≤ o.count = omega arith in
       let j : Journey s k o.link o.state b.header o.rest o.told o.count = journey_backward s k o.count o.link o.state b.header o.rest o.told o.count le b.known o.ends in

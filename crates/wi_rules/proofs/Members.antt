@@ -8,7 +8,7 @@ use Rattle.wi_net.specs.declared.parts.RouterId.{RouterId}
 use Rattle.wi_net.specs.declared.parts.LinkId.{LinkId}
 use Rattle.wi_net.specs.declared.parts.Link.{Link}
 use Rattle.wi_net.specs.declared.parts.Member.{Member}
-use Rattle.wi_net.specs.declared.parts.Row.{Row}
+use Rattle.wi_net.specs.declared.parts.TableRow.{TableRow}
 use Rattle.wi_net.specs.Tables.{is_row, groups_in, members_of, all_members, group_members, row_members, members_before}
 use Rattle.wi_net.specs.Net.{Net, is_link}
 use Rattle.wi_net.specs.Network.{IsNetwork, op_known, leaves, is_member_at, is_group_at, is_row_of}
@@ -24,7 +24,7 @@ in_groups (g ∷ groups) (suc j) i group member e f =
     let place : length g + (group_members (take j groups) + i) ≡ (length g + group_members (take j groups)) + i = omega arith in
     get_back g (members_of groups) ((length g + group_members (take j groups)) + i) (group_members (take j groups) + i) place ∙ in_groups groups j i group member e f
 
-pub member_numbered : (rows : List Row) (e : LinkId) (l : Label) (j i : ℕ) (group : List Member) (member : Member) → slice_get (groups_in rows e l) j ≡ Some group → slice_get group i ≡ Some member
+pub member_numbered : (rows : List TableRow) (e : LinkId) (l : Label) (j i : ℕ) (group : List Member) (member : Member) → slice_get (groups_in rows e l) j ≡ Some group → slice_get group i ≡ Some member
     → slice_get (all_members rows) (members_before rows e l + (group_members (take j (groups_in rows e l)) + i)) ≡ Some member
 member_numbered [] e l j i group member g f = cc
 member_numbered (row ∷ rows) e l j i group member g f = go (is_row e l row) refl (member_numbered rows e l j i group member)
@@ -39,7 +39,7 @@ member_numbered (row ∷ rows) e l j i group member g f = go (is_row e l row) re
         let place : length (members_of row.groups) + (members_before rows e l + (group_members (take j (groups_in rows e l)) + i)) ≡ (group_members row.groups + members_before rows e l) + (group_members (take j (groups_in rows e l)) + i) = omega (arith, members_count row.groups) in
         rw b (get_back (members_of row.groups) (all_members rows) ((group_members row.groups + members_before rows e l) + (group_members (take j (groups_in rows e l)) + i)) (members_before rows e l + (group_members (take j (groups_in rows e l)) + i)) place ∙ ih (rw b at g) f)
 
-pub all_count : (rows : List Row) → length (all_members rows) ≡ row_members rows
+pub all_count : (rows : List TableRow) → length (all_members rows) ≡ row_members rows
 all_count [] = refl
 all_count (row ∷ rows) = length-append (members_of row.groups) (all_members rows) ∙ omega (arith, members_count row.groups, all_count rows)
 
@@ -59,7 +59,7 @@ group_of : (gs : List (List Member)) (m : Member) → In (members_of gs) m → (
 group_of [] m h = absurd h
 group_of (g ∷ gs) m h = elim (in_either g (members_of gs) m h) [ inl a ↦ (g, inl refl, a) | inr b ↦ (let r = group_of gs m b in (r.0, inr r.1, r.2)) ]
 
-kept_row : (net : Net) (row : Row) (m : Member) → is_row_of net row ≡ true → In (members_of row.groups) m → Kept net m
+kept_row : (net : Net) (row : TableRow) (m : Member) → is_row_of net row ≡ true → In (members_of row.groups) m → Kept net m
 kept_row net row m h i = go (slice_get net.links row.link.0) refl
   where
     tables : option_map_or (λ (l : Link). list_all (is_group_at net l.to) row.groups) (slice_get net.links row.link.0) false ≡ true
@@ -74,7 +74,7 @@ kept_row net row m h i = go (slice_get net.links row.link.0) refl
         let members = (and_parts (nat_lt 0 (length a.0)) (list_all (is_member_at net l.to) a.0) group).1 in
         kept_member net l.to m (all_in (is_member_at net l.to) a.0 m members a.2)
 
-kept_rows : (net : Net) (rows : List Row) (m : Member) → list_all (is_row_of net) rows ≡ true → In (all_members rows) m → Kept net m
+kept_rows : (net : Net) (rows : List TableRow) (m : Member) → list_all (is_row_of net) rows ≡ true → In (all_members rows) m → Kept net m
 kept_rows net [] m h i = absurd i
 kept_rows net (row ∷ rows) m h i =
     let p = and_parts (is_row_of net row) (list_all (is_row_of net) rows) h in

@@ -17,7 +17,7 @@ use Rattle.wi_pds.specs.declared.rule.Word2.TheVariants.{Empty, One}
 use Rattle.wi_rules.specs.declared.spot.Origin.TheVariants.{SetOut}
 use Rattle.wi_rules.specs.declared.spot.Spot.{Spot}
 use Rattle.wi_rules.specs.declared.spot.Spot.TheVariants.{Start, Done, Build, Close, OnLink, Mid}
-use Rattle.wi_rules.specs.Rules.{Setup, SpotRule, plain, working, pushing, written, member_number, on_way, may_build, build_rules, set_out_rules, entry_rules, on_link_rules, is_label, next_op_rules, rules_of, IsSetup}
+use Rattle.wi_rules.specs.Rules.{Encoding, SpotRule, plain, working, pushing, written, member_number, on_way, may_build, build_rules, set_out_rules, entry_rules, on_link_rules, is_label, next_op_rules, rules_of, IsEncoding}
 use Rattle.wi_rules.specs.Numbers.{Layout, layout_of, number, amid, on_links, closing, building, spot_of, Fits}
 use Rattle.wi_rules.proofs.Lists.{In, in_contains, in_either, map_in, flat_in, filter_in, range_in, if_in, option_in, one_in, get_below, in_has}
 use Rattle.wi_rules.proofs.Members.{Kept, kept, all_count}
@@ -77,7 +77,7 @@ spot_of_number y (Mid m i q) f =
     ∙ past_links y ((m * 7 + (i - 1)) * y.path + q)
     ∙ at_amid y m i q f.0 f.1 f.2 f.3
 
-module _ (s : Setup) (k : IsSetup s) where
+module _ (s : Encoding) (k : IsEncoding s) where
   on_way_fits : (member : Member) (m i q : ℕ) → slice_get (all_members s.net.rows) m ≡ Some member → 0 < i → q < s.path.states → Fits (layout_of s) (on_way member m i q)
   on_way_fits member m i q e hi hq = go (nat_lt i (length member.ops)) refl
     where

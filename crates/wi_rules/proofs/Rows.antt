@@ -11,11 +11,11 @@ use Rattle.wi_rules.specs.declared.spot.Origin.{Origin}
 use Rattle.wi_rules.specs.declared.spot.Origin.TheVariants.{Pushed, SetOut, Hop, Operation, Nothing}
 use Rattle.wi_rules.specs.declared.spot.Spot.{Spot}
 use Rattle.wi_rules.specs.declared.spot.Spot.TheVariants.{Start, Done, Build, Close, OnLink, Mid}
-use Rattle.wi_rules.specs.Rules.{SpotRule, Setup, plain, pushing, rules_of}
-use Rattle.wi_rules.specs.Goals.{IsGoalRun, IsMatch, rules_weight, told, told_of}
+use Rattle.wi_rules.specs.Rules.{SpotRule, Encoding, plain, pushing, rules_of}
+use Rattle.wi_rules.specs.Goals.{IsGoalRun, IsMatch, rules_weight, origins_of, origins_for}
 use Rattle.wi_rules.specs.Numbers.{layout_of, number, spot_of, rules_at_number, NumberedRule}
 use Rattle.wi_rules.proofs.Lists.{in_contains}
-use Rattle.wi_rules.proofs.Samples.{label, s10, ip1, base, shared, same_link_twice, undefined_first, balanced, any, setup, along, along_is}
+use Rattle.wi_rules.proofs.Samples.{label, s10, ip1, base, shared, same_link_twice, undefined_first, balanced, any, encoding, along, along_is}
 
 -- The automata have 3, 2 and 3 states, and there are five links and five members: 2, 2 + 3, 2 + 3 + 3 and 2 + 3 + 3 + 10 are
 -- the first numbers of the four blocks of spots, and 2 + 3 + 3 + 10 + 70 is past the last.
@@ -67,8 +67,8 @@ reads_no_other : (rules_at_number along 5 0 ≡ []) × (rules_at_number along 5 
 reads_no_other = (refl, refl, refl)
 
 -- a path of any links
-abbrev free : Net → ℕ → Setup
-free net k = setup net (at_most k) any
+abbrev free : Net → ℕ → Encoding
+free net k = encoding net (at_most k) any
 
 -- There are three labels, and so no rule for symbol 4: not where a packet would set out, not on a link, not where a header is
 -- read, though the automata go on by any number.
@@ -79,7 +79,7 @@ past_labels = (refl, refl, refl)
 sets_out_anywhere : rules_at_number (free base 0) 2 3 ≡ rule 9 (One 3) (SetOut (l 0)) ∷ rule 11 (One 3) (SetOut (l 1)) ∷ rule 13 (One 3) (SetOut (l 2)) ∷ rule 15 (One 3) (SetOut (l 3)) ∷ rule 17 (One 3) (SetOut (l 4)) ∷ []
 sets_out_anywhere = refl
 
-sets_out_but_down : rules_at_number (setup base (bounds 0 (l 1 ∷ l 3 ∷ []) []) any) 2 3 ≡ rule 9 (One 3) (SetOut (l 0)) ∷ rule 13 (One 3) (SetOut (l 2)) ∷ rule 17 (One 3) (SetOut (l 4)) ∷ []
+sets_out_but_down : rules_at_number (encoding base (bounds 0 (l 1 ∷ l 3 ∷ []) []) any) 2 3 ≡ rule 9 (One 3) (SetOut (l 0)) ∷ rule 13 (One 3) (SetOut (l 2)) ∷ rule 17 (One 3) (SetOut (l 4)) ∷ []
 sets_out_but_down = refl
 
 -- On the link from x with ip1 on top the packet hops to b; where one link may fail it may hop to c too, and has then 30 to push.
@@ -93,10 +93,10 @@ pushes_more : (spot_of (layout_of (free base 1)) 33 ≡ Some (Mid 1 1 1)) × (ru
 pushes_more = (refl, refl, refl)
 
 -- Known to be down, the link to b isn't counted and isn't taken; known to be up, it can't have failed.
-hops_by_c : rules_at_number (setup base (bounds 0 (l 1 ∷ []) []) any) 9 3 ≡ rule 33 (Two 2 3) (Hop (step 1 0)) ∷ rule 5 (One 3) Nothing ∷ []
+hops_by_c : rules_at_number (encoding base (bounds 0 (l 1 ∷ []) []) any) 9 3 ≡ rule 33 (Two 2 3) (Hop (step 1 0)) ∷ rule 5 (One 3) Nothing ∷ []
 hops_by_c = refl
 
-hops_by_b : rules_at_number (setup base (bounds 1 [] (l 1 ∷ [])) any) 9 3 ≡ rule 11 (Two 2 3) (Hop (step 0 0)) ∷ rule 5 (One 3) Nothing ∷ []
+hops_by_b : rules_at_number (encoding base (bounds 1 [] (l 1 ∷ [])) any) 9 3 ≡ rule 11 (Two 2 3) (Hop (step 0 0)) ∷ rule 5 (One 3) Nothing ∷ []
 hops_by_b = refl
 
 -- With the links to b and to c in one risk group the second choice has its own link before it, and so it has where both
@@ -116,7 +116,7 @@ hops_within : rules_at_number (free balanced 0) 9 3 ≡ rule 11 (Two 2 3) (Hop (
 hops_within = refl
 
 -- A first link and a hop add to a term, and the rules between add nothing.
-abbrev weighed : Setup
+abbrev weighed : Encoding
 weighed = record (free base 1) { terms = 1; first_share = λ e. (7 + e.0) ∷ []; step_share = λ e t step. (20 + step.group) ∷ [] }
 
 weighs : rules_at_number weighed 9 3 ≡ record (rule 11 (Two 2 3) (Hop (step 0 0))) { weight = 20 ∷ 1 ∷ [] } ∷ record (rule 33 (Two 2 3) (Hop (step 1 0))) { weight = 21 ∷ 1 ∷ [] } ∷ record (rule 5 (One 3) Nothing) { weight = 0 ∷ 1 ∷ [] } ∷ []
@@ -166,7 +166,7 @@ eight_weight = refl
 abbrev stays : Run
 stays = record { first = l 1; header = s10 ∷ ip1 ∷ []; steps = [] }
 
-eight_told : told eight ≡ told_of stays
+eight_told : origins_of eight ≡ origins_for stays
 eight_told = refl
 
 stays_is : IsMatch along (8 ∷ []) stays

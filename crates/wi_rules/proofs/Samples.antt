@@ -12,7 +12,7 @@ use Rattle.wi_net.specs.declared.bounds.Bounds.{Bounds}
 use Rattle.wi_net.specs.Net.{Net}
 use Rattle.wi_net.specs.Network.{IsNetwork}
 use Rattle.wi_world.proofs.Samples.{l, member, only, row, five_links, push, swap, at_most}
-use Rattle.wi_rules.specs.Rules.{Automaton, Setup, IsAutomaton, IsTurned, IsSetup}
+use Rattle.wi_rules.specs.Rules.{Automaton, Encoding, IsAutomaton, IsTurned, IsEncoding}
 use Rattle.wi_rules.proofs.Lists.{In, contains_in, in_contains}
 
 abbrev pub label : ℕ → Label
@@ -175,8 +175,8 @@ abbrev pub any : Automaton
 any = record { states = 2; next = any_next; accepts = is_one }
 
 -- s10 ip1 at first, such a path, and the like header at last; there is no term
-abbrev pub setup : Net → Bounds → Automaton → Setup
-setup net bounds path = record {
+abbrev pub encoding : Net → Bounds → Automaton → Encoding
+encoding net bounds path = record {
   net = net;
   bounds = bounds;
   first = two_labels;
@@ -189,11 +189,11 @@ setup net bounds path = record {
 }
 
 -- the link from a to b again and again, where nothing fails
-abbrev pub along : Setup
-along = setup base (at_most 0) again
+abbrev pub along : Encoding
+along = encoding base (at_most 0) again
 
 -- all that the laws ask for can be had
-pub along_is : IsSetup along
+pub along_is : IsEncoding along
 along_is = record {
   net = base_network;
   bounds = record { down = refl; up = refl; apart = refl };

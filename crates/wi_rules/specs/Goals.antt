@@ -7,7 +7,7 @@ use Rattle.wi_weight.specs.Weights.{plus}
 use Rattle.wi_pds.specs.Runs.{symbols}
 use Rattle.wi_world.specs.declared.run.Step.{Step}
 use Rattle.wi_world.specs.declared.run.Run.{Run}
-use Rattle.wi_world.specs.Moves.{Place, moved}
+use Rattle.wi_world.specs.Moves.{Location, moved}
 use Rattle.wi_world.specs.Moving.{IsMovingRun}
 use Rattle.wi_world.specs.Runs.{effort_of}
 use Rattle.wi_world.specs.Holds.{Question, Matches}
@@ -15,35 +15,35 @@ use Rattle.wi_rules.specs.declared.spot.Origin.{Origin}
 use Rattle.wi_rules.specs.declared.spot.Origin.TheVariants.{Pushed, SetOut, Hop, Operation, Nothing}
 use Rattle.wi_rules.specs.declared.spot.Spot.{Spot}
 use Rattle.wi_rules.specs.declared.spot.Spot.TheVariants.{Start, Done}
-use Rattle.wi_rules.specs.Rules.{Automaton, Setup, SpotRule, zeros, rules_of}
+use Rattle.wi_rules.specs.Rules.{Automaton, Encoding, SpotRule, zeros, rules_of}
 
 -- rules, one after the other, each at the top of the stack, lead from a spot and a stack to another
-abbrev pub Rewrites : Setup → Spot → List ℕ → List SpotRule → Spot → List ℕ → Type 0
+abbrev pub Rewrites : Encoding → Spot → List ℕ → List SpotRule → Spot → List ℕ → Type 0
 Rewrites s p t [] q u = (p ≡ q) × (t ≡ u)
 Rewrites s p [] (r ∷ rs) q u = ⊥
 Rewrites s p (g ∷ t) (r ∷ rs) q u = Contains (rules_of s p g) r × Rewrites s r.to (symbols r.word ++ t) rs q u
 
 -- what rules weigh: what they add to each term, and last how many they are
-abbrev pub rules_weight : Setup → List SpotRule → List ℕ
+abbrev pub rules_weight : Encoding → List SpotRule → List ℕ
 rules_weight s [] = zeros s ++ 0 ∷ []
 rules_weight s (r ∷ rs) = plus (r.share ++ 1 ∷ []) (rules_weight s rs)
 
 -- what rules tell of a run, in their order: a hop tells of all its operations
-abbrev pub telling : Origin → List Origin
-telling Nothing = []
-telling (Operation m i) = []
-telling o = o ∷ []
+abbrev pub main_origin : Origin → List Origin
+main_origin Nothing = []
+main_origin (Operation m i) = []
+main_origin o = o ∷ []
 
-abbrev pub told : List SpotRule → List Origin
-told [] = []
-told (r ∷ rs) = telling r.origin ++ told rs
+abbrev pub origins_of : List SpotRule → List Origin
+origins_of [] = []
+origins_of (r ∷ rs) = main_origin r.origin ++ origins_of rs
 
 -- these rules are a run from the start, with the bottom alone, to the end with the empty stack
-abbrev pub IsGoalRun : Setup → List SpotRule → Type 0
+abbrev pub IsGoalRun : Encoding → List SpotRule → Type 0
 IsGoalRun s rs = Rewrites s Start (0 ∷ []) rs Done []
 
 -- there is one of this weight
-abbrev pub HasGoalRun : Setup → List ℕ → Type 0
+abbrev pub HasGoalRun : Encoding → List ℕ → Type 0
 HasGoalRun s w = (rs : List SpotRule) × IsGoalRun s rs × (rules_weight s rs ≡ w)
 
 -- an automaton goes from one state to another by a word
@@ -55,20 +55,20 @@ abbrev pub Accepts : Automaton → List ℕ → Type 0
 Accepts a xs = (q : ℕ) × Walks a 0 xs q × (a.accepts q ≡ true)
 
 -- what the automata ask for
-abbrev pub question_of : Setup → Question
+abbrev pub question_of : Encoding → Question
 question_of s = record { first = Accepts s.first; path = Accepts s.path; last = Accepts s.last; bounds = s.bounds }
 
 -- what the steps add to each term
-abbrev pub share_at : Setup → Place → Step → List ℕ
+abbrev pub share_at : Encoding → Location → Step → List ℕ
 share_at s (e, []) step = zeros s
 share_at s (e, top ∷ below) step = s.step_share e top.0 step
 
-abbrev pub shares : Setup → Place → List Step → List ℕ
+abbrev pub shares : Encoding → Location → List Step → List ℕ
 shares s at [] = zeros s
 shares s at (step ∷ steps) = option_map_or (λ next. plus (share_at s at step) (shares s next steps)) (moved s.net at step) (zeros s)
 
 -- what a run weighs: what its first link and its steps add to each term, and last its effort
-abbrev pub weight_of : Setup → Run → List ℕ
+abbrev pub weight_of : Encoding → Run → List ℕ
 weight_of s run = plus (s.first_share run.first) (shares s (run.first, run.header) run.steps) ++ effort_of s.net run ∷ []
 
 -- what the rules of a run tell: the labels of its first header from the bottom, its first link, its steps
@@ -78,11 +78,11 @@ pushes_of header = map (λ (l : Entry). Pushed l.0) (reverse header)
 abbrev pub hops_of : List Step → List Origin
 hops_of steps = map (λ step. Hop step) steps
 
-abbrev pub told_of : Run → List Origin
-told_of run = pushes_of run.header ++ SetOut run.first ∷ hops_of run.steps
+abbrev pub origins_for : Run → List Origin
+origins_for run = pushes_of run.header ++ SetOut run.first ∷ hops_of run.steps
 
 -- a moving run of what the automata ask for, of this weight
-pub record IsMatch (s : Setup) (w : List ℕ) (run : Run) : Type 0 where
+pub record IsMatch (s : Encoding) (w : List ℕ) (run : Run) : Type 0 where
   pub moving : IsMovingRun s.net s.bounds run
   pub matches : Matches s.net (question_of s) run
   pub weight : weight_of s run ≡ w

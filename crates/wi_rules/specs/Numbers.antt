@@ -2,13 +2,14 @@
 use Rattle.std.specs.Prelude.{◌≡◌, ℕ, zero, suc, ◌+◌, ◌-◌, ◌*◌, ◌/◌, ◌%◌, ◌<◌, nat_lt, if◌then◌else◌, List, [], ◌∷◌, ◌++◌, length, map, Option, Some, None}
 use Rattle.std.specs.Option.{option_map_or}
 use Rattle.wi_net.specs.Tables.{row_members}
+use Rattle.wi_weight.specs.Weights.{Scale}
 use Rattle.wi_pds.specs.declared.rule.Word2.{Word2}
 use Rattle.wi_pds.specs.declared.rule.Rule.{Rule}
 use Rattle.wi_rules.specs.declared.spot.Origin.{Origin}
 use Rattle.wi_rules.specs.declared.spot.Spot.{Spot}
 use Rattle.wi_rules.specs.declared.spot.Spot.TheVariants.{Start, Done, Build, Close, OnLink, Mid}
-use Rattle.wi_rules.specs.Rules.{Setup, SpotRule, rules_of}
-use Rattle.wi_rules.specs.Goals.{telling}
+use Rattle.wi_rules.specs.Rules.{Encoding, IsEncoding, SpotRule, rules_of}
+use Rattle.wi_rules.specs.Goals.{main_origin}
 
 -- how many states the automata of the first header, of the last header and of the links have, and how many links and members
 -- there are
@@ -19,7 +20,7 @@ pub record Layout : Type 0 where
   pub links : ℕ
   pub members : ℕ
 
-abbrev pub layout_of : Setup → Layout
+abbrev pub layout_of : Encoding → Layout
 layout_of s = record {
   first = s.first.states;
   last = s.last.states;
@@ -73,11 +74,11 @@ pub record NumberedRule : Type 0 where
   pub origin : Origin
 
 -- each rule has effort 1
-abbrev pub numbered : Setup → SpotRule → NumberedRule
+abbrev pub numbered : Encoding → SpotRule → NumberedRule
 numbered s r = record { to = number (layout_of s) r.to; word = r.word; weight = r.share ++ 1 ∷ []; origin = r.origin }
 
 -- the rules of a head, both its parts numbers; there are none where the number is of no spot
-abbrev pub rules_at_number : Setup → ℕ → ℕ → List NumberedRule
+abbrev pub rules_at_number : Encoding → ℕ → ℕ → List NumberedRule
 rules_at_number s n g = option_map_or (λ p. map (λ r. numbered s r) (rules_of s p g)) (spot_of (layout_of s) n) []
 
 -- what is seen of a rule, by what its weight's components are and what it is said to stand for
@@ -85,10 +86,16 @@ abbrev pub seen : {W : Type 0} → (W → List ℕ) → (Rule W → Origin) → 
 seen c o r = record { to = r.to; word = r.word; weight = c r.weight; origin = o r }
 
 -- the rules of a pushdown system are those of a network and a query, in their order
-pub record AreRulesOf {W : Type 0} (s : Setup) (c : W → List ℕ) (o : Rule W → Origin) (rules : ℕ → ℕ → List (Rule W)) : Type 0 where
+pub record AreRulesOf {W : Type 0} (s : Encoding) (c : W → List ℕ) (o : Rule W → Origin) (rules : ℕ → ℕ → List (Rule W)) : Type 0 where
   pub each : (n g : ℕ) → map (λ (r : Rule W). seen c o r) (rules n g) ≡ rules_at_number s n g
 
+-- the rules of a pushdown system are an encoding's, and their weights have its terms and the effort
+pub record IsSystemOf {W : Type 0} (s : Encoding) (m : Scale) (c : W → List ℕ) (o : Rule W → Origin) (rules : ℕ → ℕ → List (Rule W)) : Type 0 where
+  pub encoding : IsEncoding s
+  pub rules_are : AreRulesOf s c o rules
+  pub arity : m.arity ≡ s.terms + 1
+
 -- what rules tell of a run, in their order
-abbrev pub told_by : {W : Type 0} → (Rule W → Origin) → List (Rule W) → List Origin
-told_by o [] = []
-told_by o (r ∷ rs) = telling (o r) ++ told_by o rs
+abbrev pub origins_by : {W : Type 0} → (Rule W → Origin) → List (Rule W) → List Origin
+origins_by o [] = []
+origins_by o (r ∷ rs) = main_origin (o r) ++ origins_by o rs

@@ -12,12 +12,12 @@ use Rattle.wi_labels.specs.Header.{allowed, same_class}
 use Rattle.wi_net.specs.declared.parts.LinkId.{LinkId}
 use Rattle.wi_net.specs.declared.parts.Member.{Member}
 use Rattle.wi_net.specs.declared.bounds.Bounds.{Bounds}
-use Rattle.wi_net.specs.LinkSet.{has, is_apart, outside}
+use Rattle.wi_net.specs.LinkSet.{has}
 use Rattle.wi_net.specs.Tables.{all_members, group_members, members_before}
-use Rattle.wi_net.specs.Net.{Net, entry, before, risk_count, links_where}
+use Rattle.wi_net.specs.Net.{Net, entry, before, links_where}
 use Rattle.wi_net.specs.Network.{IsNetwork}
 use Rattle.wi_world.specs.declared.run.Step.{Step}
-use Rattle.wi_world.specs.Moves.{AreBounds}
+use Rattle.wi_world.specs.Moves.{AreBounds, may_be_down, may_be_up}
 use Rattle.wi_pds.specs.declared.rule.Word2.{Word2}
 use Rattle.wi_pds.specs.declared.rule.Word2.TheVariants.{Empty, One, Two}
 use Rattle.wi_rules.specs.declared.spot.Origin.{Origin}
@@ -35,7 +35,7 @@ pub record Automaton : Type 0 where
 -- what the rules are made of: a network, what may fail in it, the automata of the first header, of the links and of the last
 -- header, the states that come before one of the first automaton by a symbol, and what a first link and a step add to each
 -- of so many terms
-pub record Setup : Type 0 where
+pub record Encoding : Type 0 where
   pub net : Net
   pub bounds : Bounds
   pub first : Automaton
@@ -54,19 +54,19 @@ pub record SpotRule : Type 0 where
   pub share : List ℕ
   pub origin : Origin
 
-abbrev pub zeros : Setup → List ℕ
+abbrev pub zeros : Encoding → List ℕ
 zeros s = replicate s.terms 0
 
 -- a rule that adds nothing to any term, and stands for nothing
-abbrev pub plain : Setup → Spot → Word2 → SpotRule
+abbrev pub plain : Encoding → Spot → Word2 → SpotRule
 plain s to word = record { to = to; word = word; share = zeros s; origin = Nothing }
 
 -- a rule that does a further operation of a member
-abbrev pub working : Setup → ℕ → ℕ → Spot → Word2 → SpotRule
+abbrev pub working : Encoding → ℕ → ℕ → Spot → Word2 → SpotRule
 working s m i to word = record { to = to; word = word; share = zeros s; origin = Operation m i }
 
 -- a rule that pushes a label of the first header on a symbol
-abbrev pub pushing : Setup → ℕ → ℕ → ℕ → SpotRule
+abbrev pub pushing : Encoding → ℕ → ℕ → ℕ → SpotRule
 pushing s l g q = record { to = Build q; word = Two (suc l) g; share = zeros s; origin = Pushed (record { 0 = l }) }
 
 -- what a list has for each element, given with its place, which is counted from i on
@@ -103,13 +103,10 @@ on_way member m i q = if nat_lt i (length member.ops) then Mid m i q else OnLink
 
 -- what the groups before a group need may be down, and the member's link up
 abbrev pub may_use : Net → Bounds → List (List Member) → ℕ → LinkId → Bool
-may_use net bounds groups j e =
-    nat_le (risk_count net (outside (before net groups j) bounds.down)) bounds.k
-    && is_apart (before net groups j) bounds.up
-    && (not (has (before net groups j) e) && not (has bounds.down e))
+may_use net bounds groups j e = may_be_down net bounds (before net groups j) && may_be_up bounds (before net groups j) e
 
 -- the rules for one member of an entry: one for each state that comes after by its link
-abbrev pub hop_rules : Setup → LinkId → ℕ → Label → Step → Member → List SpotRule
+abbrev pub hop_rules : Encoding → LinkId → ℕ → Label → Step → Member → List SpotRule
 hop_rules s e q l step member =
     if may_use s.net s.bounds (entry s.net e l) step.group member.link
     then option_map_or (λ word. map (λ r. record {
@@ -121,12 +118,12 @@ hop_rules s e q l step member =
     else []
 
 -- those of each group and each of its members
-abbrev pub entry_rules : Setup → LinkId → ℕ → Label → List SpotRule
+abbrev pub entry_rules : Encoding → LinkId → ℕ → Label → List SpotRule
 entry_rules s e q l =
     each_at (λ j group. each_at (λ i member. hop_rules s e q l (record { group = j; member = i }) member) 0 group) 0 (entry s.net e l)
 
 -- the rule for a member's next operation
-abbrev pub next_op_rules : Setup → ℕ → ℕ → ℕ → ℕ → Member → List SpotRule
+abbrev pub next_op_rules : Encoding → ℕ → ℕ → ℕ → ℕ → Member → List SpotRule
 next_op_rules s m i q n member =
     option_map_or (λ op. option_map_or (λ word. working s m i (on_way member m (suc i) q) word ∷ []) (written s.net op n) []) (slice_get member.ops i) []
 
@@ -136,20 +133,20 @@ may_build net l zero = option_map_or (λ class. same_class class Ip) (slice_get 
 may_build net l (suc n) = option_map_or (λ class. option_map_or (λ top. allowed (Push (record { 0 = l }) class) top) (slice_get net.classes n) false) (slice_get net.classes l) false
 
 -- the rules that push a label: one for each state that comes before by it
-abbrev pub build_rules : Setup → ℕ → ℕ → ℕ → List SpotRule
+abbrev pub build_rules : Encoding → ℕ → ℕ → ℕ → List SpotRule
 build_rules s q g l = if may_build s.net l g then map (λ r. pushing s l g r) (s.first_before q l) else []
 
 -- the rules for a first link: one for each state that comes after the start by it
-abbrev pub set_out_rules : Setup → ℕ → LinkId → List SpotRule
+abbrev pub set_out_rules : Encoding → ℕ → LinkId → List SpotRule
 set_out_rules s n e = map (λ q. record { to = OnLink e q; word = One (suc n); share = s.first_share e; origin = SetOut e }) (s.path.next 0 e.0)
 
 -- the rules on a link: those of the entry, and last, in an accepting state, one to where the header is read
-abbrev pub on_link_rules : Setup → LinkId → ℕ → ℕ → List SpotRule
+abbrev pub on_link_rules : Encoding → LinkId → ℕ → ℕ → List SpotRule
 on_link_rules s e q n =
     entry_rules s e q (record { 0 = n }) ++ (if s.path.accepts q then plain s (Close 0) (One (suc n)) ∷ [] else [])
 
 -- the rules of a head, in order; there are none where the symbol is no label of the network and not the bottom
-abbrev pub rules_of : Setup → Spot → ℕ → List SpotRule
+abbrev pub rules_of : Encoding → Spot → ℕ → List SpotRule
 rules_of s Start zero = map (λ q. plain s (Build q) (One 0)) (filter (λ q. s.first.accepts q) (range_with_len 0 s.first.states))
 rules_of s (Build (suc q)) g = flat_map (build_rules s (suc q) g) (range_with_len 0 (length s.net.classes))
 rules_of s (Build zero) (suc n) =
@@ -173,7 +170,7 @@ pub record IsTurned (a : Automaton) (back : ℕ → ℕ → List ℕ) : Type 0 w
   pub start : (q x : ℕ) → Contains (a.next q x) 0 → ⊥
 
 -- the network and the bounds are such, the automata are such, and each share has its terms
-pub record IsSetup (s : Setup) : Type 0 where
+pub record IsEncoding (s : Encoding) : Type 0 where
   pub net : IsNetwork s.net
   pub bounds : AreBounds s.net s.bounds
   pub first : IsAutomaton s.first

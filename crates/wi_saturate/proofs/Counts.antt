@@ -203,10 +203,10 @@ no_one_ways r to Empty none = refl
 no_one_ways r to (One u) none = no_rows_elsewhere to u r (none u refl)
 no_one_ways r to (Two u v) none = refl
 
-pub one_elsewhere : {W : Type 0} (c : W → List ℕ) (heads : List (ℕ × ℕ)) (index : Index W) → IsIndexed c heads index → (r : Row W) (place : ℕ) → slice_get heads place ≡ Some (r.p, r.g)
+pub one_elsewhere : {W : Type 0} (c : W → List ℕ) (index : Index W) → IsIndexed c index → (r : Row W) (place : ℕ) → slice_get index.rules.heads place ≡ Some (r.p, r.g)
     → (k : ℕ) (f : Ruled W) → slice_get index.rules.items k ≡ Some f → (slice_get index.begins.places k ≡ Some place → ⊥) → one_ways r f.rule.to f.rule.word ≡ 0
-one_elsewhere c heads index indexed r place head k f at other =
-    no_one_ways r f.rule.to f.rule.word (λ u word is. other (one_begins c heads index indexed k u place f at word (head_of heads place f.rule.to u r head is.0 is.1)))
+one_elsewhere c index indexed r place head k f at other =
+    no_one_ways r f.rule.to f.rule.word (λ u word is. other (one_begins c index indexed k u place f at word (head_of index.rules.heads place f.rule.to u r head is.0 is.1)))
 
 pub one_tries : {W : Type 0} (flat : List (Ruled W)) (k u : ℕ) (f g : Ruled W) (r : Row W) (n m : ℕ) → slice_get flat k ≡ Some f → slice_get flat k ≡ Some g → f.rule.word ≡ One u → IsFirst g.rule.to g.rule.word r → n ≡ m + 1 → n ≡ m + one_ways r g.rule.to g.rule.word
 one_tries {W} flat k u f g r n m at at' word first more =
@@ -285,10 +285,10 @@ no_begun F r to Empty none = refl
 no_begun F r to (One u) none = refl
 no_begun F r to (Two u v) none = none_counted (is_from to u r) (F r.q v) (λ h. none u v refl (from_is to u r h))
 
-pub begun_elsewhere : {W : Type 0} (F : ℕ → ℕ → ℕ) (c : W → List ℕ) (heads : List (ℕ × ℕ)) (index : Index W) → IsIndexed c heads index → (r : Row W) (place : ℕ) → slice_get heads place ≡ Some (r.p, r.g)
+pub begun_elsewhere : {W : Type 0} (F : ℕ → ℕ → ℕ) (c : W → List ℕ) (index : Index W) → IsIndexed c index → (r : Row W) (place : ℕ) → slice_get index.rules.heads place ≡ Some (r.p, r.g)
     → (k : ℕ) (f : Ruled W) → slice_get index.rules.items k ≡ Some f → (slice_get index.begins.places k ≡ Some place → ⊥) → begun F r f.rule.to f.rule.word ≡ 0
-begun_elsewhere F c heads index indexed r place head k f at other =
-    no_begun F r f.rule.to f.rule.word (λ u v word is. other (two_begins c heads index indexed k u v place f at word (head_of heads place f.rule.to u r head is.0 is.1)))
+begun_elsewhere F c index indexed r place head k f at other =
+    no_begun F r f.rule.to f.rule.word (λ u v word is. other (two_begins c index indexed k u v place f at word (head_of index.rules.heads place f.rule.to u r head is.0 is.1)))
 
 drop_front : {X : Type 0} (xs ys : List X) → drop (length xs) (xs ++ ys) ≡ ys
 drop_front [] ys = refl
@@ -322,8 +322,8 @@ module _ {W : Type 0} (heads : List (ℕ × ℕ)) (flat : List (Ruled W)) (earli
       omega (arith, front, ends, rest, begins, whole, counted, first, second, third)
 
 -- all candidates, over the rules of all heads in one list
-pub ways_are : {W : Type 0} (rules : ℕ → ℕ → List (Rule W)) (heads : List (ℕ × ℕ)) (flat : List (Ruled W)) (rows : List (Row W)) → flat ≡ ruled rules 0 heads → all_ways flat rows ≡ candidates rules heads rows
-ways_are {W} rules heads flat rows listed = ap (λ fs. all_ways fs rows) listed ∙ sum_ruled (λ (r : Rule W). ways rows r.to r.word) rules 0 heads
+pub ways_are : {W : Type 0} (rules : ℕ → ℕ → List (Rule W)) (heads listed_heads : List (ℕ × ℕ)) (flat : List (Ruled W)) (rows : List (Row W)) → listed_heads ≡ heads → flat ≡ ruled rules 0 listed_heads → all_ways flat rows ≡ candidates rules heads rows
+ways_are {W} rules heads listed_heads flat rows same listed = ap (λ fs. all_ways fs rows) (listed ∙ ap (λ hs. ruled rules 0 hs) same) ∙ sum_ruled (λ (r : Rule W). ways rows r.to r.word) rules 0 heads
 
 -- with a row more there are no fewer
 pub ways_grow : {W : Type 0} (flat : List (Ruled W)) (earlier rows : List (Row W)) (row : Row W) → rows ≡ earlier ++ row ∷ [] → all_ways flat earlier ≤ all_ways flat rows
@@ -333,9 +333,9 @@ ways_grow flat earlier rows row pushed =
     omega (arith, more, same)
 
 -- a turn keeps the tries within the candidates
-pub turn_within : {W : Type 0} (flat : List (Ruled W)) (earlier rows lent : List (Row W)) (row : Row W) (begin before after last : ℕ) → rows ≡ earlier ++ row ∷ [] → lent ≡ rows → last ≡ length earlier
-    → before ≤ begin + all_ways flat earlier → after + all_ways flat (take last lent) ≤ before + all_ways flat lent → after ≤ begin + all_ways flat rows
-turn_within flat earlier rows lent row begin before after last pushed same at so_far turn =
+pub turn_within : {W : Type 0} (flat : List (Ruled W)) (earlier rows lent : List (Row W)) (row : Row W) (begin first before after last : ℕ) → rows ≡ earlier ++ row ∷ [] → lent ≡ rows → last ≡ length earlier
+    → before + first ≤ begin + all_ways flat earlier → after + all_ways flat (take last lent) ≤ before + all_ways flat lent → after + first ≤ begin + all_ways flat rows
+turn_within flat earlier rows lent row begin first before after last pushed same at so_far turn =
     let front : all_ways flat (take last lent) ≡ all_ways flat earlier =
     ap (λ rs. all_ways flat rs) (ap (λ n. take n lent) at ∙ ap (λ rs. take (length earlier) rs) (same ∙ pushed) ∙ take-append_seam earlier (row ∷ [])) in
     let whole : all_ways flat lent ≡ all_ways flat rows = ap (λ rs. all_ways flat rs) same in
@@ -353,3 +353,10 @@ tries_now begin now ways more whole h grow same = omega arith
 
 pub at_most_itself : (n : ℕ) → n ≤ n
 at_most_itself n = omega arith
+
+-- the tries before the first turn, and those of the turns
+pub tried_in_all : (begin first now rows heap : ℕ) → heap + begin ≡ first → first + rows ≤ now + heap → begin + rows ≤ now
+tried_in_all begin first now rows heap pops turns = omega arith
+
+pub tries_in_all : (begin first now none ways whole : ℕ) → first ≡ begin + none → now + none ≤ first + ways → ways ≡ whole → now ≤ begin + whole
+tries_in_all begin first now none ways whole pops turns same = omega arith

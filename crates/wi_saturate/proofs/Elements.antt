@@ -1,6 +1,7 @@
 -- Elements of lists by their places.
 use Rattle.std.specs.Prelude.{◌≡◌, ℕ, zero, suc, ◌+◌, ◌<◌, ◌≤◌, ◌⊎◌, List, [], ◌∷◌, ◌++◌, Option, Some, None, take, length, slice_get, get_or, refl}
-use Rattle.std.specs.Prelude.{Result, OnOk}
+use Rattle.std.specs.Prelude.{Result, IfOk, OnOk}
+use Rattle.std.specs.Result.{IsErrAnd}
 use Rattle.std.specs.declared.result.Result.TheVariants.{Ok, Err}
 use Rattle.std.specs.List.{Contains}
 use Rattle.std.proofs.Common.{option_map, IsTrue, false, ◌↔◌, sym, ap, ◌∙◌, subst, inl, inr, arith}
@@ -106,3 +107,12 @@ on_ok_both (Err e) f h k = tt
 pub on_any : {T E : Type 0} {P : Type 0} (r : Result T E) → P → OnOk r P
 on_any (Ok x) h = h
 on_any (Err e) h = tt
+
+-- an error says nothing of an Ok
+pub if_err : {T E : Type 0} (Q : T → Type 0) (r : Result T E) (P : E → Type 0) → IsErrAnd r P → IfOk r Q
+if_err Q (Ok x) P h = absurd h
+if_err Q (Err e) P h = tt
+
+pub on_err : {T E : Type 0} (Q : Type 0) (r : Result T E) (P : E → Type 0) → IsErrAnd r P → OnOk r Q
+on_err Q (Ok x) P h = absurd h
+on_err Q (Err e) P h = tt

@@ -3,7 +3,6 @@ pub mod Best
 pub mod RuleRows
 pub mod Settle
 pub mod Turns
-pub mod RuleLists
 pub mod Walks
 pub mod Lookups
 pub mod Pushes

@@ -168,15 +168,15 @@ begins_within heads to (One u) place h = elim h [ inl at ↦ let less = slice_ge
 begins_within heads to (Two u v) place h = elim h [ inl at ↦ let less = slice_get_within heads place _ at in omega (arith, less) | inr past ↦ let same : place ≡ length heads = past.0 in omega arith ]
 
 -- the index is right where its rules and begins are
-pub indexes : {W : Type 0} (c : W → List ℕ) (rules : ℕ → ℕ → List (Rule W)) (heads : List (ℕ × ℕ)) (index : Index W) → AreReady c rules heads → IsStrictlySortedBy pair_cmp heads
-    → index.rules.items ≡ ruled rules 0 heads → AreBegins heads index.rules.items index.begins → IsIndex c rules heads index
-indexes c rules heads index ready rise listed begins = record {
+pub indexes : {W : Type 0} (c : W → List ℕ) (rules : ℕ → ℕ → List (Rule W)) (index : Index W) → AreReady c rules index.rules.heads → IsStrictlySortedBy pair_cmp index.rules.heads
+    → index.rules.items ≡ ruled rules 0 index.rules.heads → AreBegins index.rules.heads index.rules.items index.begins → IsIndex c rules index
+indexes c rules index ready rise listed begins = record {
   listed = listed;
   indexed = record {
     begins = begins;
-    once = once heads rise;
+    rise = rise;
     small = λ k f at.
-        let is = ruled_named rules heads k f (subst (λ z. slice_get z k ≡ Some f) listed at) in
-        ready.small is.0.0 is.0.1 f.rule (contains_from_get heads f.head is.0 is.1) (contains_from_get (rules is.0.0 is.0.1) f.at f.rule is.2);
+        let is = ruled_named rules index.rules.heads k f (subst (λ z. slice_get z k ≡ Some f) listed at) in
+        ready.small is.0.0 is.0.1 f.rule (contains_from_get index.rules.heads f.head is.0 is.1) (contains_from_get (rules is.0.0 is.0.1) f.at f.rule is.2);
   };
 }

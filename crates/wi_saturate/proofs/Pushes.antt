@@ -17,7 +17,10 @@ use Rattle.wi_saturate.specs.declared.waits.Waits.{Waits}
 use Rattle.wi_saturate.specs.Chains.{ChainsView}
 use Rattle.wi_saturate.specs.Candidates.{AllFit}
 use Rattle.wi_saturate.specs.Indexes.{IsPlace, BeginsAt, IsIndexed}
+use Rattle.wi_saturate.specs.declared.turn.Turn.{Turn}
 use Rattle.wi_saturate.specs.Searches.{ArePair, IsSum, IsSound, Has, Adds, IsFirst, IsOne, IsTwo, HasOne, HasTwo, AreWaits, AreRowPlaces}
+use Rattle.wi_saturate.specs.Turns.{heads_of, rules_of, rows_of, IsTurn, IsFirstOf, ArePushed}
+use Rattle.wi_saturate.proofs.Lookups.{once}
 use Rattle.wi_saturate.proofs.Elements.{same_some, get_from_contains, contains_from_get, read_there, got_there, some_there}
 
 pub contains_there : {X : Type 0} (xs : List X) (t x : X) → Contains xs x → Contains (t ∷ xs) x
@@ -120,6 +123,20 @@ module _ {W : Type 0} (c : W → List ℕ) (flat : List (Ruled W)) (rows : List 
       two_added k i f (get_or rows i d) (read_there flat k f two.0 two.5 is) (got_there rows i d two.1 two.7) j (get_or rows j e) (got_there rows j e two.2 two.8) old new x
       (sum ∙ ap (λ w. plus w (c (get_or rows j e).weight)) half) two moved
 
+-- nothing was pushed, or something and then more
+module _ {W : Type 0} (c : W → List ℕ) (turn : Turn W) where
+  pub pushed_none : (heap : List (Candidate W)) (n : ℕ) → ArePushed c turn heap heap n n
+  pushed_none heap n = record { adds = adds_none c (rules_of turn) (rows_of turn) heap; lengths = refl }
+
+  pub pushed_both : (a b d : List (Candidate W)) (l m n : ℕ) → ArePushed c turn a b l m → ArePushed c turn b d m n → ArePushed c turn a d l n
+  pushed_both a b d l m n first second = record {
+    adds = adds_both c (rules_of turn) (rows_of turn) a b d first.adds second.adds;
+    lengths = let h : length b + l ≡ length a + m = first.lengths in let k : length d + m ≡ length b + n = second.lengths in omega arith;
+  }
+
+  pub pushed_one : (a b : List (Candidate W)) (l m : ℕ) → Adds c (rules_of turn) (rows_of turn) a b → length b ≡ length a + 1 → m ≡ l + 1 → ArePushed c turn a b l m
+  pushed_one a b l m adds longer more = record { adds = adds; lengths = omega arith }
+
 -- the sums can be made
 module _ {W : Type 0} (c : W → List ℕ) (flat : List (Ruled W)) (rows : List (Row W)) (small : (k : ℕ) (f : Ruled W) → slice_get flat k ≡ Some f → EachBelow (2 ^ 64) (c f.rule.weight)) (fit : AllFit c rows) where
   pub rule_fits : (k : ℕ) (f g : Ruled W) → slice_get flat k ≡ Some g → f ≡ get_or flat k f → EachBelow (2 ^ 120) (c f.rule.weight)
@@ -146,15 +163,13 @@ first_at heads to Empty place r at h = tt
 first_at heads to (One u) place r at h = same_head heads to u place r at h
 first_at heads to (Two u v) place r at h = same_head heads to u place r at h
 
--- the place of a row's head is one of the heads
-pub place_within : {W : Type 0} (heads : List (ℕ × ℕ)) (rows : List (Row W)) (last place : ℕ) → last < length rows → ((r : Row W) → slice_get rows last ≡ Some r → slice_get heads place ≡ Some (r.p, r.g)) → place < length heads
-place_within heads rows last place within head = let r = some_there rows last within in slice_get_within heads place _ (head r.0 r.1)
+-- the last row's place is that of a head
+pub place_within : {W : Type 0} (c : W → List ℕ) (turn : Turn W) → IsTurn c turn → turn.place < length (heads_of turn)
+place_within c turn is = let r = some_there (rows_of turn) turn.last is.within in slice_get_within (heads_of turn) turn.place _ (is.head r.0 r.1)
 
--- a row at `last`, of the head at the place, can go into the rules that begin at the place
-pub first_there : {W : Type 0} (c : W → List ℕ) (heads : List (ℕ × ℕ)) (index : Index W) → IsIndexed c heads index → (rows : List (Row W)) (last place k : ℕ)
-    → ((r : Row W) → slice_get rows last ≡ Some r → slice_get heads place ≡ Some (r.p, r.g)) → slice_get index.begins.places k ≡ Some place
-    → (f : Ruled W) (r : Row W) → slice_get index.rules.items k ≡ Some f → slice_get rows last ≡ Some r → IsFirst f.rule.to f.rule.word r
-first_there c heads index indexed rows last place k head begins f r at row = first_at heads f.rule.to f.rule.word place r (head r row) (indexed.begins.each k place f at begins)
+-- the last row can go into the rules that begin at its head's place
+pub first_of : {W : Type 0} (c : W → List ℕ) (turn : Turn W) → IsTurn c turn → (k : ℕ) → slice_get turn.index.now.begins.places k ≡ Some turn.place → IsFirstOf turn k
+first_of c turn is k begins f r at row = first_at (heads_of turn) f.rule.to f.rule.word turn.place r (is.head r row) (is.index.begins.each k turn.place f at begins)
 
 pub one_first : {W : Type 0} (flat : List (Ruled W)) (rows : List (Row W)) (k i u : ℕ) (f : Ruled W) → k < length flat → i < length rows → f ≡ get_or flat k f
     → ((f : Ruled W) (r : Row W) → slice_get flat k ≡ Some f → slice_get rows i ≡ Some r → IsFirst f.rule.to f.rule.word r) → f.rule.word ≡ One u → IsOne flat rows k i
@@ -171,29 +186,32 @@ no_one c flat rows heap k i f within is none u g r at word row p q =
     let same : f ≡ g = same_some (sym (slice_get_read flat (length flat) k f refl within is) ∙ at) in
     absurd (none u (ap (λ (z : Ruled _). z.rule.word) same ∙ word))
 
-module _ {W : Type 0} (c : W → List ℕ) (heads : List (ℕ × ℕ)) (index : Index W) (indexed : IsIndexed c heads index) where
-  at_place : (k to u place : ℕ) → slice_get heads place ≡ Some (to, u) → (is : ℕ) → slice_get index.begins.places k ≡ Some is → IsPlace heads to u is → slice_get index.begins.places k ≡ Some place
+module _ {W : Type 0} (c : W → List ℕ) (index : Index W) (indexed : IsIndexed c index) where
+  abbrev all_heads : List (ℕ × ℕ)
+  all_heads = index.rules.heads
+
+  at_place : (k to u place : ℕ) → slice_get all_heads place ≡ Some (to, u) → (is : ℕ) → slice_get index.begins.places k ≡ Some is → IsPlace all_heads to u is → slice_get index.begins.places k ≡ Some place
   at_place k to u place at is begins h = elim h [
-    | inl here ↦ subst (λ n. slice_get index.begins.places k ≡ Some n) (indexed.once is place to u here at) begins
-    | inr past ↦ absurd (past.1 (contains_from_get heads place (to, u) at))
+    | inl here ↦ subst (λ n. slice_get index.begins.places k ≡ Some n) (once all_heads indexed.rise is place to u here at) begins
+    | inr past ↦ absurd (past.1 (contains_from_get all_heads place (to, u) at))
   ]
 
-  begin_place : (k : ℕ) (f : Ruled W) → slice_get index.rules.items k ≡ Some f → (is : ℕ) × (slice_get index.begins.places k ≡ Some is) × BeginsAt heads f.rule.to f.rule.word is
+  begin_place : (k : ℕ) (f : Ruled W) → slice_get index.rules.items k ≡ Some f → (is : ℕ) × (slice_get index.begins.places k ≡ Some is) × BeginsAt all_heads f.rule.to f.rule.word is
   begin_place k f at =
       let within : k < length index.rules.items = slice_get_within index.rules.items k f at in
       let place = some_there index.begins.places k (omega (arith, indexed.begins.count)) in
       (place.0, place.1, indexed.begins.each k place.0 f at place.1)
 
   -- a rule whose first symbol is that of a listed head stands at that head's place
-  pub one_begins : (k u place : ℕ) (f : Ruled W) → slice_get index.rules.items k ≡ Some f → f.rule.word ≡ One u → slice_get heads place ≡ Some (f.rule.to, u) → slice_get index.begins.places k ≡ Some place
+  pub one_begins : (k u place : ℕ) (f : Ruled W) → slice_get index.rules.items k ≡ Some f → f.rule.word ≡ One u → slice_get all_heads place ≡ Some (f.rule.to, u) → slice_get index.begins.places k ≡ Some place
   one_begins k u place f at word head =
       let is = begin_place k f at in
-      at_place k f.rule.to u place head is.0 is.1 (subst (λ w. BeginsAt heads f.rule.to w is.0) word is.2)
+      at_place k f.rule.to u place head is.0 is.1 (subst (λ w. BeginsAt all_heads f.rule.to w is.0) word is.2)
 
-  pub two_begins : (k u v place : ℕ) (f : Ruled W) → slice_get index.rules.items k ≡ Some f → f.rule.word ≡ Two u v → slice_get heads place ≡ Some (f.rule.to, u) → slice_get index.begins.places k ≡ Some place
+  pub two_begins : (k u v place : ℕ) (f : Ruled W) → slice_get index.rules.items k ≡ Some f → f.rule.word ≡ Two u v → slice_get all_heads place ≡ Some (f.rule.to, u) → slice_get index.begins.places k ≡ Some place
   two_begins k u v place f at word head =
       let is = begin_place k f at in
-      at_place k f.rule.to u place head is.0 is.1 (subst (λ w. BeginsAt heads f.rule.to w is.0) word is.2)
+      at_place k f.rule.to u place head is.0 is.1 (subst (λ w. BeginsAt all_heads f.rule.to w is.0) word is.2)
 
 -- the head of a row is the one that a rule leads to
 pub head_of : {W : Type 0} (heads : List (ℕ × ℕ)) (place to u : ℕ) (r : Row W) → slice_get heads place ≡ Some (r.p, r.g) → r.p ≡ to → r.g ≡ u → slice_get heads place ≡ Some (to, u)

@@ -9,6 +9,8 @@ use Rattle.wi_weight.specs.Weights.{Scale, WeightLaws, IsWeight, AtMost, plus}
 use Rattle.wi_pds.specs.declared.rule.Word2.{Word2}
 use Rattle.wi_pds.specs.declared.rule.Word2.TheVariants.{Empty, One, Two}
 use Rattle.wi_pds.specs.declared.rule.Rule.{Rule}
+use Rattle.std.specs.List.Sorted.{IsStrictlySortedBy}
+use Rattle.wi_pds.specs.Pairs.{pair_cmp}
 use Rattle.wi_pds.specs.Runs.{symbols}
 use Rattle.wi_pds.specs.Closed.{Chain}
 use Rattle.wi_saturate.specs.declared.row.Row.{Row}
@@ -22,13 +24,13 @@ use Rattle.wi_saturate.specs.Chains.{ChainsView}
 use Rattle.wi_saturate.specs.Rows.{summaries, Settled}
 use Rattle.wi_saturate.specs.Candidates.{BestAtMost, IsBeaten, IsOpen, IsCandidate, IsSeen}
 use Rattle.wi_saturate.specs.Indexes.{IsIndex}
-use Rattle.wi_saturate.specs.Searches.{ArePair, IsSum, Has, Adds, HasOne, HasTwo, HasPops, IsKept, IsKeptRule, AreRowPlaces, AreWaits, HasWait, EndsIn, IsRowOf, IsSearch}
+use Rattle.wi_saturate.specs.Searches.{ArePair, IsSum, Has, Adds, HasOne, HasTwo, HasPops, IsKept, IsKeptRule, AreRowPlaces, AreWaits, HasWait, EndsIn, EndsThere, IsRowOf, IsSearch}
 use Rattle.std.specs.List.{sum_by}
 use Rattle.std.proofs.lemmas.List.Sums.{sum_by-append}
 use Rattle.wi_saturate.specs.Tries.{of_head, all_begun, begun, IsMore}
 use Rattle.wi_saturate.proofs.Counts.{sum_same, sum_both, begun_more}
 use Rattle.wi_saturate.proofs.Elements.{same_some, same_item, get_push, get_before, get_last, contains_from_get, some_there, false_when}
-use Rattle.wi_saturate.proofs.Lookups.{ruled_named, ruled_all}
+use Rattle.wi_saturate.proofs.Lookups.{ruled_named, ruled_all, once}
 use Rattle.wi_saturate.proofs.Pushes.{here_or_there, contains_there, adds_one, adds_both, has_pushed, has_kept}
 use Rattle.wi_saturate.proofs.RuleRows.{seen_empty, seen_one, seen_two, made_at}
 
@@ -81,12 +83,15 @@ module _ {W : Type 0} (m : Scale) (c : W → List ℕ) (heads : List (ℕ × ℕ
     counted = λ F. subst (λ (z : Waits). sum_by (of_head F heads) z.places.places ≤ sum_by (λ f. all_begun F rows f.rule.to f.rule.word) flat) (sym ws) (h.counted F);
   }
 
-module _ {W : Type 0} (m : Scale) (c : W → List ℕ) (laws : WeightLaws m) (admitted : (w : W) → IsWeight m (c w)) (rules : ℕ → ℕ → List (Rule W)) (heads : List (ℕ × ℕ)) (index : Index W) (indexed : IsIndex c rules heads index) (rows : List (Row W)) where
+module _ {W : Type 0} (m : Scale) (c : W → List ℕ) (laws : WeightLaws m) (admitted : (w : W) → IsWeight m (c w)) (rules : ℕ → ℕ → List (Rule W)) (index : Index W) (indexed : IsIndex c rules index) (rows : List (Row W)) where
+  abbrev all_heads : List (ℕ × ℕ)
+  all_heads = index.rules.heads
+
   -- the place of a rule's head
-  pub head_within : (k : ℕ) (f : Ruled W) → slice_get index.rules.items k ≡ Some f → f.head < length heads
+  pub head_within : (k : ℕ) (f : Ruled W) → slice_get index.rules.items k ≡ Some f → f.head < length all_heads
   head_within k f at =
-      let is = ruled_named rules heads k f (subst (λ z. slice_get z k ≡ Some f) indexed.listed at) in
-      slice_get_within heads f.head is.0 is.1
+      let is = ruled_named rules all_heads k f (subst (λ z. slice_get z k ≡ Some f) indexed.listed at) in
+      slice_get_within all_heads f.head is.0 is.1
 
   -- what the rules make is beaten by what none of the candidates is lighter than
   module _ (heap : List (Candidate W)) (best : Option (Row W)) (lightest : (x : Candidate W) → Contains heap x → BestAtMost m c best (c x.weight)) where
@@ -103,53 +108,60 @@ module _ {W : Type 0} (m : Scale) (c : W → List ℕ) (laws : WeightLaws m) (ad
     seen_word p g k rule (Two u v) h =
         seen_two m c laws admitted rows p g 0 rule best u v (λ i j r s at from symbol at' next symbol'. beaten p g s.q k i j _ (h i j r s at at' (from, symbol, next, symbol')))
 
-    pub all_seen : (search : Search W) → search.heap ≡ heap → IsSearch c heads index.rules.items rows rows search → IsSeen m c rules heads rows best
+    pub all_seen : (search : Search W) → search.heap ≡ heap → IsSearch c all_heads index.rules.items rows rows search → IsSeen m c rules all_heads rows best
     all_seen search e h p g rule head at q w chain =
-        let is = ruled_all rules heads p g rule head at in
+        let is = ruled_all rules all_heads p g rule head at in
         let there : slice_get index.rules.items is.0 ≡ Some is.1 = subst (λ z. slice_get z is.0 ≡ Some is.1) (sym indexed.listed) is.2 in
         let kept : IsKeptRule c rows rows heap p g is.0 is.1.rule.to (c is.1.rule.weight) is.1.rule.word =
         subst (λ z. IsKeptRule c rows rows z p g is.0 is.1.rule.to (c is.1.rule.weight) is.1.rule.word) e (h.kept is.0 p g is.1 there is.3) in
         seen_word p g is.0 rule rule.word (subst (λ (z : Rule W). IsKeptRule c rows rows heap p g is.0 z.to (c z.weight) z.word) is.4 kept) q w chain
 
   -- nothing is left
-  pub none_seen : (search : Search W) → search.heap ≡ [] → IsSearch c heads index.rules.items rows rows search → IsSeen m c rules heads rows None
+  pub none_seen : (search : Search W) → search.heap ≡ [] → IsSearch c all_heads index.rules.items rows rows search → IsSeen m c rules all_heads rows None
   none_seen search e h = all_seen [] None (λ x at. let within : at.0 < 0 = at.1 in absurd (omega arith)) search e h
 
-  module _ (t : Candidate W) (b : Row W) (of : IsRowOf m c heads index.rules.items rows t b) where
+  module _ (t : Candidate W) (b : Row W) (of : IsRowOf m c all_heads index.rules.items rows t b) where
     -- the lightest is taken out
-    pub lightest_seen : (search : Search W) → All (λ (x : Candidate W). AtMost m (c t.weight) (c x.weight)) search.heap → IsSearch c heads index.rules.items rows rows search → IsSeen m c rules heads rows (Some b)
+    pub lightest_seen : (search : Search W) → All (λ (x : Candidate W). AtMost m (c t.weight) (c x.weight)) search.heap → IsSearch c all_heads index.rules.items rows rows search → IsSeen m c rules all_heads rows (Some b)
     lightest_seen search least h =
         all_seen search.heap (Some b) (λ x at. subst (λ (z : W). AtMost m (c z) (c x.weight)) (sym of.weight) (All-contains (λ (x : Candidate W). AtMost m (c t.weight) (c x.weight)) search.heap x least at)) search refl h
 
-    pub open_candidate : (f : Ruled W) → slice_get index.rules.items t.rule ≡ Some f → IsOpen rows b → IsCandidate m c rules heads rows b
+    pub open_candidate : (f : Ruled W) → slice_get index.rules.items t.rule ≡ Some f → IsOpen rows b → IsCandidate m c rules all_heads rows b
     open_candidate f at unsettled =
         let by = of.by f at in
-        let is = ruled_named rules heads t.rule f (subst (λ z. slice_get z t.rule ≡ Some f) indexed.listed at) in
-        let pair : is.0 ≡ (b.p, b.g) = same_item heads f.head is.0 (b.p, b.g) is.1 by.0 in
+        let is = ruled_named rules all_heads t.rule f (subst (λ z. slice_get z t.rule ≡ Some f) indexed.listed at) in
+        let pair : is.0 ≡ (b.p, b.g) = same_item all_heads f.head is.0 (b.p, b.g) is.1 by.0 in
         let made = made_at m c rules rows b.p b.g f.at f.rule b (subst (λ (z : ℕ × ℕ). slice_get (rules z.0 z.1) f.at ≡ Some f.rule) pair is.2) by.2 in
-        (contains_from_get heads f.head (b.p, b.g) by.0, made.2, unsettled)
+        (contains_from_get all_heads f.head (b.p, b.g) by.0, made.2, unsettled)
 
--- whether a summary is settled, by a walk along the rows of its head
-module _ {W : Type 0} (heads : List (ℕ × ℕ)) (rows : List (Row W)) (places : ChainsView) (stand : AreRowPlaces heads rows places) (place q : ℕ) where
-  row_at : (i : ℕ) (d : Row W) → slice_get places.places i ≡ Some place → slice_get rows i ≡ Some (get_or rows i d)
-  row_at i d at = slice_get-get_or rows i d (let within = slice_get_within places.places i place at in omega (arith, within, stand.count))
+-- whether a row at a place ends in a state, by a walk along the rows at the place
+module _ {W : Type 0} (rows : List (Row W)) (places : List ℕ) (same : length places ≡ length rows) (place q : ℕ) where
+  row_at : (i : ℕ) (d : Row W) → slice_get places i ≡ Some place → slice_get rows i ≡ Some (get_or rows i d)
+  row_at i d at = slice_get-get_or rows i d (let within = slice_get_within places i place at in omega (arith, within))
 
-  pub settled_here : (i : ℕ) (d : Row W) → slice_get places.places i ≡ Some place → (get_or rows i d).q ≡ q → (p g : ℕ) → slice_get heads place ≡ Some (p, g) → IsTrue true ↔ Settled rows p g q
-  settled_here i d at to p g head =
-      let row = row_at i d at in
-      let same : ((get_or rows i d).p, (get_or rows i d).g) ≡ (p, g) = same_some (sym (stand.each i place (get_or rows i d) row at) ∙ head) in
-      (λ _. (i, get_or rows i d, row, (ap (λ z. z.0) same, ap (λ z. z.1) same, to)), λ _. refl)
+  pub settled_here : (i : ℕ) (d : Row W) → slice_get places i ≡ Some place → (get_or rows i d).q ≡ q → IsTrue true ↔ EndsThere rows places place q
+  settled_here i d at to = (λ _. (i, get_or rows i d, row_at i d at, at, to), λ _. refl)
 
-  pub other_row : (i : ℕ) (d : Row W) → slice_get places.places i ≡ Some place → ((get_or rows i d).q ≡ q → ⊥) → (r : Row W) → slice_get rows i ≡ Some r → r.q ≡ q → ⊥
+  pub other_row : (i : ℕ) (d : Row W) → slice_get places i ≡ Some place → ((get_or rows i d).q ≡ q → ⊥) → (r : Row W) → slice_get rows i ≡ Some r → r.q ≡ q → ⊥
   other_row i d at other r there to = other (ap (λ (z : Row W). z.q) (same_item rows i (get_or rows i d) r (row_at i d at) there) ∙ to)
 
-  pub unsettled : ((i j p g : ℕ) → slice_get heads i ≡ Some (p, g) → slice_get heads j ≡ Some (p, g) → i ≡ j) → ((i : ℕ) → slice_get places.places i ≡ Some place → (r : Row W) → slice_get rows i ≡ Some r → r.q ≡ q → ⊥)
-      → (p g : ℕ) → slice_get heads place ≡ Some (p, g) → IsTrue false ↔ Settled rows p g q
-  unsettled once none p g head = false_when (λ s.
+  pub unsettled : ((i : ℕ) → slice_get places i ≡ Some place → (r : Row W) → slice_get rows i ≡ Some r → r.q ≡ q → ⊥) → IsTrue false ↔ EndsThere rows places place q
+  unsettled none = false_when (λ s. none s.0 s.3 s.1 s.2 s.4)
+
+-- a row at the place of a head is for the head
+module _ {W : Type 0} (heads : List (ℕ × ℕ)) (rise : IsStrictlySortedBy pair_cmp heads) (rows : List (Row W)) (places : ChainsView) (stand : AreRowPlaces heads rows places) (place p g q : ℕ)
+    (head : slice_get heads place ≡ Some (p, g)) where
+  pub settled_there : EndsThere rows places.places place q → Settled rows p g q
+  settled_there ends =
+      let same : (ends.1.p, ends.1.g) ≡ (p, g) = same_some (sym (stand.each ends.0 place ends.1 ends.2 ends.3) ∙ head) in
+      (ends.0, ends.1, ends.2, (ap (λ z. z.0) same, ap (λ z. z.1) same, ends.4))
+
+  pub ends_there : Settled rows p g q → EndsThere rows places.places place q
+  ends_there s =
       let within : s.0 < length rows = slice_get_within rows s.0 s.1 s.2 in
       let at = some_there places.places s.0 (omega (arith, stand.count)) in
       let there : slice_get heads at.0 ≡ Some (p, g) = stand.each s.0 at.0 s.1 s.2 at.1 ∙ ap (λ x. Some (x, s.1.g)) s.3.0 ∙ ap (λ x. Some (p, x)) s.3.1 in
-      none s.0 (subst (λ n. slice_get places.places s.0 ≡ Some n) (once at.0 place p g there head) at.1) s.1 s.2 s.3.2)
+      (s.0, s.1, s.2, subst (λ n. slice_get places.places s.0 ≡ Some n) (once heads rise at.0 place p g there head) at.1, s.3.2)
 
 -- the candidates of rules that take their symbol off
 module _ {W : Type 0} (c : W → List ℕ) (flat : List (Ruled W)) (k : ℕ) (f : Ruled W) (at : slice_get flat k ≡ Some f) where

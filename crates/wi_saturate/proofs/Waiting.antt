@@ -49,8 +49,8 @@ module _ {W : Type 0} (heads : List (ℕ × ℕ)) (flat : List (Ruled W)) (rows 
       more_length = ap length items ∙ length-append old.items.items (record { rule = k; row = i } ∷ [])
 
       -- it waits now
-      pub waits_now : ((i j p g : ℕ) → slice_get heads i ≡ Some (p, g) → slice_get heads j ≡ Some (p, g) → i ≡ j) → HasWait heads flat rows new (length old.items.items) k i
-      waits_now once u' v' place' g r at' word' row' p q head' = (
+      pub waits_now : HasWait heads flat rows new (length old.items.items) k i
+      waits_now u' v' place' g r at' word' row' p q head' = (
         length old.items.items,
         omega arith,
         subst (λ ws. slice_get ws (length old.items.items) ≡ Some (record { rule = k; row = i })) (sym items) (get_last old.items.items (record { rule = k; row = i })),

@@ -1,7 +1,9 @@
 -- The rules of all heads in one list, and where each begins.
 use Rattle.std.specs.Prelude.{◌≡◌, ℕ, suc, ◌+◌, ◌^◌, ◌⊎◌, List, [], ◌∷◌, ◌++◌, length, Some, slice_get}
 use Rattle.std.specs.List.{Contains}
+use Rattle.std.specs.List.Sorted.{IsStrictlySortedBy}
 use Rattle.wi_weight.specs.Weights.{EachBelow}
+use Rattle.wi_pds.specs.Pairs.{pair_cmp}
 use Rattle.wi_pds.specs.declared.rule.Word2.{Word2}
 use Rattle.wi_pds.specs.declared.rule.Word2.TheVariants.{Empty, One, Two}
 use Rattle.wi_pds.specs.declared.rule.Rule.{Rule}
@@ -35,13 +37,13 @@ pub record AreBegins {W : Type 0} (heads : List (ℕ × ℕ)) (flat : List (Rule
   pub count : length begins.places ≡ length flat
   pub each : (k place : ℕ) (f : Ruled W) → slice_get flat k ≡ Some f → slice_get begins.places k ≡ Some place → BeginsAt heads f.rule.to f.rule.word place
 
--- where each rule begins, and that its weight fits; each head is listed once
-pub record IsIndexed {W : Type 0} (c : W → List ℕ) (heads : List (ℕ × ℕ)) (index : Index W) : Type 0 where
-  pub begins : AreBegins heads index.rules.items index.begins
-  pub once : (i j p g : ℕ) → slice_get heads i ≡ Some (p, g) → slice_get heads j ≡ Some (p, g) → i ≡ j
+-- where each rule begins, and that its weight fits; the heads rise
+pub record IsIndexed {W : Type 0} (c : W → List ℕ) (index : Index W) : Type 0 where
+  pub begins : AreBegins index.rules.heads index.rules.items index.begins
+  pub rise : IsStrictlySortedBy pair_cmp index.rules.heads
   pub small : (k : ℕ) (f : Ruled W) → slice_get index.rules.items k ≡ Some f → EachBelow (2 ^ 64) (c f.rule.weight)
 
 -- the rules of all heads, indexed
-pub record IsIndex {W : Type 0} (c : W → List ℕ) (rules : ℕ → ℕ → List (Rule W)) (heads : List (ℕ × ℕ)) (index : Index W) : Type 0 where
-  pub listed : index.rules.items ≡ ruled rules 0 heads
-  pub indexed : IsIndexed c heads index
+pub record IsIndex {W : Type 0} (c : W → List ℕ) (rules : ℕ → ℕ → List (Rule W)) (index : Index W) : Type 0 where
+  pub listed : index.rules.items ≡ ruled rules 0 index.rules.heads
+  pub indexed : IsIndexed c index

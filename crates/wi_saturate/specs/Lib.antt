@@ -10,3 +10,5 @@ pub mod SmallRules
 pub mod Indexes
 pub mod Searches
 pub mod Tries
+pub mod Turns
+pub mod Questions

@@ -81,6 +81,10 @@ pub record AreRowPlaces {W : Type 0} (heads : List (ℕ × ℕ)) (rows : List (R
   pub count : length places.places ≡ length rows
   pub each : (i place : ℕ) (r : Row W) → slice_get rows i ≡ Some r → slice_get places.places i ≡ Some place → slice_get heads place ≡ Some (r.p, r.g)
 
+-- a row at the place ends in q
+abbrev pub EndsThere : {W : Type 0} → List (Row W) → List ℕ → ℕ → ℕ → Type 0
+EndsThere {W} rows places place q = (i : ℕ) × (r : Row W) × (slice_get rows i ≡ Some r) × (slice_get places i ≡ Some place) × (r.q ≡ q)
+
 -- a rule of two symbols with a row for the first waits for rows of the head at the place
 abbrev pub IsWait : {W : Type 0} → List (ℕ × ℕ) → List (Ruled W) → List (Row W) → Wait → ℕ → Type 0
 IsWait {W} heads flat rows w place =

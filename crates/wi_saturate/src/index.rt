@@ -1,6 +1,8 @@
 //! The rules of all heads, and where to look for those that a row can go into.
 ghost use Rattle.std.specs.Prelude.{◌≡◌, ◌+◌, ◌<◌, ◌^◌, ◌++◌, ◌∷◌, ℕ, OnOk, IfOk, MatchOption, Some, slice_get, length, []};
 ghost use Rattle.std.specs.List.{All, Contains};
+ghost use Rattle.std.specs.List.Sorted.{IsStrictlySortedBy};
+ghost use Rattle.wi_pds.specs.Pairs.{pair_cmp};
 ghost use Rattle.wi_pds.specs.Rules.{IsOf};
 ghost use Rattle.wi_saturate.specs.LeastTables.{AreReady};
 ghost use Rattle.wi_saturate.specs.Indexes.{ruled_from, BeginsAt, IsPlace, AreBegins, IsIndex};
@@ -20,31 +22,26 @@ pub(crate) struct Index<'a, W> {
     pub(crate) begins: Chains,
 }
 
-// The place of the head, where it is listed.
-pub(crate) fn place_of(heads: &Heads, p: u64, g: u32) -> Option<usize>
-    ensures { MatchOption result (Contains heads.now.heads (p, g) → ⊥) (λ place. slice_get heads.now.heads place ≡ Some (p, g)) }
-{
-    heads.heads.as_slice().binary_search(&(p, g)).ok()
-}
-
 // The place of the head, or the place past the last one.
-fn place_or_past(heads: &Heads, p: u64, g: u32) -> usize
-    ensures { IsPlace heads.now.heads p g result }
+fn place_or_past<W: Domain>(rules: &Rules<'_, W>, p: u64, g: u32) -> usize
+    requires { IsStrictlySortedBy pair_cmp rules.now.heads }
+    ensures { IsPlace rules.now.heads p g result }
 {
-    match place_of(heads, p, g) {
+    match rules.place_of(p, g) {
         Some(place) => place,
-        None => heads.heads.as_slice().len(),
+        None => rules.heads().len(),
     }
 }
 
 // The place of the head that the rule leads to.
-fn begins_at<W>(heads: &Heads, rule: &Rule<W>) -> usize
-    ensures { BeginsAt heads.now.heads rule.now.to rule.now.word result }
+fn begins_at<W: Domain>(rules: &Rules<'_, W>, rule: &Rule<W>) -> usize
+    requires { IsStrictlySortedBy pair_cmp rules.now.heads }
+    ensures { BeginsAt rules.now.heads rule.now.to rule.now.word result }
 {
     match rule.word {
-        Word2::Empty => heads.heads.as_slice().len(),
-        Word2::One(u) => place_or_past(heads, rule.to, u),
-        Word2::Two(u, _) => place_or_past(heads, rule.to, u),
+        Word2::Empty => rules.heads().len(),
+        Word2::One(u) => place_or_past(rules, rule.to, u),
+        Word2::Two(u, _) => place_or_past(rules, rule.to, u),
     }
 }
 
@@ -57,7 +54,8 @@ impl<'a, W: Domain> Index<'a, W> {
     ) -> Result<Self, NoMemory>
         requires ready { AreReady W.components (S.rules sys.now) heads.now.heads }
         requires asked { (p g : ℕ) → Contains heads.now.heads (p, g) → S.may_ask sys.now p g }
-        ensures { IfOk result (IsIndex W.components (S.rules sys.now) heads.now.heads) }
+        ensures index { IfOk result (IsIndex W.components (S.rules sys.now)) }
+        ensures heads { IfOk result (λ index. index.rules.heads ≡ heads.now.heads) }
     {
         let listed = heads.heads.as_slice();
         let mut index = Index {
@@ -67,44 +65,43 @@ impl<'a, W: Domain> Index<'a, W> {
         for head in 0..listed.len() {
             let (p, g) = listed[head];
             let rules = sys.rules_of(alloc, p, g)?;
-            index.add_head(heads, head, &rules)?;
+            index.add_head(head, &rules)?;
         }
         Ok(index)
     }
 
     // Adds the rules of the head at a place.
-    fn add_head(&mut self, heads: &Heads, head: usize, rules: &[Rule<W>]) -> Result<(), NoMemory>
+    fn add_head(&mut self, head: usize, rules: &[Rule<W>]) -> Result<(), NoMemory>
+        requires rise { IsStrictlySortedBy pair_cmp self.old.rules.heads }
         requires count { length rules.now < 2 ^ 32 }
         requires named { (p g : ℕ) → slice_get self.old.rules.heads head ≡ Some (p, g) → All (IsOf p g) rules.now }
         requires listed { head < length self.old.rules.heads }
-        requires begins { AreBegins heads.now.heads self.old.rules.items self.old.begins }
-        ensures begins { OnOk result (AreBegins heads.now.heads self.new.rules.items self.new.begins) }
+        requires begins { AreBegins self.old.rules.heads self.old.rules.items self.old.begins }
+        ensures begins { OnOk result (AreBegins self.new.rules.heads self.new.rules.items self.new.begins) }
         ensures rules { OnOk result (self.new.rules.items ≡ self.old.rules.items ++ ruled_from head 0 rules.now) }
         ensures heads { OnOk result (self.new.rules.heads ≡ self.old.rules.heads) }
     {
         self.rules.begin_head();
         for at in 0..rules.len() {
-            self.add(
-                heads,
-                Ruled {
-                    head,
-                    at: at as u32,
-                    rule: rules[at],
-                },
-            )?;
+            self.add(Ruled {
+                head,
+                at: at as u32,
+                rule: rules[at],
+            })?;
         }
         Ok(())
     }
 
     // Adds one rule.
-    fn add(&mut self, heads: &Heads, ruled: Ruled<W>) -> Result<(), NoMemory>
-        requires begins { AreBegins heads.now.heads self.old.rules.items self.old.begins }
+    fn add(&mut self, ruled: Ruled<W>) -> Result<(), NoMemory>
+        requires rise { IsStrictlySortedBy pair_cmp self.old.rules.heads }
+        requires begins { AreBegins self.old.rules.heads self.old.rules.items self.old.begins }
         requires named { slice_get self.old.rules.heads ruled.head ≡ Some (ruled.rule.from, ruled.rule.top) }
-        ensures begins { OnOk result (AreBegins heads.now.heads self.new.rules.items self.new.begins) }
+        ensures begins { OnOk result (AreBegins self.new.rules.heads self.new.rules.items self.new.begins) }
         ensures rules { OnOk result (self.new.rules.items ≡ self.old.rules.items ++ ruled ∷ []) }
         ensures heads { OnOk result (self.new.rules.heads ≡ self.old.rules.heads) }
     {
-        self.begins.add(begins_at(heads, &ruled.rule))?;
+        self.begins.add(begins_at(&self.rules, &ruled.rule))?;
         self.rules.push(ruled)?;
         Ok(())
     }

@@ -22,6 +22,7 @@ mod saturation;
 mod search;
 mod steps;
 mod table;
+mod turn;
 mod waits;
 
 pub use heap::{Candidate, Heap};
@@ -30,6 +31,3 @@ pub use row::Row;
 pub use saturation::least;
 pub use steps::Steps;
 pub use table::Table;
-
-#[cfg(test)]
-mod tests;

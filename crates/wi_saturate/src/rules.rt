@@ -1,6 +1,9 @@
 //! The rules of all heads, kept small: what a head tells isn't kept for each of its rules, and a weight isn't kept again where
 //! the rule at the same place of the head before, or the rule before, has it.
-ghost use Rattle.std.specs.Prelude.{◌≡◌, ◌<◌, ◌++◌, ◌∷◌, [], List, Some, IfOk, OnOk, length, slice_get, slice_index_or};
+ghost use Rattle.std.specs.Prelude.{◌≡◌, ◌<◌, ◌++◌, ◌∷◌, [], List, MatchOption, Some, IfOk, OnOk, length, slice_get, slice_index_or};
+ghost use Rattle.std.specs.List.{Contains};
+ghost use Rattle.std.specs.List.Sorted.{IsStrictlySortedBy};
+ghost use Rattle.wi_pds.specs.Pairs.{pair_cmp};
 ghost use Rattle.wi_saturate.specs.Rulings.{RulesView};
 
 use std::alloc::Global;
@@ -119,6 +122,21 @@ impl<'a, W: Domain> Rules<'a, W> {
             word: rule.word,
         })?;
         Ok(())
+    }
+
+    // The heads that rules are of.
+    pub(crate) fn heads(&self) -> &'a [(u64, u32)]
+        ensures { result.now ≡ self.now.heads }
+    {
+        self.heads
+    }
+
+    // The place of the head, where it is listed.
+    pub(crate) fn place_of(&self, p: u64, g: u32) -> Option<usize>
+        requires { IsStrictlySortedBy pair_cmp self.now.heads }
+        ensures { MatchOption result (Contains self.now.heads (p, g) → ⊥) (λ place. slice_get self.now.heads place ≡ Some (p, g)) }
+    {
+        self.heads.binary_search(&(p, g)).ok()
     }
 
     // How many rules there are.

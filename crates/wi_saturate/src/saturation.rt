@@ -1,11 +1,13 @@
 //! Saturation.
-ghost use Rattle.std.specs.Prelude.{◌≡◌, ℕ, ◌+◌, ◌≤◌, true, false, IsSomeAnd, IfOk, IfErr, option_map, length};
+ghost use Rattle.std.specs.Prelude.{◌≡◌, ℕ, [], ◌+◌, ◌≤◌, true, false, IsSomeAnd, IfOk, IfErr, option_map, length};
 ghost use Rattle.std.specs.List.{Contains};
 ghost use Rattle.wi_weight.specs.Weights.{AtMost};
 ghost use Rattle.wi_pds.specs.Closed.{AreClosed, Within};
 ghost use Rattle.wi_saturate.specs.Rows.{IsFor};
 ghost use Rattle.wi_saturate.specs.LeastTables.{AreReady, IsLeastTable};
-ghost use Rattle.wi_saturate.specs.Tries.{candidates};
+ghost use Rattle.wi_saturate.specs.Tries.{candidates, all_ways};
+ghost use Rattle.wi_saturate.specs.Searches.{IsSearch};
+ghost use Rattle.wi_saturate.specs.Questions.{IsAsked};
 ghost use Rattle.wi_saturate.specs.Refusals.{IsRefusal};
 
 use crate::index::Index;
@@ -14,6 +16,7 @@ use crate::row::Row;
 use crate::search::Search;
 use crate::steps::Steps;
 use crate::table::Table;
+use crate::turn::Turn;
 use std::alloc::Global;
 use std::cmp::Ordering;
 use std::sync::ledger::Ledger;
@@ -40,6 +43,86 @@ fn is_for<W>(row: &Row<W>, goal: (u64, u32, u64)) -> bool
     ensures other { result ≡ false → IsFor goal.0 goal.1 goal.2 row.now → ⊥ }
 {
     row.p == goal.0 && row.g == goal.1 && row.q == goal.2
+}
+
+// What is asked: the rules of listed heads, a goal and a cut.
+#[derive(Drop)]
+pub(crate) struct Question<'a, W> {
+    pub(crate) index: &'a Index<'a, W>,
+    pub(crate) goal: (u64, u32, u64),
+    pub(crate) cut: Option<W>,
+}
+
+// Settles one row after the other, from none on.
+fn settle<W: Domain, S: System<W>, L: Ledger, M: Ledger>(
+    alloc: Global,
+    sys: &S,
+    asked: &Question<'_, W>,
+    search: &mut Search<W>,
+    steps: &mut Steps<L>,
+    tries: &mut Steps<M>,
+) -> Result<Table<W>, LeastRefused<W>>
+    requires asked { IsAsked W.components (S.rules sys.now) asked.now }
+    requires search { IsSearch W.components asked.now.index.now.rules.heads asked.now.index.now.rules.items [] [] search.old }
+    ensures table { IfOk result (λ t. IsLeastTable W.scale W.components (S.rules sys.now) asked.now.index.now.rules.heads asked.now.goal (option_map W.components asked.now.cut) t.rows (option_map W.components t.best)) }
+    ensures steps { IfOk result (λ t. steps.new ≡ steps.old + length t.rows) }
+    ensures tried { IfOk result (λ t. tries.old + length t.rows ≤ tries.new + length search.old.heap) }
+    ensures tries { IfOk result (λ t. tries.new + all_ways asked.now.index.now.rules.items [] ≤ tries.old + all_ways asked.now.index.now.rules.items t.rows) }
+    ensures refusal { IfErr result (IsRefusal W.scale W.components (S.rules sys.now) asked.now.index.now.rules.heads asked.now.goal (option_map W.components asked.now.cut)) }
+{
+    let mut rows: Vec<Row<W>> = Vec::new(alloc);
+    'turns: loop {
+        let Some((place, next)) = search.next_row(sys, asked.index, &rows) else {
+            return Ok(Table { rows, best: None });
+        };
+        if is_cut(asked.cut, next.weight) {
+            return Ok(Table { rows, best: None });
+        }
+        if !next.weight.fits() {
+            return Err(LeastRefused::Overflow {
+                head: (next.p, next.g),
+                target: next.q,
+                weight: next.weight,
+            });
+        }
+        rows.push(next)?;
+        steps.tick();
+        if is_for(&next, asked.goal) {
+            return Ok(Table {
+                rows,
+                best: Some(next.weight),
+            });
+        }
+        let last = rows.len() - 1;
+        let turn = Turn {
+            index: asked.index,
+            rows: &rows,
+            last,
+            place,
+        };
+        search.extend(&turn, tries)?;
+    }
+}
+
+// The same, by a search of its own.
+fn table_of<W: Domain, S: System<W>, L: Ledger, M: Ledger>(
+    alloc: Global,
+    sys: &S,
+    asked: &Question<'_, W>,
+    steps: &mut Steps<L>,
+    tries: &mut Steps<M>,
+) -> Result<Table<W>, LeastRefused<W>>
+    requires asked { IsAsked W.components (S.rules sys.now) asked.now }
+    ensures table { IfOk result (λ t. IsLeastTable W.scale W.components (S.rules sys.now) asked.now.index.now.rules.heads asked.now.goal (option_map W.components asked.now.cut) t.rows (option_map W.components t.best)) }
+    ensures steps { IfOk result (λ t. steps.new ≡ steps.old + length t.rows) }
+    ensures tried { IfOk result (λ t. tries.old + length t.rows ≤ tries.new) }
+    ensures tries { IfOk result (λ t. tries.new ≤ tries.old + candidates (S.rules sys.now) asked.now.index.now.rules.heads t.rows) }
+    ensures refusal { IfErr result (IsRefusal W.scale W.components (S.rules sys.now) asked.now.index.now.rules.heads asked.now.goal (option_map W.components asked.now.cut)) }
+{
+    let mut search = Search::new(alloc, &asked.index.rules, tries)?;
+    let table = settle(alloc, sys, asked, &mut search, steps, tries);
+    drop(search);
+    table
 }
 
 /// The least summaries of listed heads that are lighter than the goal and below the cut, and, where the goal is below the cut,
@@ -78,31 +161,12 @@ pub fn least<W: Domain, S: System<W>, L: Ledger, M: Ledger>(
     ensures refusal { IfErr result (IsRefusal W.scale W.components (S.rules sys.now) heads.now.heads goal (option_map W.components cut)) }
 {
     let index = Index::new(alloc, sys, heads)?;
-    let mut search = Search::new(alloc, &index, heads, tries)?;
-    let mut rows: Vec<Row<W>> = Vec::new(alloc);
-    'turns: loop {
-        let Some((place, next)) = search.next_row(sys, &index, heads, &rows) else {
-            return Ok(Table { rows, best: None });
-        };
-        if is_cut(cut, next.weight) {
-            return Ok(Table { rows, best: None });
-        }
-        if !next.weight.fits() {
-            return Err(LeastRefused::Overflow {
-                head: (next.p, next.g),
-                target: next.q,
-                weight: next.weight,
-            });
-        }
-        rows.push(next)?;
-        steps.tick();
-        if is_for(&next, goal) {
-            return Ok(Table {
-                rows,
-                best: Some(next.weight),
-            });
-        }
-        let last = rows.len() - 1;
-        search.extend(&index, heads, &rows, last, place, tries)?;
-    }
+    let asked = Question {
+        index: &index,
+        goal,
+        cut,
+    };
+    let table = table_of(alloc, sys, &asked, steps, tries);
+    drop(index);
+    table
 }

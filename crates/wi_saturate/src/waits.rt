@@ -1,21 +1,18 @@
 //! Rules of two symbols that wait for rows for the second.
 ghost use Rattle.std.specs.Prelude.{◌≡◌, ◌<◌, ◌≤◌, ◌++◌, ◌∷◌, ℕ, OnOk, IfOk, [], length, Some, slice_get, slice_index_or};
+ghost use Rattle.std.specs.List.{sum_by};
 ghost use Rattle.wi_saturate.specs.declared.row.Row.{Row};
 ghost use Rattle.wi_saturate.specs.declared.rules.Ruled.{Ruled};
-ghost use Rattle.wi_saturate.specs.declared.waits.Wait.{Wait};
-ghost use Rattle.wi_saturate.specs.Indexes.{IsIndexed};
-ghost use Rattle.std.specs.List.{sum_by};
 ghost use Rattle.wi_saturate.specs.Tries.{begun, IsMore};
-ghost use Rattle.wi_saturate.specs.Searches.{IsFirst, AreWaits, HasWait};
+ghost use Rattle.wi_saturate.specs.Turns.{heads_of, rules_of, rows_of, IsTurn, IsFirstOf, AreWaiting, KeepsWaits, WaitsFor};
 
 use crate::chains::Chains;
-use crate::index::{Index, place_of};
 use crate::pairs::Pairs;
-use crate::row::Row;
+use crate::turn::Turn;
 use std::alloc::Global;
 use std::marker::Model;
 use wi_base::NoMemory;
-use wi_pds::{Heads, Word2};
+use wi_pds::Word2;
 use wi_weight::Domain;
 
 // A rule that writes two symbols, and a row for the first: it waits for rows for the second.
@@ -102,56 +99,42 @@ impl Waits {
         self.places.add(place)
     }
 
-    // Lets the rules wait whose first symbol the row at a place is for, a row of the head at `place`.
-    pub(crate) fn extend<W: Domain>(
-        &mut self,
-        index: &Index<'_, W>,
-        heads: &Heads,
-        rows: &[Row<W>],
-        last: usize,
-        place: usize,
-    ) -> Result<(), NoMemory>
-        requires index { IsIndexed W.components heads.now.heads index.now }
-        requires within { last < length rows.now }
-        requires head { (r : Row W) → slice_get rows.now last ≡ Some r → slice_get heads.now.heads place ≡ Some (r.p, r.g) }
-        requires waits { AreWaits heads.now.heads index.now.rules.items rows.now self.old }
-        ensures waits { OnOk result (AreWaits heads.now.heads index.now.rules.items rows.now self.new) }
-        ensures keeps { OnOk result ((n : ℕ) (w : Wait) → slice_get self.old.items.items n ≡ Some w → slice_get self.new.items.items n ≡ Some w) }
-        ensures counted { OnOk result ((r : Row W) → slice_get rows.now last ≡ Some r → IsMore heads.now.heads self.old.places.places self.new.places.places (λ F. sum_by (λ f. begun F r f.rule.to f.rule.word) index.now.rules.items)) }
-        ensures last { OnOk result ((k : ℕ) → HasWait heads.now.heads index.now.rules.items rows.now self.new (length self.old.items.items) k last) }
+    // Lets the rules wait whose first symbol the last row is for.
+    pub(crate) fn extend<W: Domain>(&mut self, turn: &Turn<'_, W>) -> Result<(), NoMemory>
+        requires turn { IsTurn W.components turn.now }
+        requires waits { AreWaiting turn.now self.old }
+        ensures waits { OnOk result (AreWaiting turn.now self.new) }
+        ensures keeps { OnOk result (KeepsWaits self.old self.new) }
+        ensures counted { OnOk result ((r : Row W) → slice_get (rows_of turn.now) turn.now.last ≡ Some r →
+            IsMore (heads_of turn.now) self.old.places.places self.new.places.places (λ F. sum_by (λ f. begun F r f.rule.to f.rule.word) (rules_of turn.now))) }
+        ensures last { OnOk result ((k : ℕ) → WaitsFor turn.now self.new (length self.old.items.items) k) }
     {
-        let mut end = index.begins.end(place);
+        let mut end = turn.index.begins.end(turn.place);
         while 0 < end {
             let rule = end - 1;
-            self.add_rule(index, heads, rows, last, rule)?;
-            end = index.begins.end_before(rule);
+            self.add_rule(turn, rule)?;
+            end = turn.index.begins.end_before(rule);
         }
         Ok(())
     }
 
     // Lets the rule at a place wait, if it writes two symbols.
-    fn add_rule<W: Domain>(
-        &mut self,
-        index: &Index<'_, W>,
-        heads: &Heads,
-        rows: &[Row<W>],
-        last: usize,
-        rule: usize,
-    ) -> Result<(), NoMemory>
-        requires within { last < length rows.now }
-        requires rule { rule < length index.now.rules.items }
-        requires first { (f : Ruled W) (r : Row W) → slice_get index.now.rules.items rule ≡ Some f → slice_get rows.now last ≡ Some r → IsFirst f.rule.to f.rule.word r }
-        requires waits { AreWaits heads.now.heads index.now.rules.items rows.now self.old }
-        requires once { (i j p g : ℕ) → slice_get heads.now.heads i ≡ Some (p, g) → slice_get heads.now.heads j ≡ Some (p, g) → i ≡ j }
-        ensures waits { OnOk result (AreWaits heads.now.heads index.now.rules.items rows.now self.new) }
-        ensures keeps { OnOk result ((n : ℕ) (w : Wait) → slice_get self.old.items.items n ≡ Some w → slice_get self.new.items.items n ≡ Some w) }
+    fn add_rule<W: Domain>(&mut self, turn: &Turn<'_, W>, rule: usize) -> Result<(), NoMemory>
+        requires turn { IsTurn W.components turn.now }
+        requires rule { rule < length (rules_of turn.now) }
+        requires first { IsFirstOf turn.now rule }
+        requires waits { AreWaiting turn.now self.old }
+        ensures waits { OnOk result (AreWaiting turn.now self.new) }
+        ensures keeps { OnOk result (KeepsWaits self.old self.new) }
         ensures more { OnOk result (length self.old.items.items ≤ length self.new.items.items) }
-        ensures has { OnOk result (HasWait heads.now.heads index.now.rules.items rows.now self.new (length self.old.items.items) rule last) }
-        ensures counted { OnOk result ((f : Ruled W) (r : Row W) → slice_get index.now.rules.items rule ≡ Some f → slice_get rows.now last ≡ Some r → IsMore heads.now.heads self.old.places.places self.new.places.places (λ F. begun F r f.rule.to f.rule.word)) }
+        ensures has { OnOk result (WaitsFor turn.now self.new (length self.old.items.items) rule) }
+        ensures counted { OnOk result ((f : Ruled W) (r : Row W) → slice_get (rules_of turn.now) rule ≡ Some f → slice_get (rows_of turn.now) turn.now.last ≡ Some r →
+            IsMore (heads_of turn.now) self.old.places.places self.new.places.places (λ F. begun F r f.rule.to f.rule.word)) }
     {
-        match index.rules.get(rule).rule.word {
-            Word2::Two(_, v) => match place_of(heads, rows[last].q, v) {
-                Some(place) => self.add(place, rule, last),
+        let rules = &turn.index.rules;
+        match rules.get(rule).rule.word {
+            Word2::Two(_, v) => match rules.place_of(turn.rows[turn.last].q, v) {
+                Some(place) => self.add(place, rule, turn.last),
                 None => Ok(()),
             },
             _ => Ok(()),

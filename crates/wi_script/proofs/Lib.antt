@@ -8,3 +8,5 @@ mod Meanings
 mod Outcomes
 mod Scripts
 pub mod Unique
+mod SetLemmas
+pub mod PlayLemmas

@@ -13,7 +13,7 @@ use Rattle.wi_world.specs.declared.world.Event.{Event}
 use Rattle.wi_script.specs.declared.script.Script.{Script}
 use Rattle.wi_script.specs.declared.script.ScriptRefused.{ScriptRefused}
 use Rattle.wi_script.specs.declared.script.ScriptRefused.TheVariants.{BadLine, Memory}
-use Rattle.wi_script.specs.Scripts.{Happens, AllHappen, AreLines, lines_bytes, is_one_line, IsFaultLine, IsRefused}
+use Rattle.wi_script.specs.Scripts.{Happens, AllHappen, AreLines, lines_bytes, is_one_line, IsFaultLine, IsNoScript}
 use Rattle.wi_script.specs.Meaning.{IsStart, IsEvent, IsCutAt, AreEvents, IsNoEvent, IsRest}
 
 -- ---- a line
@@ -96,7 +96,7 @@ events_more net bytes events pushed left line rest event are cut happens is =
 
 -- ---- the whole
 
-pub refused_later : (net : Net) (bytes line rest : List ℕ) (link : LinkId) (header : List Entry) (refused : ScriptRefused) → IsCutAt bytes (Some (line, rest)) → IsStart net line (Ok (link, header)) → IsRest net rest (Err refused) → IsRefused net bytes refused
+pub refused_later : (net : Net) (bytes line rest : List ℕ) (link : LinkId) (header : List Entry) (refused : ScriptRefused) → IsCutAt bytes (Some (line, rest)) → IsStart net line (Ok (link, header)) → IsRest net rest (Err refused) → IsNoScript net bytes refused
 refused_later net bytes line rest link header (BadLine n cause) cut start more =
     let are : AreEvents net rest more.0 more.1 = more.2 in
     record {
@@ -114,6 +114,6 @@ refused_later net bytes line rest link header (BadLine n cause) cut start more =
     fault (inr (one, is, some)) = inr (one, is, inl some)
 refused_later net bytes line rest link header Memory cut start more = tt
 
-pub refused_as : (net : Net) (bytes : List ℕ) (r : Result Script ScriptRefused) (refused : ScriptRefused) → IsErrAnd r (λ e. e ≡ refused) → IsRefused net bytes refused → IfErr r (λ e. IsRefused net bytes e)
+pub refused_as : (net : Net) (bytes : List ℕ) (r : Result Script ScriptRefused) (refused : ScriptRefused) → IsErrAnd r (λ e. e ≡ refused) → IsNoScript net bytes refused → IfErr r (λ e. IsNoScript net bytes e)
 refused_as net bytes (Ok script) refused h is = tt
-refused_as net bytes (Err e) refused h is = subst (IsRefused net bytes) (sym h) is
+refused_as net bytes (Err e) refused h is = subst (IsNoScript net bytes) (sym h) is

@@ -1,5 +1,5 @@
--- A text is a script in one way, and no script where a line has a fault.
-use Rattle.std.proofs.Common.{◌≡◌, ℕ, inl, inr, Bool, true, false, nat_eq, map, List, [], ◌∷◌, ◌++◌, Option, Some, None, refl, sym, ap, ap₂, subst, ◌∙◌}
+-- A text is a script in one way, and no script where a line has a fault; and one line of it has the first fault.
+use Rattle.std.proofs.Common.{◌≡◌, ℕ, ◌+◌, inl, inr, Bool, true, false, nat_eq, map, List, [], ◌∷◌, ◌++◌, length, Option, Some, None, refl, sym, ap, ap₂, subst, ◌∙◌}
 use Rattle.std.proofs.lemmas.Bool.{true≢false}
 use Rattle.std.proofs.lemmas.List.{append-nil, append_assoc}
 use Rattle.wi_labels.specs.Header.{Entry, is_valid_header}
@@ -10,7 +10,7 @@ use Rattle.wi_script.specs.declared.script.Script.{Script}
 use Rattle.wi_script.specs.declared.script.ScriptCause.{ScriptCause}
 use Rattle.wi_script.specs.declared.script.ScriptCause.TheVariants.{NotAnEvent, UnknownName, BadHeader, AlreadyFailed, NotFailed, TooManyFailed, NoSuchGroup, NoSuchMember, NotFirstActive, LinkFailed, Undefined}
 use Rattle.wi_script.specs.Lines.{Name, At}
-use Rattle.wi_script.specs.Scripts.{label_of, event_of, Begins, Happens, AllHappen, AreLines, lines_bytes, is_one_line, IsScript, IsCause, is_first, IsFaultLine, IsBadLine}
+use Rattle.wi_script.specs.Scripts.{label_of, event_of, Begins, Happens, AllHappen, AreLines, lines_bytes, is_one_line, IsScript, IsCause, AreFine, is_first, IsFaultLine, IsBadLine}
 use Rattle.wi_script.proofs.Outcomes.{written_one_way}
 
 -- ---- lines
@@ -153,19 +153,27 @@ among net [] line after (e ∷ events) all = (e, all.0)
 among net (first ∷ before) line after [] all = absurd all
 among net (first ∷ before) line after (e ∷ events) all = among net before line after events all.1
 
+-- a line with a cause is not among lines that have no fault
+not_fine : (net : Net) (before : List (List ℕ)) (line : List ℕ) (after : List (List ℕ)) (cause : ScriptCause) → AreFine net (before ++ line ∷ after) → IsCause net (is_first before) line cause → ⊥
+not_fine net [] line after cause fine c = no_first net line cause fine.0.0 fine.0.1 c fine.0.2 fine.0.3
+not_fine net (y ∷ before) line after cause fine c =
+    let event = among net before line after fine.1.0 fine.1.1 in
+    no_other net line cause event.0 c event.1
+
+-- nor has what is left behind such lines a fault, where the next one has none either
+no_fault : (net : Net) (before : List (List ℕ)) (line : List ℕ) (after : List (List ℕ)) (rest left : List ℕ) (cause : ScriptCause) → AreFine net (before ++ line ∷ after) → is_one_line line ≡ true → left ≡ line ++ 10 ∷ rest → IsFaultLine net before left cause → ⊥
+no_fault net before line after rest left cause fine one is (inl f) =
+    let same = ends line f.0 rest f.1 one f.3 (sym is ∙ f.2) in
+    not_fine net before line after cause fine (subst (λ x. IsCause net (is_first before) x cause) (sym same.0) f.4)
+no_fault net before line after rest left cause fine one is (inr f) = no_feed line rest (subst (λ x. is_one_line x ≡ true) is f.0)
+
 pub script_fine : (net : Net) (text : List ℕ) (s : Script) (n : ℕ) (cause : ScriptCause) → IsScript net text s → IsBadLine net text n cause → ⊥
 script_fine net text s n cause a b =
     let cut = lines_begin (a.first ∷ a.more) b.before b.left a.lines b.lines (sym a.bytes ∙ b.bytes) in
     left b.before cut.0 b.left cut.1 cut.2 cut.3 b.fault
   where
-    no_line : (before more : List (List ℕ)) (line : List ℕ) → a.first ∷ a.more ≡ before ++ line ∷ more → IsCause net (is_first before) line cause → ⊥
-    no_line [] more line is c =
-        let first : a.first ≡ line = cc in
-        no_first net a.first cause s.first s.header (rw first c) a.begins a.valid
-    no_line (y ∷ before) more line is c =
-        let later : a.more ≡ before ++ line ∷ more = cc in
-        let event = among net before line more s.events (rw (← later) a.events) in
-        no_other net line cause event.0 c event.1
+    fine : AreFine net (a.first ∷ a.more)
+    fine = ((s.first, s.header, a.begins, a.valid), (s.events, a.events))
 
     left : (before more : List (List ℕ)) (left : List ℕ) → a.first ∷ a.more ≡ before ++ more → left ≡ lines_bytes more → AreLines more → IsFaultLine net before left cause → ⊥
     left before [] rest is e are (inl f) = not_nothing f.0 f.1 (sym e ∙ f.2)
@@ -174,7 +182,88 @@ script_fine net text s n cause a b =
         empty : (before : List (List ℕ)) → before ≡ [] → a.first ∷ a.more ≡ before ++ [] → ⊥
         empty [] none is = cc
         empty (y ∷ before) none is = cc
-    left before (line ∷ more) rest is e are (inl f) =
-        let same = ends line f.0 (lines_bytes more) f.1 are.0 f.3 (sym e ∙ f.2) in
-        no_line before more line is (subst (λ x. IsCause net (is_first before) x cause) (sym same.0) f.4)
-    left before (line ∷ more) rest is e are (inr f) = no_feed line (lines_bytes more) (subst (λ x. is_one_line x ≡ true) e f.0)
+    left before (line ∷ more) rest is e are f = no_fault net before line more (lines_bytes more) rest cause (subst (AreFine net) is fine) are.0 e f
+
+-- ---- one first fault
+
+-- of two ways to begin a text with lines, either the lines are the same, or those of one go on where the other's end
+record GoOn (before longer : List (List ℕ)) (left : List ℕ) : Type 0 where
+  line : List ℕ
+  after : List (List ℕ)
+  rest : List ℕ
+  longer_is : longer ≡ before ++ line ∷ after
+  left_is : left ≡ line ++ 10 ∷ rest
+  one : is_one_line line ≡ true
+
+go_on : (x y : List ℕ) (before longer : List (List ℕ)) (left : List ℕ) → x ≡ y → GoOn before longer left → GoOn (x ∷ before) (y ∷ longer) left
+go_on x y before longer left same g = record {
+  line = g.line;
+  after = g.after;
+  rest = g.rest;
+  longer_is = ap₂ (λ (z : List ℕ) (zs : List (List ℕ)). z ∷ zs) (sym same) g.longer_is;
+  left_is = g.left_is;
+  one = g.one;
+}
+
+data Begun (a b : List (List ℕ)) (r s : List ℕ) : Type 0 where
+  Same : a ≡ b → r ≡ s → Begun a b r s
+  Shorter : GoOn a b r → Begun a b r s
+  Longer : GoOn b a s → Begun a b r s
+
+begun_more : (x y : List ℕ) (a b : List (List ℕ)) (r s : List ℕ) → x ≡ y → Begun a b r s → Begun (x ∷ a) (y ∷ b) r s
+begun_more x y a b r s same (Same lines left) = Same (ap₂ (λ (z : List ℕ) (zs : List (List ℕ)). z ∷ zs) same lines) left
+begun_more x y a b r s same (Shorter g) = Shorter (go_on x y a b r same g)
+begun_more x y a b r s same (Longer g) = Longer (go_on y x b a s (sym same) g)
+
+begun : (a b : List (List ℕ)) (r s : List ℕ) → AreLines a → AreLines b → lines_bytes a ++ r ≡ lines_bytes b ++ s → Begun a b r s
+begun [] [] r s one other e = Same refl e
+begun [] (y ∷ b) r s one other e = Shorter (record { line = y; after = b; rest = lines_bytes b ++ s; longer_is = refl; left_is = e ∙ append_assoc y (10 ∷ lines_bytes b) s; one = other.0 })
+begun (x ∷ a) [] r s one other e = Longer (record { line = x; after = a; rest = lines_bytes a ++ r; longer_is = refl; left_is = sym e ∙ append_assoc x (10 ∷ lines_bytes a) r; one = one.0 })
+begun (x ∷ a) (y ∷ b) r s one other e =
+    let cut = ends x y (lines_bytes a ++ r) (lines_bytes b ++ s) one.0 other.0 (sym (append_assoc x (10 ∷ lines_bytes a) r) ∙ e ∙ append_assoc y (10 ∷ lines_bytes b) s) in
+    begun_more x y a b r s cut.0 (begun a b r s one.1 other.1 cut.1)
+
+-- a line has one cause
+cause_first : (net : Net) (text : List ℕ) (c d : ScriptCause) → IsCause net true text c → IsCause net true text d → c ≡ d
+cause_first net text NotAnEvent NotAnEvent a b = refl
+cause_first net text NotAnEvent UnknownName a b = absurd (a b.0 b.1)
+cause_first net text NotAnEvent BadHeader a b = absurd (a (At b.2.joint b.2.labels) b.2.line)
+cause_first net text UnknownName NotAnEvent a b = absurd (b a.0 a.1)
+cause_first net text UnknownName UnknownName a b = refl
+cause_first net text UnknownName BadHeader a b = absurd (a.2 b.0 b.1 b.2)
+cause_first net text BadHeader NotAnEvent a b = absurd (b (At a.2.joint a.2.labels) a.2.line)
+cause_first net text BadHeader UnknownName a b = absurd (b.2 a.0 a.1 a.2)
+cause_first net text BadHeader BadHeader a b = refl
+cause_first net text NotAnEvent other a b = absurd b
+cause_first net text UnknownName other a b = absurd b
+cause_first net text BadHeader other a b = absurd b
+cause_first net text cause other a b = absurd a
+
+cause_other : (net : Net) (text : List ℕ) (c d : ScriptCause) → IsCause net false text c → IsCause net false text d → c ≡ d
+cause_other net text NotAnEvent NotAnEvent a b = refl
+cause_other net text NotAnEvent UnknownName a b = absurd (a b.0 b.1)
+cause_other net text UnknownName NotAnEvent a b = absurd (b a.0 a.1)
+cause_other net text UnknownName UnknownName a b = refl
+cause_other net text NotAnEvent other a b = absurd b
+cause_other net text UnknownName other a b = absurd b
+cause_other net text cause other a b = absurd a
+
+cause_one : (net : Net) (first : Bool) (text : List ℕ) (c d : ScriptCause) → IsCause net first text c → IsCause net first text d → c ≡ d
+cause_one net true text c d a b = cause_first net text c d a b
+cause_one net false text c d a b = cause_other net text c d a b
+
+fault_one : (net : Net) (before : List (List ℕ)) (left : List ℕ) (c d : ScriptCause) → IsFaultLine net before left c → IsFaultLine net before left d → c ≡ d
+fault_one net before left c d (inl f) (inl g) =
+    let same = ends f.0 g.0 f.1 g.1 f.3 g.3 (sym f.2 ∙ g.2) in
+    cause_one net (is_first before) g.0 c d (subst (λ x. IsCause net (is_first before) x c) same.0 f.4) g.4
+fault_one net before left c d (inl f) (inr g) = absurd (no_feed f.0 f.1 (subst (λ x. is_one_line x ≡ true) f.2 g.0))
+fault_one net before left c d (inr f) (inl g) = absurd (no_feed g.0 g.1 (subst (λ x. is_one_line x ≡ true) g.2 f.0))
+fault_one net before left c d (inr f) (inr g) = f.1 ∙ sym g.1
+
+pub fault_first : (net : Net) (text : List ℕ) (n m : ℕ) (c d : ScriptCause) → IsBadLine net text n c → IsBadLine net text m d → (n ≡ m) × (c ≡ d)
+fault_first net text n m c d a b = by (begun a.before b.before a.left b.left a.lines b.lines (sym a.bytes ∙ b.bytes))
+  where
+    by : Begun a.before b.before a.left b.left → (n ≡ m) × (c ≡ d)
+    by (Same lines left) = (a.number ∙ ap (λ (x : List (List ℕ)). length x + 1) lines ∙ sym b.number, fault_one net b.before b.left c d (subst (λ x. IsFaultLine net x b.left c) lines (subst (λ x. IsFaultLine net a.before x c) left a.fault)) b.fault)
+    by (Shorter g) = absurd (no_fault net a.before g.line g.after g.rest a.left c (subst (AreFine net) g.longer_is b.fine) g.one g.left_is a.fault)
+    by (Longer g) = absurd (no_fault net b.before g.line g.after g.rest b.left d (subst (AreFine net) g.longer_is a.fine) g.one g.left_is b.fault)

@@ -3,3 +3,5 @@ pub mod Scripts
 pub mod Known
 pub mod Reading
 pub mod Meaning
+pub mod Plays
+pub mod Moments

@@ -116,6 +116,6 @@ pub record IsBadLine (net : Net) (text : List ℕ) (n : ℕ) (cause : ScriptCaus
   pub fault : IsFaultLine net before left cause
 
 -- what is answered where bytes are no script
-abbrev pub IsRefused : Net → List ℕ → ScriptRefused → Type 0
-IsRefused net bytes (BadLine n cause) = IsBadLine net bytes n cause
-IsRefused net bytes Memory = Unit {0}
+abbrev pub IsNoScript : Net → List ℕ → ScriptRefused → Type 0
+IsNoScript net bytes (BadLine n cause) = IsBadLine net bytes n cause
+IsNoScript net bytes Memory = Unit {0}

@@ -1,6 +1,6 @@
 //! The reader of scripts.
 ghost use Rattle.std.specs.Prelude.{◌≡◌, ◌==◌, ◌++◌, ◌∷◌, [], ℕ, List, IfOk, IfErr, OnOk, option_map, position};
-ghost use Rattle.wi_script.specs.Scripts.{IsScript, IsRefused};
+ghost use Rattle.wi_script.specs.Scripts.{IsScript, IsNoScript};
 ghost use Rattle.wi_script.specs.Known.{IsScriptOf};
 ghost use Rattle.wi_script.specs.Meaning.{IsStart, IsEvent, IsCutAt, IsRest};
 
@@ -19,7 +19,7 @@ use wi_world::Event;
 pub fn read_script(alloc: Global, net: &Network, bytes: &[u8]) -> Result<Script, ScriptRefused>
     ensures read { IfOk result (λ script. IsScript net.now bytes.now script) }
     ensures known { IfOk result (λ script. IsScriptOf net.now script) }
-    ensures refused { IfErr result (λ refused. IsRefused net.now bytes.now refused) }
+    ensures refused { IfErr result (λ refused. IsNoScript net.now bytes.now refused) }
 {
     let Some((line, rest)) = next_line(bytes) else {
         return Err(ScriptRefused::BadLine(1, ScriptCause::NotAnEvent));

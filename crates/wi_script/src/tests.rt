@@ -2,16 +2,270 @@
 ghost use Rattle.std.specs.Prelude.{◌≡◌, []};
 
 use crate::ScriptCause::{BadHeader, NotAnEvent, UnknownName};
-use crate::{Script, ScriptCause, ScriptRefused, read_script};
-use std::alloc::Global;
+use crate::{Event, Script, ScriptCause, ScriptRefused, State, play, read_script};
+use std::alloc::{AllocError, Global};
 use std::process::Abort;
 use std::test::Fail;
-use wi_labels::{Class, Label};
-use wi_net::{BuildRefused, LinkId, Network, NetworkBuilder};
-use wi_world::{Event, Step};
+use wi_base::Listed;
+use wi_labels::{Class, Header, Label, Op, Ops};
+use wi_net::{BuildRefused, FailSet, Group, LinkId, Member, Network, NetworkBuilder};
+use wi_world::Step;
 
-const GOOD: &[u8] =
-    b"at x.o#a.x ip1\nfail a.b#b.a\nrepair a.b#b.a\nhop 2 1\nhop 10 999999999999999999999999999999\n";
+const L30: (Label, Class) = (Label(0), Class::Mpls);
+
+const L31: (Label, Class) = (Label(1), Class::Mpls);
+
+const S10: (Label, Class) = (Label(2), Class::Smpls);
+
+const IP1: (Label, Class) = (Label(3), Class::Ip);
+
+const IP: (Label, Class) = (Label(4), Class::Ip);
+
+const PUSH_30: Op = Op::Push(Label(0), Class::Mpls);
+
+const PUSH_S10: Op = Op::Push(Label(2), Class::Smpls);
+
+const SWAP_31: Op = Op::Swap(Label(1), Class::Mpls);
+
+// From a router by an interface to a router by one.
+type Ends<'a> = (&'a str, &'a str, &'a str, &'a str);
+
+// A member: its link and its operations.
+type Way<'a> = (u32, &'a [Op]);
+
+// A link, a label, and groups of members.
+type RowOf<'a> = (u32, (Label, Class), &'a [&'a [Way<'a>]]);
+
+// The last one has the name of a class.
+#[tactic(auto, unfolding(wi_net::specs::Builder::add_label))]
+fn add_labels(builder: &mut NetworkBuilder) -> Result<(), BuildRefused>
+    requires { builder.old.net.classes ≡ [] }
+{
+    builder.label(Class::Mpls, "30")?;
+    builder.label(Class::Mpls, "31")?;
+    builder.label(Class::Smpls, "s10")?;
+    builder.label(Class::Ip, "ip1")?;
+    builder.label(Class::Ip, "ip")?;
+    Ok(())
+}
+
+fn add_link(
+    builder: &mut NetworkBuilder,
+    ends: Ends,
+    distance: u32,
+    group: Option<&str>,
+) -> Result<(), BuildRefused> {
+    let (from, out, to, into) = ends;
+    builder.link(from, out, to, into, distance, group)?;
+    Ok(())
+}
+
+const ROUTERS: &[&str] = &["x", "a", "b", "c", "y", "b 1"];
+
+// From x to a, from a to b and c, from c to b, and from b to y. The links from a to b and from b to y may be in one risk group.
+const LINKS: &[(Ends, u32, bool)] = &[
+    (("x", "o", "a", "x"), 1, false),
+    (("a", "b", "b", "a"), 1, true),
+    (("a", "c", "c", "a"), 2, false),
+    (("c", "b", "b", "c"), 2, false),
+    (("b", "y", "y", "b"), 1, true),
+];
+
+fn add_links(builder: &mut NetworkBuilder, group: Option<&str>) -> Result<(), BuildRefused> {
+    for name in ROUTERS {
+        builder.router(name)?;
+    }
+    for (ends, distance, grouped) in LINKS {
+        let group = if *grouped { group } else { None };
+        add_link(builder, *ends, *distance, group)?;
+    }
+    Ok(())
+}
+
+fn group(alloc: Global, ways: &[Way]) -> Result<Group, Fail> {
+    let mut members = Vec::new(alloc);
+    for (link, ops) in ways {
+        let member = Member {
+            link: LinkId(*link),
+            ops: Ops::from_slice(alloc, ops)?,
+        };
+        members.push(member).map_err(AllocError::from)?;
+    }
+    Ok(Listed::of(members))
+}
+
+fn groups(alloc: Global, ways: &[&[Way]]) -> Result<Vec<Group>, Fail> {
+    let mut groups = Vec::new(alloc);
+    for members in ways {
+        groups
+            .push(group(alloc, members)?)
+            .map_err(AllocError::from)?;
+    }
+    Ok(groups)
+}
+
+fn add_rows(alloc: Global, builder: &mut NetworkBuilder, rows: &[RowOf]) -> Result<(), Fail> {
+    for (link, label, ways) in rows {
+        let groups = groups(alloc, ways)?;
+        builder.table(LinkId(*link), label.0, groups)?;
+    }
+    Ok(())
+}
+
+// Such links, maybe a sixth one, and these rows.
+fn fill(
+    alloc: Global,
+    builder: &mut NetworkBuilder,
+    group: Option<&str>,
+    sixth: Option<Ends>,
+    rows: &[RowOf],
+) -> Result<(), Fail>
+    requires { builder.old.net.classes ≡ [] }
+{
+    add_labels(builder)?;
+    add_links(builder, group)?;
+    if let Some(ends) = sixth {
+        add_link(builder, ends, 1, None)?;
+    }
+    add_rows(alloc, builder, rows)
+}
+
+// No builder is left where a path ends: each part of one that is let go takes its own proof.
+fn network(
+    alloc: Global,
+    group: Option<&str>,
+    sixth: Option<Ends>,
+    rows: &[RowOf],
+) -> Result<Network, Fail> {
+    let mut builder = NetworkBuilder::new(alloc);
+    match fill(alloc, &mut builder, group, sixth, rows) {
+        Ok(()) => Ok(builder.finish()?),
+        Err(fail) => {
+            drop(builder);
+            Err(fail)
+        }
+    }
+}
+
+// Names that are not plain.
+const ODD: Ends = ("b 1", "o.1", "x", "a#\u{e9}");
+
+fn named(alloc: Global) -> Result<Network, Fail> {
+    network(alloc, None, Some(ODD), &[])
+}
+
+// First to b, else by c in a tunnel.
+const AT_A: RowOf = (0, IP1, &[&[(1, &[PUSH_S10])], &[(2, &[PUSH_S10, PUSH_30])]]);
+
+const FROM_A: RowOf = (1, S10, &[&[(4, &[Op::Pop])]]);
+
+const SMALL: &[RowOf] = &[
+    AT_A,
+    FROM_A,
+    (2, L30, &[&[(3, &[Op::Pop])]]),
+    (3, S10, &[&[(4, &[Op::Pop])]]),
+];
+
+// The links from a to b and from b to y fail together.
+fn fiber(alloc: Global) -> Result<Network, Fail> {
+    network(alloc, Some("fiber"), None, SMALL)
+}
+
+const BACK_TO_A: Ends = ("c", "a2", "a", "c2");
+
+const RETURNING: &[RowOf] = &[
+    AT_A,
+    FROM_A,
+    (2, L30, &[&[(5, &[SWAP_31])]]),
+    (5, L31, &[&[(1, &[Op::Pop])]]),
+];
+
+// What came to c goes back to a, and from there to b.
+fn returning(alloc: Global) -> Result<Network, Fail> {
+    network(alloc, None, Some(BACK_TO_A), RETURNING)
+}
+
+// A function of its own, so that no test shows each part that is let go.
+fn discard(net: Network) {
+    drop(net)
+}
+
+fn header_is(rt: &impl Abort, header: &Header, labels: &[(Label, Class)]) {
+    assert_eq!(rt; header.len(), labels.len());
+    for (i, label) in labels.iter().enumerate() {
+        assert_eq!(rt; header.at(i), Some(*label));
+    }
+}
+
+fn set_is(rt: &impl Abort, set: &FailSet, links: &[u32]) {
+    assert_eq!(rt; set.len(), links.len());
+    for (i, link) in links.iter().enumerate() {
+        assert_eq!(rt; set.at(i), Some(LinkId(*link)));
+    }
+}
+
+// A script, its first link, its header and its events.
+type ReadOf<'a> = (&'a [u8], u32, &'a [(Label, Class)], &'a [Event]);
+
+const READ: &[ReadOf] = &[
+    (
+        b"at x.o#a.x ip1\nfail a.b#b.a\nrepair a.b#b.a\nhop 2 1\nhop 10 999999999999999999999999999999\n",
+        0,
+        &[IP1],
+        &[
+            Event::Fail(LinkId(1)),
+            Event::Repair(LinkId(1)),
+            Event::Hop(Step {
+                group: 1,
+                member: 0,
+            }),
+            Event::Hop(Step {
+                group: 9,
+                member: u32::MAX,
+            }),
+        ],
+    ),
+    (b"at \"x\".o#\"a\".\"x\" \"ip1\"\n", 0, &[IP1], &[]),
+    (
+        b"at \"b 1\".\"o.1\"#x.\"a#\xc3\xa9\" 30 s10 ip\n",
+        5,
+        &[L30, S10, IP],
+        &[],
+    ),
+    (
+        b"at b.y#y.b ip\nhop 4294967295 4294967296\n",
+        4,
+        &[IP],
+        &[Event::Hop(Step {
+            group: u32::MAX - 1,
+            member: u32::MAX,
+        })],
+    ),
+];
+
+fn is_read(rt: &impl Abort, alloc: Global, net: &Network, case: &ReadOf) -> Result<(), Fail> {
+    let (bytes, first, labels, events) = case;
+    let script = read_script(alloc, net, bytes)?;
+    assert_eq!(rt; script.first, LinkId(*first));
+    header_is(rt, &script.header, labels);
+    assert_eq!(rt; script.events.as_slice(), *events);
+    Ok(())
+}
+
+fn are_read(rt: &impl Abort, alloc: Global, net: &Network) -> Result<(), Fail> {
+    for case in READ {
+        is_read(rt, alloc, net, case)?;
+    }
+    Ok(())
+}
+
+#[test]
+fn scripts_are_read(rt: HostRuntime) -> Result<(), Fail> {
+    let net = named(rt.alloc())?;
+    let said = are_read(&rt, rt.alloc(), &net);
+    discard(net);
+    said
+}
 
 // First lines with their causes.
 const FIRST_LINES: &[(&[u8], ScriptCause)] = &[
@@ -78,88 +332,6 @@ const THIRD_LINES: &[(&[u8], ScriptCause)] = &[
     (b"at x.o#a.x ip1\nfail a.b#b.a\nfail a.b#b.z\n", UnknownName),
 ];
 
-// The labels 30, s10, ip1 and one whose name is the word of a class.
-#[tactic(auto, unfolding(wi_net::specs::Builder::add_label))]
-fn add_labels(builder: &mut NetworkBuilder) -> Result<(), BuildRefused>
-    requires { builder.old.net.classes ≡ [] }
-{
-    builder.label(Class::Mpls, "30")?;
-    builder.label(Class::Smpls, "s10")?;
-    builder.label(Class::Ip, "ip1")?;
-    builder.label(Class::Ip, "ip")?;
-    Ok(())
-}
-
-fn add_routers(builder: &mut NetworkBuilder) -> Result<(), BuildRefused> {
-    for name in ["x", "a", "b", "c", "y", "b 1"] {
-        builder.router(name)?;
-    }
-    Ok(())
-}
-
-// A way over c protects the link from a to b; the last link has names that are not plain.
-fn add_links(builder: &mut NetworkBuilder) -> Result<(), BuildRefused> {
-    for (from, out, to, into) in [
-        ("x", "o", "a", "x"),
-        ("a", "b", "b", "a"),
-        ("a", "c", "c", "a"),
-        ("c", "b", "b", "c"),
-        ("b", "y", "y", "b"),
-        ("b 1", "o.1", "x", "a#\u{e9}"),
-    ] {
-        builder.link(from, out, to, into, 1, None)?;
-    }
-    Ok(())
-}
-
-fn add_all(builder: &mut NetworkBuilder) -> Result<(), BuildRefused>
-    requires { builder.old.net.classes ≡ [] }
-{
-    add_labels(builder)?;
-    add_routers(builder)?;
-    add_links(builder)
-}
-
-fn network(alloc: Global) -> Result<Network, Fail> {
-    let mut builder = NetworkBuilder::new(alloc);
-    add_all(&mut builder)?;
-    Ok(builder.finish()?)
-}
-
-fn hop(group: u32, member: u32) -> Event {
-    Event::Hop(Step { group, member })
-}
-
-fn script_is(
-    rt: &impl Abort,
-    script: &Script,
-    first: u32,
-    labels: &[(Label, Class)],
-    events: &[Event],
-) {
-    assert_eq!(rt; script.first, LinkId(first));
-    assert_eq!(rt; script.header.len(), labels.len());
-    for (i, label) in labels.iter().enumerate() {
-        assert_eq!(rt; script.header.at(i), Some(*label));
-    }
-    assert_eq!(rt; script.events.as_slice(), events);
-}
-
-// A script's first link, header and events.
-fn is_read(
-    alloc: Global,
-    rt: &impl Abort,
-    net: &Network,
-    bytes: &[u8],
-    first: u32,
-    labels: &[(Label, Class)],
-    events: &[Event],
-) -> Result<(), Fail> {
-    let script = read_script(alloc, net, bytes)?;
-    script_is(rt, &script, first, labels, events);
-    Ok(())
-}
-
 fn refusal(alloc: Global, net: &Network, bytes: &[u8]) -> Option<ScriptRefused> {
     match read_script(alloc, net, bytes) {
         Ok(_) => None,
@@ -167,93 +339,250 @@ fn refusal(alloc: Global, net: &Network, bytes: &[u8]) -> Option<ScriptRefused> 
     }
 }
 
-fn is_refused(
-    alloc: Global,
+// The cause of each script of a table is told for the line of a number.
+fn are_not_read(
     rt: &impl Abort,
+    alloc: Global,
     net: &Network,
-    bytes: &[u8],
     line: usize,
-    cause: ScriptCause,
+    table: &[(&[u8], ScriptCause)],
 ) {
-    assert_eq!(rt;
-        refusal(alloc, net, bytes),
-        Some(ScriptRefused::BadLine(line, cause))
-    );
-}
-
-fn are_read(alloc: Global, rt: &impl Abort, net: &Network) -> Result<(), Fail> {
-    let ip1 = (Label(2), Class::Ip);
-    let a_b = LinkId(1);
-    let events = [
-        Event::Fail(a_b),
-        Event::Repair(a_b),
-        hop(1, 0),
-        hop(9, u32::MAX),
-    ];
-    is_read(alloc, rt, net, GOOD, 0, &[ip1], &events)?;
-    is_read(
-        alloc,
-        rt,
-        net,
-        b"at \"x\".o#\"a\".\"x\" \"ip1\"\n",
-        0,
-        &[ip1],
-        &[],
-    )?;
-    Ok(())
-}
-
-fn are_read_quoted(alloc: Global, rt: &impl Abort, net: &Network) -> Result<(), Fail> {
-    let tunnel = [
-        (Label(0), Class::Mpls),
-        (Label(1), Class::Smpls),
-        (Label(3), Class::Ip),
-    ];
-    let odd = "at \"b 1\".\"o.1\"#x.\"a#\u{e9}\" 30 s10 ip\n";
-    is_read(alloc, rt, net, odd.as_bytes(), 5, &tunnel, &[])?;
-    let large = b"at b.y#y.b ip\nhop 4294967295 4294967296\n";
-    is_read(
-        alloc,
-        rt,
-        net,
-        large,
-        4,
-        &[(Label(3), Class::Ip)],
-        &[hop(u32::MAX - 1, u32::MAX)],
-    )?;
-    Ok(())
-}
-
-fn first_lines_are_refused(alloc: Global, rt: &impl Abort, net: &Network) {
-    for (bytes, cause) in FIRST_LINES {
-        is_refused(alloc, rt, net, bytes, 1, *cause);
+    for (bytes, cause) in table {
+        assert_eq!(rt;
+            refusal(alloc, net, bytes),
+            Some(ScriptRefused::BadLine(line, *cause))
+        );
     }
 }
 
-fn second_lines_are_refused(alloc: Global, rt: &impl Abort, net: &Network) {
-    for (bytes, cause) in SECOND_LINES {
-        is_refused(alloc, rt, net, bytes, 2, *cause);
-    }
-}
-
-fn third_lines_are_refused(alloc: Global, rt: &impl Abort, net: &Network) {
-    for (bytes, cause) in THIRD_LINES {
-        is_refused(alloc, rt, net, bytes, 3, *cause);
-    }
-}
-
-#[test]
-fn scripts_are_read(rt: HostRuntime) -> Result<(), Fail> {
-    let net = network(rt.alloc())?;
-    are_read(rt.alloc(), &rt, &net)?;
-    are_read_quoted(rt.alloc(), &rt, &net)
+fn faults_are_told(rt: &impl Abort, alloc: Global, net: &Network) {
+    are_not_read(rt, alloc, net, 1, FIRST_LINES);
+    are_not_read(rt, alloc, net, 2, SECOND_LINES);
+    are_not_read(rt, alloc, net, 3, THIRD_LINES);
 }
 
 #[test]
 fn the_first_fault_is_told(rt: HostRuntime) -> Result<(), Fail> {
-    let net = network(rt.alloc())?;
-    first_lines_are_refused(rt.alloc(), &rt, &net);
-    second_lines_are_refused(rt.alloc(), &rt, &net);
-    third_lines_are_refused(rt.alloc(), &rt, &net);
+    let net = named(rt.alloc())?;
+    faults_are_told(&rt, rt.alloc(), &net);
+    discard(net);
     Ok(())
+}
+
+// A link, a header, and the failed links.
+type StateOf<'a> = (u32, &'a [(Label, Class)], &'a [u32]);
+
+fn states_are(rt: &impl Abort, states: &[State], expected: &[StateOf]) {
+    assert_eq!(rt; states.len(), expected.len());
+    for (state, expected) in states.iter().zip(expected) {
+        state_is(rt, state, expected);
+    }
+}
+
+fn state_is(rt: &impl Abort, state: &State, expected: &StateOf) {
+    let (link, labels, fails) = expected;
+    assert_eq!(rt; state.link, LinkId(*link));
+    header_is(rt, &state.header, labels);
+    set_is(rt, &state.fails, fails);
+}
+
+// The states of a script that starts with `ip1` on the link from x.
+fn plays(
+    rt: &impl Abort,
+    alloc: Global,
+    net: &Network,
+    k: u32,
+    script: &[u8],
+    expected: &[StateOf],
+) -> Result<(), Fail> {
+    let script = read_script(alloc, net, script)?;
+    let states = play(alloc, net, k, &script)?;
+    states_are(rt, states.as_slice(), expected);
+    Ok(())
+}
+
+// A number of risk groups, a script, and the first line that isn't allowed with its cause.
+type RefusedOf<'a> = (u32, &'a [u8], usize, ScriptCause);
+
+fn all_refused(
+    rt: &impl Abort,
+    alloc: Global,
+    net: &Network,
+    table: &[RefusedOf],
+) -> Result<(), Fail> {
+    for (k, script, line, cause) in table {
+        is_not_played(
+            rt,
+            alloc,
+            net,
+            *k,
+            script,
+            ScriptRefused::BadLine(*line, *cause),
+        )?;
+    }
+    Ok(())
+}
+
+fn is_not_played(
+    rt: &impl Abort,
+    alloc: Global,
+    net: &Network,
+    k: u32,
+    script: &[u8],
+    expected: ScriptRefused,
+) -> Result<(), Fail> {
+    let script = read_script(alloc, net, script)?;
+    match play(alloc, net, k, &script) {
+        Ok(_) => assert!(rt; false),
+        Err(refused) => assert_eq!(rt; refused, expected),
+    }
+    Ok(())
+}
+
+// The link from a to b fails, the packet goes round by c and back to a, the link is repaired, and the packet takes it.
+const ROUND: &[u8] =
+    b"at x.o#a.x ip1\nfail a.b#b.a\nhop 2 1\nhop 1 1\nrepair a.b#b.a\nhop 1 1\nhop 1 1\n";
+
+const ROUND_STATES: &[StateOf] = &[
+    (0, &[IP1], &[]),
+    (0, &[IP1], &[1]),
+    (2, &[L30, S10, IP1], &[1]),
+    (5, &[L31, S10, IP1], &[1]),
+    (5, &[L31, S10, IP1], &[]),
+    (1, &[S10, IP1], &[]),
+    (4, &[IP1], &[]),
+];
+
+fn plays_round(rt: &impl Abort, alloc: Global, net: &Network) -> Result<(), Fail> {
+    plays(rt, alloc, net, 1, ROUND, ROUND_STATES)?;
+    plays(rt, alloc, net, 65_535, ROUND, ROUND_STATES)
+}
+
+#[test]
+fn a_script_is_played_event_by_event(rt: HostRuntime) -> Result<(), Fail> {
+    let net = returning(rt.alloc())?;
+    let said = plays_round(&rt, rt.alloc(), &net);
+    discard(net);
+    said
+}
+
+const REFUSED_ROUND: &[RefusedOf] = &[
+    (
+        1,
+        b"at x.o#a.x ip1\nfail a.b#b.a\nhop 2 1\nhop 1 1\nhop 1 1\nhop 1 1\n",
+        5,
+        ScriptCause::NotFirstActive,
+    ),
+    (0, ROUND, 2, ScriptCause::TooManyFailed),
+    (
+        1,
+        b"at x.o#a.x ip1\nfail a.b#b.a\nfail a.c#c.a\nhop 9 9\n",
+        3,
+        ScriptCause::TooManyFailed,
+    ),
+    (
+        2,
+        b"at x.o#a.x ip1\nfail a.b#b.a\nfail a.b#b.a\n",
+        3,
+        ScriptCause::AlreadyFailed,
+    ),
+    (
+        1,
+        b"at x.o#a.x ip1\nrepair a.b#b.a\n",
+        2,
+        ScriptCause::NotFailed,
+    ),
+    (1, b"at x.o#a.x ip1\nhop 3 1\n", 2, ScriptCause::NoSuchGroup),
+    (
+        1,
+        b"at x.o#a.x ip1\nhop 4294967296 1\n",
+        2,
+        ScriptCause::NoSuchGroup,
+    ),
+    (
+        1,
+        b"at x.o#a.x ip1\nhop 1 2\n",
+        2,
+        ScriptCause::NoSuchMember,
+    ),
+    (
+        1,
+        b"at x.o#a.x ip1\nhop 2 2\n",
+        2,
+        ScriptCause::NoSuchMember,
+    ),
+    (
+        2,
+        b"at x.o#a.x ip1\nfail a.b#b.a\nfail a.c#c.a\nhop 2 1\n",
+        4,
+        ScriptCause::NotFirstActive,
+    ),
+];
+
+#[test]
+fn the_first_event_that_is_not_allowed_is_told(rt: HostRuntime) -> Result<(), Fail> {
+    let net = returning(rt.alloc())?;
+    let said = all_refused(&rt, rt.alloc(), &net, REFUSED_ROUND);
+    discard(net);
+    said
+}
+
+const FIBER: &[u8] =
+    b"at a.b#b.a s10 ip1\nfail b.y#y.b\nrepair a.b#b.a\nfail a.b#b.a\nrepair b.y#y.b\nhop 1 1\nfail b.y#y.b\n";
+
+const FIBER_STATES: &[StateOf] = &[
+    (1, &[S10, IP1], &[]),
+    (1, &[S10, IP1], &[1, 4]),
+    (1, &[S10, IP1], &[]),
+    (1, &[S10, IP1], &[1, 4]),
+    (1, &[S10, IP1], &[]),
+    (4, &[IP1], &[]),
+    (4, &[IP1], &[1, 4]),
+];
+
+const FIBER_REFUSED: &[RefusedOf] = &[(
+    1,
+    b"at x.o#a.x ip1\nfail a.b#b.a\nfail b.y#y.b\n",
+    3,
+    ScriptCause::AlreadyFailed,
+)];
+
+fn plays_fiber(rt: &impl Abort, alloc: Global, net: &Network) -> Result<(), Fail> {
+    plays(rt, alloc, net, 1, FIBER, FIBER_STATES)?;
+    all_refused(rt, alloc, net, FIBER_REFUSED)
+}
+
+// Links of one risk group fail together, also the one that the packet is on, and are repaired together.
+#[test]
+fn risk_groups_fail_as_one(rt: HostRuntime) -> Result<(), Fail> {
+    let net = fiber(rt.alloc())?;
+    let said = plays_fiber(&rt, rt.alloc(), &net);
+    discard(net);
+    said
+}
+
+// The first way out of a has two members, the second of them with an operation that isn't defined.
+const TWO_MEMBERS: &[RowOf] = &[(0, IP1, &[&[(1, &[PUSH_S10]), (2, &[PUSH_S10, PUSH_S10])]])];
+
+const TWO_MEMBERS_REFUSED: &[RefusedOf] = &[
+    (
+        1,
+        b"at x.o#a.x ip1\nfail a.b#b.a\nhop 1 1\n",
+        3,
+        ScriptCause::LinkFailed,
+    ),
+    (
+        1,
+        b"at x.o#a.x ip1\nfail a.b#b.a\nhop 1 2\n",
+        3,
+        ScriptCause::Undefined(1),
+    ),
+];
+
+#[test]
+fn a_hop_takes_a_member_whose_link_is_up(rt: HostRuntime) -> Result<(), Fail> {
+    let net = network(rt.alloc(), None, None, TWO_MEMBERS)?;
+    let said = all_refused(&rt, rt.alloc(), &net, TWO_MEMBERS_REFUSED);
+    discard(net);
+    said
 }

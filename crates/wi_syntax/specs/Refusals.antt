@@ -5,6 +5,6 @@ use Rattle.wi_syntax.specs.Grammar.{IsQueryText}
 use Rattle.wi_syntax.specs.declared.reader.SyntaxRefused.{SyntaxRefused}
 use Rattle.wi_syntax.specs.declared.reader.SyntaxRefused.TheVariants.{Stops, Memory}
 
-abbrev pub IsRefused : List ℕ → SyntaxRefused → Type 0
-IsRefused text (Stops k) = IsFaultAt IsQueryText text k
-IsRefused text Memory = Unit {0}
+abbrev pub IsUnread : List ℕ → SyntaxRefused → Type 0
+IsUnread text (Stops k) = IsFaultAt IsQueryText text k
+IsUnread text Memory = Unit {0}

@@ -14,6 +14,3 @@ pub use laws::a_text_is_read_one_way;
 pub use name::Name;
 pub use reader::{SyntaxRefused, read_written};
 pub use written::{End, Known, LabelAtom, LinkAtom, Pair, Sign, Written};
-
-#[cfg(test)]
-mod tests;

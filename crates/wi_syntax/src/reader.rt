@@ -2,7 +2,7 @@
 ghost use Rattle.std.specs.Prelude.{◌≡◌, ◌+◌, ◌<◌, ◌^◌, Some, None, IfOk, IfErr, length};
 ghost use Rattle.std.specs.Char.{encode_utf8};
 ghost use Rattle.wi_syntax.specs.Grammar.{Reads};
-ghost use Rattle.wi_syntax.specs.Refusals.{IsRefused};
+ghost use Rattle.wi_syntax.specs.Refusals.{IsUnread};
 ghost use Rattle.wi_syntax.specs.Parsing.{goes};
 ghost use Rattle.wi_syntax.specs.Reading.{mark_of, keep, begin, after_plain, after_quoted_char, after_char, after_bytes, nothing_read, finished, IsReadTo};
 
@@ -37,17 +37,17 @@ impl From<NoMemory> for SyntaxRefused {
 /// The query that a text is, as it is written.
 pub fn read_written(alloc: Global, text: &str) -> Result<Written, SyntaxRefused>
     ensures read { IfOk result (λ w. Reads text.now w) }
-    ensures refused { IfErr result (λ refused. IsRefused text.now refused) }
+    ensures refused { IfErr result (λ refused. IsUnread text.now refused) }
 {
     let mut reader = Reader::new(alloc);
     match reader.read_all(alloc, text) {
         Ok(None) => written_of(alloc, reader, text),
         Ok(Some(at)) => {
-            discard(reader);
+            drop(reader);
             Err(SyntaxRefused::Stops(at))
         }
         Err(NoMemory::Memory) => {
-            discard(reader);
+            drop(reader);
             Err(SyntaxRefused::Memory)
         }
     }
@@ -57,16 +57,13 @@ pub fn read_written(alloc: Global, text: &str) -> Result<Written, SyntaxRefused>
 fn written_of(alloc: Global, reader: Reader, text: &str) -> Result<Written, SyntaxRefused>
     requires { after_bytes nothing_read text.now ≡ Some reader }
     ensures read { IfOk result (λ w. Reads text.now w) }
-    ensures refused { IfErr result (λ refused. IsRefused text.now refused) }
+    ensures refused { IfErr result (λ refused. IsUnread text.now refused) }
 {
     match reader.finish(alloc)? {
         Some(written) => Ok(written),
         None => Err(SyntaxRefused::Stops(text.len())),
     }
 }
-
-// A function of its own: letting go of so many parts makes proofs long.
-fn discard(_reader: Reader) {}
 
 // All that was read of a text.
 #[derive(Drop)]
@@ -202,16 +199,28 @@ impl Reader {
     fn finish(self, alloc: Global) -> Result<Option<Written>, NoMemory>
         ensures { IfOk result (λ written. written ≡ finished self) }
     {
-        let mut parser = self.parser;
-        match self.begun {
-            None => Ok(parser.finish()),
-            Some(name) if name.is_quoted() => Ok(None),
-            Some(name) => {
-                if parser.next(alloc, Token::Word(name))? {
-                    Ok(parser.finish())
-                } else {
-                    Ok(None)
-                }
+        let Reader {
+            mut parser,
+            begun,
+            ..
+        } = self;
+        let Some(name) = begun else {
+            return Ok(parser.finish());
+        };
+        if name.is_quoted() {
+            drop(name);
+            drop(parser);
+            return Ok(None);
+        }
+        match parser.next(alloc, Token::Word(name)) {
+            Ok(true) => Ok(parser.finish()),
+            Ok(false) => {
+                drop(parser);
+                Ok(None)
+            }
+            Err(refused) => {
+                drop(parser);
+                Err(refused)
             }
         }
     }

@@ -6,6 +6,3 @@ mod text;
 
 pub use characters::{is_letter, is_number, is_plain, is_plain_name, is_space};
 pub use text::Text;
-
-#[cfg(test)]
-mod tests;

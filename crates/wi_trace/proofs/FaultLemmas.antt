@@ -12,7 +12,7 @@ use Rattle.wi_net.specs.Net.{Net, risk_count}
 use Rattle.wi_net.proofs.SetLemmas.{apart_from, apart_has}
 use Rattle.wi_world.specs.declared.run.Step.{Step}
 use Rattle.wi_world.specs.declared.run.Run.{Run}
-use Rattle.wi_world.specs.Moves.{Place, groups_at, moved, needed, by_link, is_usable, is_possible, follows, is_start, is_trace, is_possible_run}
+use Rattle.wi_world.specs.Moves.{Location, groups_at, moved, needed, by_link, is_usable, is_possible, follows, is_start, is_trace, is_possible_run}
 use Rattle.wi_world.proofs.Allowed.{Names, by_link_names, names_by_link, member_named, possible_parts}
 use Rattle.wi_world.proofs.RunLaws.{find_none, none_found}
 use Rattle.wi_trace.specs.declared.cause.Cause.{Cause}
@@ -22,7 +22,7 @@ use Rattle.wi_trace.specs.Replays.{undefined_cause, member_cause, is_first_activ
 -- ---- one step
 
 -- a step has no cause: it names a member, against which there is nothing
-record Free (judge : Member → Option Cause) (net : Net) (at : Place) (step : Step) : Type 0 where
+record Free (judge : Member → Option Cause) (net : Net) (at : Location) (step : Step) : Type 0 where
   names : Names net at step
   none : judge names.member ≡ None
 
@@ -35,10 +35,10 @@ abbrev by_group : (Member → Option Cause) → Step → Option (List Member) �
 by_group judge step None = Some NoGroup
 by_group judge step (Some group) = by_member judge (slice_get group step.member)
 
-pub cause_parts : (judge : Member → Option Cause) (net : Net) (at : Place) (step : Step) → member_cause judge net at step ≡ by_group judge step (slice_get (groups_at net at.0 at.1) step.group)
+pub cause_parts : (judge : Member → Option Cause) (net : Net) (at : Location) (step : Step) → member_cause judge net at step ≡ by_group judge step (slice_get (groups_at net at.0 at.1) step.group)
 cause_parts judge net at step = refl
 
-free : (judge : Member → Option Cause) (net : Net) (at : Place) (step : Step) → member_cause judge net at step ≡ None → Free judge net at step
+free : (judge : Member → Option Cause) (net : Net) (at : Location) (step : Step) → member_cause judge net at step ≡ None → Free judge net at step
 free judge net at step h = go (slice_get (groups_at net at.0 at.1) step.group) refl
   where
     h1 : by_group judge step (slice_get (groups_at net at.0 at.1) step.group) ≡ None
@@ -55,28 +55,28 @@ free judge net at step h = go (slice_get (groups_at net at.0 at.1) step.group) r
         go2 None em = let e : Some NoMember ≡ None = rw em at h2 in cc
         go2 (Some m) em = record { names = record { group = g; member = m; group_is = eo; member_is = em }; none = rw em at h2 }
 
-pub cause_named : (judge : Member → Option Cause) (net : Net) (at : Place) (step : Step) (n : Names net at step) → member_cause judge net at step ≡ judge n.member
+pub cause_named : (judge : Member → Option Cause) (net : Net) (at : Location) (step : Step) (n : Names net at step) → member_cause judge net at step ≡ judge n.member
 cause_named judge net at step n = cause_parts judge net at step ∙ rw n.group_is (rw n.member_is refl)
 
 -- a member whose operations are defined leads on
-pub record Leads (net : Net) (at : Place) (step : Step) : Type 0 where
-  pub next : Place
+pub record Leads (net : Net) (at : Location) (step : Step) : Type 0 where
+  pub next : Location
   pub leads : moved net at step ≡ Some next
 
-pub moved_to : (net : Net) (at : Place) (step : Step) (n : Names net at step) (header : List Entry) → outcome 0 n.member.ops at.1 ≡ Ok header → moved net at step ≡ Some (n.member.link, header)
+pub moved_to : (net : Net) (at : Location) (step : Step) (n : Names net at step) (header : List Entry) → outcome 0 n.member.ops at.1 ≡ Ok header → moved net at step ≡ Some (n.member.link, header)
 moved_to net at step n header e = rw (member_named net at step n) (rw (e, after_ops) refl)
 
-pub moved_none : (net : Net) (at : Place) (step : Step) (n : Names net at step) (i : ℕ) → outcome 0 n.member.ops at.1 ≡ Err i → moved net at step ≡ None
+pub moved_none : (net : Net) (at : Location) (step : Step) (n : Names net at step) (i : ℕ) → outcome 0 n.member.ops at.1 ≡ Err i → moved net at step ≡ None
 moved_none net at step n i e = rw (member_named net at step n) (rw (e, after_ops) refl)
 
-defined_leads : (net : Net) (at : Place) (step : Step) (n : Names net at step) → undefined_cause at.1 n.member ≡ None → Leads net at step
+defined_leads : (net : Net) (at : Location) (step : Step) (n : Names net at step) → undefined_cause at.1 n.member ≡ None → Leads net at step
 defined_leads net at step n h = go (outcome 0 n.member.ops at.1) refl
   where
     go : (r : Result (List Entry) ℕ) → outcome 0 n.member.ops at.1 ≡ r → Leads net at step
     go (Ok header) e = record { next = (n.member.link, header); leads = moved_to net at step n header e }
     go (Err i) e = let x : Some (Undefined i) ≡ None = rw (e, undefined_cause) at h in cc
 
-leads_defined : (net : Net) (at : Place) (step : Step) (n : Names net at step) (next : Place) → moved net at step ≡ Some next → undefined_cause at.1 n.member ≡ None
+leads_defined : (net : Net) (at : Location) (step : Step) (n : Names net at step) (next : Location) → moved net at step ≡ Some next → undefined_cause at.1 n.member ≡ None
 leads_defined net at step n next m = go (outcome 0 n.member.ops at.1) refl
   where
     go : (r : Result (List Entry) ℕ) → outcome 0 n.member.ops at.1 ≡ r → undefined_cause at.1 n.member ≡ None
@@ -86,31 +86,31 @@ leads_defined net at step n next m = go (outcome 0 n.member.ops at.1) refl
 -- ---- a whole run
 
 -- a test and a cause agree: where there is no cause, the test passes and the step leads on, and the other way round
-pub record Agree (net : Net) (test : Place → Step → Bool) (cause : Place → Step → Option Cause) : Type 0 where
-  pub passes : (at : Place) (step : Step) → cause at step ≡ None → test at step ≡ true
-  pub leads : (at : Place) (step : Step) → cause at step ≡ None → Leads net at step
-  pub none : (at : Place) (step : Step) (next : Place) → test at step ≡ true → moved net at step ≡ Some next → cause at step ≡ None
+pub record Agree (net : Net) (test : Location → Step → Bool) (cause : Location → Step → Option Cause) : Type 0 where
+  pub passes : (at : Location) (step : Step) → cause at step ≡ None → test at step ≡ true
+  pub leads : (at : Location) (step : Step) → cause at step ≡ None → Leads net at step
+  pub none : (at : Location) (step : Step) (next : Location) → test at step ≡ true → moved net at step ≡ Some next → cause at step ≡ None
 
-module _ (net : Net) (test : Place → Step → Bool) (cause : Place → Step → Option Cause) (agree : Agree net test cause) where
-  fault_follows : (n : ℕ) (at : Place) (steps : List Step) → first_fault net cause n at steps ≡ None → follows net test at steps ≡ true
+module _ (net : Net) (test : Location → Step → Bool) (cause : Location → Step → Option Cause) (agree : Agree net test cause) where
+  fault_follows : (n : ℕ) (at : Location) (steps : List Step) → first_fault net cause n at steps ≡ None → follows net test at steps ≡ true
   fault_follows n at [] h = refl
   fault_follows n at (step ∷ steps) h = go (cause at step) refl (λ next. fault_follows (n + 1) next steps)
     where
-      go : (o : Option Cause) → cause at step ≡ o → ((next : Place) → first_fault net cause (n + 1) next steps ≡ None → follows net test next steps ≡ true) → follows net test at (step ∷ steps) ≡ true
+      go : (o : Option Cause) → cause at step ≡ o → ((next : Location) → first_fault net cause (n + 1) next steps ≡ None → follows net test next steps ≡ true) → follows net test at (step ∷ steps) ≡ true
       go (Some why) e ih = let x : ◌≡◌ {A = Option (ℕ × Cause)} (Some (n, why)) None = rw (e, first_fault) at h in cc
       go None e ih =
           let l = agree.leads at step e in
           let rest : first_fault net cause (n + 1) l.next steps ≡ None = rw l.leads at (rw (e, first_fault) at h) in
-          and_from (test at step) (option_map_or (λ (next : Place). follows net test next steps) (moved net at step) false) (agree.passes at step e) (rw l.leads (ih l.next rest))
+          and_from (test at step) (option_map_or (λ (next : Location). follows net test next steps) (moved net at step) false) (agree.passes at step e) (rw l.leads (ih l.next rest))
 
-  follows_fault : (n : ℕ) (at : Place) (steps : List Step) → follows net test at steps ≡ true → first_fault net cause n at steps ≡ None
+  follows_fault : (n : ℕ) (at : Location) (steps : List Step) → follows net test at steps ≡ true → first_fault net cause n at steps ≡ None
   follows_fault n at [] h = refl
   follows_fault n at (step ∷ steps) h = go (moved net at step) refl (λ next. follows_fault (n + 1) next steps)
     where
-      parts : (test at step ≡ true) × (option_map_or (λ (next : Place). follows net test next steps) (moved net at step) false ≡ true)
-      parts = and_parts (test at step) (option_map_or (λ (next : Place). follows net test next steps) (moved net at step) false) h
+      parts : (test at step ≡ true) × (option_map_or (λ (next : Location). follows net test next steps) (moved net at step) false ≡ true)
+      parts = and_parts (test at step) (option_map_or (λ (next : Location). follows net test next steps) (moved net at step) false) h
 
-      go : (o : Option Place) → moved net at step ≡ o → ((next : Place) → follows net test next steps ≡ true → first_fault net cause (n + 1) next steps ≡ None) → first_fault net cause n at (step ∷ steps) ≡ None
+      go : (o : Option Location) → moved net at step ≡ o → ((next : Location) → follows net test next steps ≡ true → first_fault net cause (n + 1) next steps ≡ None) → first_fault net cause n at (step ∷ steps) ≡ None
       go None e ih = let x : false ≡ true = rw e at parts.1 in cc
       go (Some next) e ih = rw (agree.none at step next parts.0 e, first_fault) (rw e (ih next (rw e at parts.1)))
 
@@ -128,15 +128,15 @@ module _ (net : Net) (test : Place → Step → Bool) (cause : Place → Step �
 
 -- ---- under one set
 
-abbrev pub hop_judge : Net → List LinkId → Place → Step → Member → Option Cause
+abbrev pub hop_judge : Net → List LinkId → Location → Step → Member → Option Cause
 hop_judge net fails at step member = if is_first_active net fails at step.group then (if has fails member.link then Some LinkFailed else undefined_cause at.1 member) else Some NotFirstActive
 
-record Usable (net : Net) (fails : List LinkId) (at : Place) (step : Step) (member : Member) : Type 0 where
+record Usable (net : Net) (fails : List LinkId) (at : Location) (step : Step) (member : Member) : Type 0 where
   first : is_first_active net fails at step.group ≡ true
   alive : has fails member.link ≡ false
   defined : undefined_cause at.1 member ≡ None
 
-usable : (net : Net) (fails : List LinkId) (at : Place) (step : Step) (member : Member) → hop_judge net fails at step member ≡ None → Usable net fails at step member
+usable : (net : Net) (fails : List LinkId) (at : Location) (step : Step) (member : Member) → hop_judge net fails at step member ≡ None → Usable net fails at step member
 usable net fails at step member h = go (is_first_active net fails at step.group) (has fails member.link) refl refl
   where
     go : (b c : Bool) → is_first_active net fails at step.group ≡ b → has fails member.link ≡ c → Usable net fails at step member
@@ -144,7 +144,7 @@ usable net fails at step member h = go (is_first_active net fails at step.group)
     go true true eb ec = let e : Some LinkFailed ≡ None = rw ec at (rw eb at h) in cc
     go true false eb ec = record { first = eb; alive = ec; defined = rw ec at (rw eb at h) }
 
-usable_none : (net : Net) (fails : List LinkId) (at : Place) (step : Step) (member : Member) → Usable net fails at step member → hop_judge net fails at step member ≡ None
+usable_none : (net : Net) (fails : List LinkId) (at : Location) (step : Step) (member : Member) → Usable net fails at step member → hop_judge net fails at step member ≡ None
 usable_none net fails at step member u = rw (u.first, u.alive) u.defined
 
 pub hop_agrees : (net : Net) (fails : List LinkId) → Agree net (is_usable net fails) (hop_cause net fails)
@@ -180,7 +180,7 @@ fault_no_trace net fails run n cause h = false_from_ne_true (is_trace net fails 
 
 -- ---- in the moving world
 
-abbrev pub moving_judge : Net → Bounds → Place → Step → Member → Option Cause
+abbrev pub moving_judge : Net → Bounds → Location → Step → Member → Option Cause
 moving_judge net bounds at step member =
     if nat_lt bounds.k (risk_count net (outside (needed net at step) bounds.down)) then Some (TooManyBefore (risk_count net (outside (needed net at step) bounds.down)))
     else elim (find (λ e. has bounds.up e) (needed net at step)) [
@@ -188,14 +188,14 @@ moving_judge net bounds at step member =
       | None ↦ if has (needed net at step) member.link || has bounds.down member.link then Some LinkBefore else undefined_cause at.1 member
     ]
 
-record Spared (net : Net) (b : Bounds) (at : Place) (step : Step) (member : Member) : Type 0 where
+record Spared (net : Net) (b : Bounds) (at : Location) (step : Step) (member : Member) : Type 0 where
   few : nat_le (risk_count net (outside (needed net at step) b.down)) b.k ≡ true
   up : is_apart (needed net at step) b.up ≡ true
   spared : has (needed net at step) member.link ≡ false
   alive : has b.down member.link ≡ false
   defined : undefined_cause at.1 member ≡ None
 
-spared : (net : Net) (b : Bounds) (at : Place) (step : Step) (member : Member) → moving_judge net b at step member ≡ None → Spared net b at step member
+spared : (net : Net) (b : Bounds) (at : Location) (step : Step) (member : Member) → moving_judge net b at step member ≡ None → Spared net b at step member
 spared net b at step member h =
     go (nat_lt b.k (risk_count net (outside (needed net at step) b.down))) (find (λ x. has b.up x) (needed net at step)) (has (needed net at step) member.link || has b.down member.link) refl refl refl
   where

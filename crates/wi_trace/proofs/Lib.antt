@@ -3,6 +3,5 @@ pub mod FaultLemmas
 pub mod HopLemmas
 pub mod WalkLemmas
 pub mod NeedsLemmas
-pub mod PlayLemmas
 pub mod ReplayLemmas
 pub mod BoundsLemmas

@@ -14,36 +14,36 @@ use Rattle.wi_net.proofs.RisingLemmas.{rising_same}
 use Rattle.wi_net.proofs.WidenLemmas.{has-union, union_keeps_rising, union_rising, or_assoc, or_comm}
 use Rattle.wi_world.specs.declared.run.Step.{Step}
 use Rattle.wi_world.specs.declared.run.Run.{Run}
-use Rattle.wi_world.specs.Moves.{Place, groups_at, moved, needed, AreBounds}
+use Rattle.wi_world.specs.Moves.{Location, groups_at, moved, needed, AreBounds}
 use Rattle.wi_world.specs.Runs.{is_needed, needs}
 use Rattle.wi_world.proofs.Allowed.{before_union}
 use Rattle.wi_trace.specs.Hops.{gathered}
 
-has-gathered : (net : Net) (s : List LinkId) (at : Place) (steps : List Step) (e : LinkId) → has (gathered net s at steps) e ≡ (has s e || is_needed net e at steps)
+has-gathered : (net : Net) (s : List LinkId) (at : Location) (steps : List Step) (e : LinkId) → has (gathered net s at steps) e ≡ (has s e || is_needed net e at steps)
 has-gathered net s at [] e = or_comm false (has s e)
 has-gathered net s at (step ∷ steps) e = go (moved net at step) refl (λ next. has-gathered net (union s (needed net at step)) next steps e)
   where
-    go : (o : Option Place) → moved net at step ≡ o → ((next : Place) → has (gathered net (union s (needed net at step)) next steps) e ≡ (has (union s (needed net at step)) e || is_needed net e next steps)) → has (gathered net s at (step ∷ steps)) e ≡ (has s e || is_needed net e at (step ∷ steps))
+    go : (o : Option Location) → moved net at step ≡ o → ((next : Location) → has (gathered net (union s (needed net at step)) next steps) e ≡ (has (union s (needed net at step)) e || is_needed net e next steps)) → has (gathered net s at (step ∷ steps)) e ≡ (has s e || is_needed net e at (step ∷ steps))
     go None m ih = rw m (has-union s (needed net at step) e ∙ ap (λ b. has s e || b) (or_comm false (has (needed net at step) e)))
     go (Some next) m ih = rw m (ih next ∙ ap (λ b. b || is_needed net e next steps) (has-union s (needed net at step) e) ∙ sym (or_assoc (has s e) (has (needed net at step) e) (is_needed net e next steps)))
 
-gathered_rising : (net : Net) (s : List LinkId) (at : Place) (steps : List Step) → is_rising s ≡ true → is_rising (gathered net s at steps) ≡ true
+gathered_rising : (net : Net) (s : List LinkId) (at : Location) (steps : List Step) → is_rising s ≡ true → is_rising (gathered net s at steps) ≡ true
 gathered_rising net s at [] r = r
 gathered_rising net s at (step ∷ steps) r = go (moved net at step) refl (λ next. gathered_rising net (union s (needed net at step)) next steps (union_keeps_rising s (needed net at step) r))
   where
-    go : (o : Option Place) → moved net at step ≡ o → ((next : Place) → is_rising (gathered net (union s (needed net at step)) next steps) ≡ true) → is_rising (gathered net s at (step ∷ steps)) ≡ true
+    go : (o : Option Location) → moved net at step ≡ o → ((next : Location) → is_rising (gathered net (union s (needed net at step)) next steps) ≡ true) → is_rising (gathered net s at (step ∷ steps)) ≡ true
     go None m ih = rw m (union_keeps_rising s (needed net at step) r)
     go (Some next) m ih = rw m (ih next)
 
-needed_link : (net : Net) (at : Place) (steps : List Step) (e : LinkId) → is_needed net e at steps ≡ true → is_link net e ≡ true
+needed_link : (net : Net) (at : Location) (steps : List Step) (e : LinkId) → is_needed net e at steps ≡ true → is_link net e ≡ true
 needed_link net at [] e h = cc
 needed_link net at (step ∷ steps) e h =
-    elim (or_cases (has (needed net at step) e) (option_map_or (λ (n : Place). is_needed net e n steps) (moved net at step) false) h) [
+    elim (or_cases (has (needed net at step) e) (option_map_or (λ (n : Location). is_needed net e n steps) (moved net at step) false) h) [
       | inl now ↦ union_link net (needed net at step) e (before_union net (groups_at net at.0 at.1) step.group) now
       | inr later ↦ carry (moved net at step) (λ n. needed_link net n steps e) later
     ]
   where
-    carry : (o : Option Place) → ((n : Place) → is_needed net e n steps ≡ true → is_link net e ≡ true) → option_map_or (λ (n : Place). is_needed net e n steps) o false ≡ true → is_link net e ≡ true
+    carry : (o : Option Location) → ((n : Location) → is_needed net e n steps ≡ true → is_link net e ≡ true) → option_map_or (λ (n : Location). is_needed net e n steps) o false ≡ true → is_link net e ≡ true
     carry None ih i = cc
     carry (Some n) ih i = ih n i
 

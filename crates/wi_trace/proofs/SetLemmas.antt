@@ -1,10 +1,10 @@
--- Counting risk groups link by link.
-use Rattle.std.proofs.Common.{◌≡◌, ℕ, ◌+◌, ◌≤◌, Bool, true, false, not, cond, ◌&&◌, nat_eq, List, [], ◌∷◌, ap, length, drop, slice_get, Some, refl, arith, sym, ◌∙◌}
-use Rattle.std.proofs.lemmas.Bool.Decides.{nat_tests}
-use Rattle.std.proofs.lemmas.List.{drop_all}
+-- Going through a set link by link: counting risk groups, and adding links to another one.
+use Rattle.std.proofs.Common.{◌≡◌, ℕ, zero, suc, ◌+◌, ◌≤◌, Bool, true, false, not, cond, ◌&&◌, nat_eq, List, [], ◌∷◌, ap, length, take, drop, slice_get, Some, refl, arith, sym, ◌∙◌, add-one}
+use Rattle.std.proofs.lemmas.List.{take_all}
 use Rattle.wi_labels.proofs.HeaderLemmas.{drop_at}
 use Rattle.wi_net.specs.declared.parts.LinkId.{LinkId}
-use Rattle.wi_net.specs.LinkSet.{has, without, outside}
+use Rattle.wi_net.specs.LinkSet.{has, with_link, outside}
+use Rattle.wi_net.specs.RiskGroups.{union}
 use Rattle.wi_net.specs.Net.{Net, risk_of, risk_count}
 
 -- a link counts where it isn't known, and names its risk group
@@ -37,22 +37,16 @@ count_none net known s i e n m total b is h counts b_is m_is =
     let on : n + 0 + risk_count net (outside (drop (i + 1) s) known) ≡ total = rw c at (count_on net known s i e n total is h) in
     rw m_is (omega (arith, on))
 
-flip : (m n : ℕ) → nat_eq m n ≡ nat_eq n m
-flip m n = grind (arith, nat_tests)
+-- ---- a set with the first links of another one
 
--- taking out one link and then others is taking out all
-pub outside_next : (s : List LinkId) (e : LinkId) (es : List LinkId) → outside (without s e) es ≡ outside s (e ∷ es)
-outside_next [] e es = refl
-outside_next (x ∷ s) e es = go (nat_eq x.0 e.0) (has es x) refl refl (outside_next s e es)
-  where
-    go : (b c : Bool) → nat_eq x.0 e.0 ≡ b → has es x ≡ c → outside (without s e) es ≡ outside s (e ∷ es) → outside (without (x ∷ s) e) es ≡ outside (x ∷ s) (e ∷ es)
-    go true c eb ec rest = rw (eb, flip e.0 x.0, eb) rest
-    go false true eb ec rest = rw (eb, flip e.0 x.0, eb, ec) rest
-    go false false eb ec rest = rw (eb, flip e.0 x.0, eb, ec) (ap (λ t. x ∷ t) rest)
+added_more : (s more : List LinkId) (i : ℕ) (e : LinkId) → slice_get more i ≡ Some e → union s (take (suc i) more) ≡ with_link (union s (take i more)) e
+added_more s [] zero e is = cc
+added_more s [] (suc i) e is = cc
+added_more s (x ∷ more) zero e is = let same : x ≡ e = cc in ap (with_link s) same
+added_more s (x ∷ more) (suc i) e is = added_more (with_link s x) more i e is
 
-pub outside_none : (s : List LinkId) → outside s [] ≡ s
-outside_none [] = refl
-outside_none (x ∷ s) = ap (λ t. x ∷ t) (outside_none s)
+pub added_next : (s more : List LinkId) (i : ℕ) (e : LinkId) → slice_get more i ≡ Some e → union s (take (i + 1) more) ≡ with_link (union s (take i more)) e
+added_next s more i e is = rw (add-one i) (added_more s more i e is)
 
-pub outside_end : (s fewer whole : List LinkId) (i : ℕ) → outside s (drop i fewer) ≡ whole → length fewer ≤ i → s ≡ whole
-outside_end s fewer whole i kept all = sym (outside_none s) ∙ (rw (drop_all i fewer all) at kept)
+pub added_all : (s more : List LinkId) (i : ℕ) → length more ≤ i → union s (take i more) ≡ union s more
+added_all s more i all = ap (union s) (take_all i more all)

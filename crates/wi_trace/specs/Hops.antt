@@ -12,8 +12,8 @@ use Rattle.wi_net.specs.LinkSet.{has, outside}
 use Rattle.wi_net.specs.Net.{Net, risk_count, first_active, before}
 use Rattle.wi_net.specs.RiskGroups.{union}
 use Rattle.wi_world.specs.declared.run.Step.{Step}
-use Rattle.wi_world.specs.Moves.{Place, moved, needed}
-use Rattle.wi_world.specs.Runs.{places}
+use Rattle.wi_world.specs.Moves.{Location, moved, needed}
+use Rattle.wi_world.specs.Runs.{locations}
 use Rattle.wi_trace.specs.declared.cause.Cause.{Cause}
 use Rattle.wi_trace.specs.declared.cause.Cause.TheVariants.{NoGroup, NoMember, NotFirstActive, LinkFailed, TooManyBefore, NeedsUp, LinkBefore}
 use Rattle.wi_trace.specs.declared.hop.World.{World}
@@ -54,21 +54,21 @@ against (Fixed fails) net groups j e = fixed_against fails.now groups j e
 against (Moving bounds) net groups j e = moving_against net bounds.now (before net groups j) e
 
 -- why a step isn't taken, in a world
-abbrev pub cause_in : World → Net → Place → Step → Option Cause
+abbrev pub cause_in : World → Net → Location → Step → Option Cause
 cause_in (Fixed fails) net at step = hop_cause net fails.now at step
 cause_in (Moving bounds) net at step = moving_cause net bounds.now at step
 
 -- a packet goes by a member, or one of its operations isn't defined
-abbrev pub Goes : Member → Place → Applied → Place → Type 0
+abbrev pub Goes : Member → Location → Applied → Location → Type 0
 Goes member old Done new = (outcome 0 member.ops old.1 ≡ Ok new.1) × (new.0 ≡ member.link)
 Goes member old (Undefined i) new = outcome 0 member.ops old.1 ≡ Err i
 
 -- a set with what each step needs, as far as the steps lead
-abbrev pub gathered : Net → List LinkId → Place → List Step → List LinkId
+abbrev pub gathered : Net → List LinkId → Location → List Step → List LinkId
 gathered net s at [] = s
 gathered net s at (step ∷ steps) =
     option_map_or (λ next. gathered net (union s (needed net at step)) next steps) (moved net at step) (union s (needed net at step))
 
 -- the first link of a packet that is in a set
-abbrev pub used_in : Net → List LinkId → Place → List Step → Option LinkId
-used_in net s at steps = find (λ e. has s e) (map (λ (place : Place). place.0) (places net at steps))
+abbrev pub used_in : Net → List LinkId → Location → List Step → Option LinkId
+used_in net s at steps = find (λ e. has s e) (map (λ (place : Location). place.0) (locations net at steps))

@@ -1,4 +1,2 @@
 pub mod Replays
 pub mod Hops
-pub mod Plays
-pub mod Moments

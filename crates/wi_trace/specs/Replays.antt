@@ -11,7 +11,7 @@ use Rattle.wi_net.specs.LinkSet.{has, outside}
 use Rattle.wi_net.specs.Net.{Net, risk_count, first_active}
 use Rattle.wi_world.specs.declared.run.Step.{Step}
 use Rattle.wi_world.specs.declared.run.Run.{Run}
-use Rattle.wi_world.specs.Moves.{Place, groups_at, moved, needed, is_start, is_trace}
+use Rattle.wi_world.specs.Moves.{Location, groups_at, moved, needed, is_start, is_trace}
 use Rattle.wi_world.specs.Moving.{IsMovingRun}
 use Rattle.wi_trace.specs.declared.cause.Cause.{Cause}
 use Rattle.wi_trace.specs.declared.cause.Cause.TheVariants.{BadStart, NoGroup, NoMember, NotFirstActive, LinkFailed, TooManyBefore, NeedsUp, LinkBefore, Undefined}
@@ -23,7 +23,7 @@ abbrev pub undefined_cause : List Entry → Member → Option Cause
 undefined_cause header member = elim (outcome 0 member.ops header) [ Ok next ↦ None | Err i ↦ Some (Undefined i) ]
 
 -- why a step's member doesn't lead on: it isn't there, or is judged so
-abbrev pub member_cause : (Member → Option Cause) → Net → Place → Step → Option Cause
+abbrev pub member_cause : (Member → Option Cause) → Net → Location → Step → Option Cause
 member_cause judge net at step =
     elim (slice_get (groups_at net at.0 at.1) step.group) [
       | None ↦ Some NoGroup
@@ -31,18 +31,18 @@ member_cause judge net at step =
     ]
 
 -- the group is the first that has a link outside the set
-abbrev pub is_first_active : Net → List LinkId → Place → ℕ → Bool
+abbrev pub is_first_active : Net → List LinkId → Location → ℕ → Bool
 is_first_active net fails at j = option_map_or (λ i. i == j) (first_active fails (groups_at net at.0 at.1)) false
 
 -- why a step isn't a hop under a set of failed links
-abbrev pub hop_cause : Net → List LinkId → Place → Step → Option Cause
+abbrev pub hop_cause : Net → List LinkId → Location → Step → Option Cause
 hop_cause net fails at step =
     member_cause (λ member.
     if is_first_active net fails at step.group then (if has fails member.link then Some LinkFailed else undefined_cause at.1 member)
     else Some NotFirstActive) net at step
 
 -- why a step is a hop at no moment: what it needs is too much, or has a link that is known up; or its own link is down then
-abbrev pub moving_cause : Net → Bounds → Place → Step → Option Cause
+abbrev pub moving_cause : Net → Bounds → Location → Step → Option Cause
 moving_cause net bounds at step =
     member_cause (λ member.
     if nat_lt bounds.k (risk_count net (outside (needed net at step) bounds.down)) then Some (TooManyBefore (risk_count net (outside (needed net at step) bounds.down)))
@@ -52,7 +52,7 @@ moving_cause net bounds at step =
     ]) net at step
 
 -- the first of the steps, counted from a number, that has a cause
-abbrev pub first_fault : Net → (Place → Step → Option Cause) → ℕ → Place → List Step → Option (ℕ × Cause)
+abbrev pub first_fault : Net → (Location → Step → Option Cause) → ℕ → Location → List Step → Option (ℕ × Cause)
 first_fault net cause n at [] = None
 first_fault net cause n at (step ∷ steps) =
     elim (cause at step) [
@@ -61,7 +61,7 @@ first_fault net cause n at (step ∷ steps) =
     ]
 
 -- the start is step 0, and the steps count from 1
-abbrev pub run_fault : Net → List LinkId → (Place → Step → Option Cause) → Run → Option (ℕ × Cause)
+abbrev pub run_fault : Net → List LinkId → (Location → Step → Option Cause) → Run → Option (ℕ × Cause)
 run_fault net down cause run = if is_start net down run.first run.header then first_fault net cause 1 (run.first, run.header) run.steps else Some (0, BadStart)
 
 -- the first fault of a run as a trace under a set, and as a run of the moving world

@@ -1,7 +1,8 @@
 //! Single steps.
-ghost use Rattle.std.specs.Prelude.{◌≡◌, ℕ, true, false, IfOk, IfErr, OnOk};
+ghost use Rattle.std.specs.Prelude.{◌≡◌, ℕ, true, false, IfOk, IfErr, OnErr, OnOk};
 ghost use Rattle.wi_world.specs.Moves.{groups_at, moved};
 ghost use Rattle.wi_trace.specs.declared.cause.Cause.{Cause};
+ghost use Rattle.wi_trace.specs.Replays.{hop_cause};
 ghost use Rattle.wi_trace.specs.Hops.{named, is_first, fixed_against, moving_against, against, cause_in, Goes};
 
 use crate::cause::{Cause, ReplayRefused};
@@ -13,7 +14,7 @@ use wi_net::{Bounds, FailSet, Group, LinkId, Member, Network, first_active};
 use wi_world::Step;
 
 /// A link, and the header that a packet has on it.
-pub(crate) type Place = (LinkId, Header);
+pub type Location = (LinkId, Header);
 
 /// Which steps may be taken.
 #[derive(Clone, Copy)]
@@ -35,7 +36,7 @@ pub(crate) fn twin_of(header: &Header) -> Result<Header, NoMemory>
 }
 
 /// The groups that the tables have for a place.
-pub(crate) fn groups_of<'a>(net: &'a Network, at: &Place) -> &'a [Group]
+pub(crate) fn groups_of<'a>(net: &'a Network, at: &Location) -> &'a [Group]
     ensures { result.now ≡ groups_at net.now at.now.0 at.now.1 }
 {
     match at.1.at(0) {
@@ -123,13 +124,14 @@ pub(crate) fn hop(
     alloc: Global,
     net: &Network,
     world: &World,
-    at: &mut Place,
+    at: &mut Location,
     number: usize,
     step: Step,
 ) -> Result<(), ReplayRefused>
     ensures none { OnOk result (cause_in world.now net.now at.old step ≡ None) }
     ensures on { OnOk result (moved net.now at.old step ≡ Some at.new) }
     ensures fault { (n : ℕ) (cause : Cause) → result ≡ Err (ReplayRefused.Fault n cause) → (n ≡ number) × (cause_in world.now net.now at.old step ≡ Some cause) }
+    ensures kept { OnErr result (at.new ≡ at.old) }
 {
     let groups = groups_of(net, at);
     let member = match named(groups, step) {
@@ -154,8 +156,29 @@ pub(crate) fn hop(
     }
 }
 
+/// Takes a step, if it is a hop while just these links are failed. If it isn't, the answer is its first cause, and the packet
+/// is where it was; so it is where memory runs out.
+pub fn hop_under(
+    alloc: Global,
+    net: &Network,
+    fails: &FailSet,
+    at: &mut Location,
+    step: Step,
+) -> Result<Option<Cause>, NoMemory>
+    ensures cause { IfOk result (λ cause. cause ≡ hop_cause net.now fails.now at.old step) }
+    ensures on { result ≡ Ok None → moved net.now at.old step ≡ Some at.new }
+    ensures kept { (cause : Cause) → result ≡ Ok (Some cause) → at.new ≡ at.old }
+    ensures err { OnErr result (at.new ≡ at.old) }
+{
+    match hop(alloc, net, &World::Fixed(fails), at, 0, step) {
+        Ok(()) => Ok(None),
+        Err(ReplayRefused::Fault { step: _, cause }) => Ok(Some(cause)),
+        Err(ReplayRefused::Memory) => Err(NoMemory::Memory),
+    }
+}
+
 /// Where a step leads, whatever is failed. It answers whether it leads on.
-pub(crate) fn follow(net: &Network, at: &mut Place, step: Step) -> Result<bool, NoMemory>
+pub(crate) fn follow(net: &Network, at: &mut Location, step: Step) -> Result<bool, NoMemory>
     ensures on { result ≡ Ok true → moved net.now at.old step ≡ Some at.new }
     ensures off { result ≡ Ok false → moved net.now at.old step ≡ None }
 {
@@ -170,8 +193,10 @@ pub(crate) fn follow(net: &Network, at: &mut Place, step: Step) -> Result<bool, 
 }
 
 // Goes by a member.
-fn apply(member: &Member, at: &mut Place) -> Result<Applied, NoMemory>
-    ensures { IfOk result (λ answer. Goes member.now at.old answer at.new) }
+fn apply(member: &Member, at: &mut Location) -> Result<Applied, NoMemory>
+    ensures goes { IfOk result (λ answer. Goes member.now at.old answer at.new) }
+    ensures kept { (i : ℕ) → result ≡ Ok (Applied.Undefined i) → at.new ≡ at.old }
+    ensures err { OnErr result (at.new ≡ at.old) }
 {
     match at.1.apply(member.ops.as_slice()) {
         Ok(Applied::Done) => {

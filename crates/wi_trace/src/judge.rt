@@ -4,7 +4,7 @@ ghost use Rattle.wi_world.specs.Moves.{AreBounds};
 ghost use Rattle.wi_world.specs.Runs.{needs, verdict_of};
 ghost use Rattle.wi_trace.specs.Hops.{gathered, used_in};
 
-use crate::hop::{Place, follow, groups_of, twin_of};
+use crate::hop::{Location, follow, groups_of, twin_of};
 use crate::sets::{count_outside, insert_all};
 use std::alloc::Global;
 use wi_base::NoMemory;
@@ -28,7 +28,7 @@ pub fn needs(alloc: Global, net: &Network, run: &Run, bounds: &Bounds) -> Result
 fn gather(
     alloc: Global,
     net: &Network,
-    mut at: Place,
+    mut at: Location,
     mut all: FailSet,
     steps: &[Step],
 ) -> Result<FailSet, NoMemory>
@@ -70,7 +70,7 @@ pub fn verdict(
 #[tactic(auto, using(crate::proofs::WalkLemmas::used_laws))]
 fn first_used(
     net: &Network,
-    mut at: Place,
+    mut at: Location,
     set: &FailSet,
     steps: &[Step],
 ) -> Result<Option<LinkId>, NoMemory>

@@ -6,19 +6,18 @@ mod cause;
 mod hop;
 mod judge;
 mod laws;
-mod plays;
 mod replays;
 mod sets;
 mod start;
 
 pub use answer::Answer;
 pub use cause::{Cause, ReplayRefused};
+pub use hop::{Location, hop_under};
 pub use judge::{needs, verdict};
 pub use laws::{a_run_without_a_fault_is_a_trace, a_run_without_a_moving_fault_is_possible};
-pub use plays::play;
 pub use replays::{Trace, replay, replay_moving};
-pub use wi_script::{Script, ScriptCause, ScriptRefused, read_script};
-pub use wi_world::{Event, Run, State, Step, Verdict, Word};
+pub use sets::{insert_all, nth};
+pub use wi_world::{Run, Step, Verdict, Word};
 
 #[cfg(test)]
 mod tests;

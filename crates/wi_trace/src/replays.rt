@@ -2,13 +2,13 @@
 ghost use Rattle.std.specs.Prelude.{◌≡◌, ℕ, ◌++◌, ◌∷◌, [], true, None, Some, Err, IfOk, IfErr, OnOk};
 ghost use Rattle.wi_world.specs.Moves.{is_trace, AreBounds};
 ghost use Rattle.wi_world.specs.Moving.{IsMovingRun};
-ghost use Rattle.wi_world.specs.Runs.{places, trace_of};
+ghost use Rattle.wi_world.specs.Runs.{locations, trace_of};
 ghost use Rattle.wi_trace.specs.declared.cause.Cause.{Cause};
 ghost use Rattle.wi_trace.specs.Replays.{first_fault, run_fault, IsNoTrace, IsNoMovingRun};
 ghost use Rattle.wi_trace.specs.Hops.{cause_in};
 
 use crate::cause::{Cause, ReplayRefused};
-use crate::hop::{Place, World, hop, twin_of};
+use crate::hop::{Location, World, hop, twin_of};
 use crate::start::is_start;
 use std::alloc::Global;
 use wi_base::{Listed, NoMemory};
@@ -78,11 +78,11 @@ fn walk(
     alloc: Global,
     net: &Network,
     world: &World,
-    mut at: Place,
+    mut at: Location,
     steps: &[Step],
-) -> Result<Vec<Place>, ReplayRefused>
+) -> Result<Vec<Location>, ReplayRefused>
     ensures none { OnOk result (first_fault net.now (cause_in world.now net.now) 1 at steps.now ≡ None) }
-    ensures trace { IfOk result (λ trace. trace.items ≡ places net.now at steps.now) }
+    ensures trace { IfOk result (λ trace. trace.items ≡ locations net.now at steps.now) }
     ensures fault { (n : ℕ) (cause : Cause) → result ≡ Err (ReplayRefused.Fault n cause) → first_fault net.now (cause_in world.now net.now) 1 at steps.now ≡ Some (n, cause) }
 {
     let mut trace = Vec::new(alloc);
@@ -95,7 +95,7 @@ fn walk(
 }
 
 // Notes a place.
-fn note(trace: &mut Vec<Place>, at: &Place) -> Result<(), NoMemory>
+fn note(trace: &mut Vec<Location>, at: &Location) -> Result<(), NoMemory>
     ensures { OnOk result (trace.new.items ≡ trace.old.items ++ at.now ∷ []) }
 {
     let header = twin_of(&at.1)?;

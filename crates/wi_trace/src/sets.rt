@@ -1,5 +1,5 @@
 //! Sets of links, beside a second one.
-ghost use Rattle.std.specs.Prelude.{◌≡◌, ◌<◌, ◌&&◌, ◌==◌, not, length, slice_get, OnOk};
+ghost use Rattle.std.specs.Prelude.{◌≡◌, ◌<◌, ◌&&◌, ◌==◌, ℕ, not, length, slice_get, take, OnErr, OnOk};
 ghost use Rattle.std.specs.List.{find};
 ghost use Rattle.wi_net.specs.LinkSet.{has, outside};
 ghost use Rattle.wi_net.specs.Net.{risk_of, risk_count};
@@ -8,8 +8,8 @@ ghost use Rattle.wi_net.specs.RiskGroups.{union};
 use wi_base::NoMemory;
 use wi_net::{FailSet, LinkId, Network};
 
-// The link at a place.
-fn nth(set: &FailSet, i: usize) -> LinkId
+/// The link at a place of a set, in rising order. It takes no memory.
+pub fn nth(set: &FailSet, i: usize) -> LinkId
     requires { i < length set.now }
     ensures { slice_get set.now i ≡ Some result }
 {
@@ -50,23 +50,13 @@ pub(crate) fn first_in(set: &FailSet, other: &FailSet) -> Option<LinkId>
     None
 }
 
-/// Adds each link of another set. Where memory runs out, some may have been added.
-#[tactic(auto, using(wi_labels::proofs::HeaderLemmas::drop_at))]
-pub(crate) fn insert_all(set: &mut FailSet, more: &FailSet) -> Result<(), NoMemory>
-    ensures { OnOk result (set.new ≡ union set.old more.now) }
+/// Adds each link of another set, in rising order. Where memory runs out, the first so many of them have been added.
+pub fn insert_all(set: &mut FailSet, more: &FailSet) -> Result<(), NoMemory>
+    ensures ok { OnOk result (set.new ≡ union set.old more.now) }
+    ensures err { OnErr result ((n : ℕ) × (set.new ≡ union set.old (take n more.now))) }
 {
     for i in 0..more.len() {
         set.insert(nth(more, i))?;
     }
     Ok(())
-}
-
-/// Takes each link of another set out. It takes no memory.
-#[tactic(auto, using(wi_labels::proofs::HeaderLemmas::drop_at, crate::proofs::SetLemmas::outside_next, crate::proofs::SetLemmas::outside_none))]
-pub(crate) fn remove_all(set: &mut FailSet, fewer: &FailSet)
-    ensures { set.new ≡ outside set.old fewer.now }
-{
-    for i in 0..fewer.len() {
-        set.remove(nth(fewer, i));
-    }
 }

@@ -3,10 +3,17 @@ ghost use Rattle.std.specs.Prelude.{◌≡◌, [], IfOk};
 ghost use Rattle.wi_net.specs.Net.{widened};
 ghost use Rattle.wi_world.specs.Moves.{AreBounds};
 
+use self::Expected::{Exceeds, Fits, UsesFailed};
+use self::Outcome::{Along, Stops};
+use self::Shown::{Moving, Needs, Under};
+use crate::Cause::{
+    BadStart, LinkBefore, LinkFailed, NeedsUp, NoGroup, NoMember, NotFirstActive, TooManyBefore,
+    Undefined,
+};
 use crate::sets::first_in;
 use crate::{
-    Cause, ReplayRefused, Run, ScriptCause, ScriptRefused, State, Step, Trace, Verdict, needs,
-    play, read_script, replay, replay_moving, verdict,
+    Cause, Location, ReplayRefused, Run, Step, Trace, Verdict, hop_under, insert_all, needs,
+    replay, replay_moving, verdict,
 };
 use std::alloc::{AllocError, Global};
 use std::process::Abort;
@@ -41,7 +48,7 @@ type Way<'a> = (u32, &'a [Op]);
 type RowOf<'a> = (u32, (Label, Class), &'a [&'a [Way<'a>]]);
 
 // A link, and a header.
-type PlaceOf<'a> = (u32, &'a [(Label, Class)]);
+type LocationOf<'a> = (u32, &'a [(Label, Class)]);
 
 // k, what is down, and what is up.
 type Limits<'a> = (u32, &'a [u32], &'a [u32]);
@@ -67,8 +74,8 @@ const TO_Z: Ends = ("b", "z", "z", "b");
 
 const BACK_TO_A: Ends = ("c", "a2", "a", "c2");
 
-// The places on the way by c and b to y.
-const AROUND_PLACES: &[PlaceOf] = &[
+// The locations on the way by c and b to y.
+const AROUND_LOCATIONS: &[LocationOf] = &[
     (0, &[IP1]),
     (2, &[L30, S10, IP1]),
     (3, &[S10, IP1]),
@@ -109,19 +116,24 @@ fn add_link(
     Ok(())
 }
 
+const ROUTERS: &[&str] = &["x", "a", "b", "c", "y", "z"];
+
 // From x to a, from a to b and c, from c to b, and from b to y. The links from a to b and from b to y may be in one risk group.
+const LINKS: &[(Ends, u32, bool)] = &[
+    (("x", "o", "a", "x"), 1, false),
+    (("a", "b", "b", "a"), 1, true),
+    (("a", "c", "c", "a"), 2, false),
+    (("c", "b", "b", "c"), 2, false),
+    (("b", "y", "y", "b"), 1, true),
+];
+
 fn add_links(builder: &mut NetworkBuilder, group: Option<&str>) -> Result<(), BuildRefused> {
-    for name in ["x", "a", "b", "c", "y", "z"] {
+    for name in ROUTERS {
         builder.router(name)?;
     }
-    for (ends, distance, group) in [
-        (("x", "o", "a", "x"), 1, None),
-        (("a", "b", "b", "a"), 1, group),
-        (("a", "c", "c", "a"), 2, None),
-        (("c", "b", "b", "c"), 2, None),
-        (("b", "y", "y", "b"), 1, group),
-    ] {
-        add_link(builder, ends, distance, group)?;
+    for (ends, distance, grouped) in LINKS {
+        let group = if *grouped { group } else { None };
+        add_link(builder, *ends, *distance, group)?;
     }
     Ok(())
 }
@@ -156,7 +168,25 @@ fn add_rows(alloc: Global, builder: &mut NetworkBuilder, rows: &[RowOf]) -> Resu
     Ok(())
 }
 
-// A network with such links, maybe a sixth one, and these rows.
+// Such links, maybe a sixth one, and these rows.
+fn fill(
+    alloc: Global,
+    builder: &mut NetworkBuilder,
+    group: Option<&str>,
+    sixth: Option<Ends>,
+    rows: &[RowOf],
+) -> Result<(), Fail>
+    requires { builder.old.net.classes ≡ [] }
+{
+    add_labels(builder)?;
+    add_links(builder, group)?;
+    if let Some(ends) = sixth {
+        add_link(builder, ends, 1, None)?;
+    }
+    add_rows(alloc, builder, rows)
+}
+
+// No builder is left where a path ends: each part of one that is let go takes its own proof.
 fn network(
     alloc: Global,
     group: Option<&str>,
@@ -164,32 +194,33 @@ fn network(
     rows: &[RowOf],
 ) -> Result<Network, Fail> {
     let mut builder = NetworkBuilder::new(alloc);
-    add_labels(&mut builder)?;
-    add_links(&mut builder, group)?;
-    if let Some(ends) = sixth {
-        add_link(&mut builder, ends, 1, None)?;
+    match fill(alloc, &mut builder, group, sixth, rows) {
+        Ok(()) => Ok(builder.finish()?),
+        Err(fail) => {
+            drop(builder);
+            Err(fail)
+        }
     }
-    add_rows(alloc, &mut builder, rows)?;
-    Ok(builder.finish()?)
 }
 
-fn small(alloc: Global) -> Result<Network, Fail> {
-    network(alloc, None, None, &[AT_A, FROM_A, AT_C, FROM_C])
+const SMALL: &[RowOf] = &[AT_A, FROM_A, AT_C, FROM_C];
+
+fn small(alloc: Global, group: Option<&str>) -> Result<Network, Fail> {
+    network(alloc, group, None, SMALL)
 }
+
+const LARGE: &[RowOf] = &[AT_A, FROM_A, AT_C, FROM_C_OR_Z];
 
 // From b there is a second way, to z.
 fn large(alloc: Global, group: Option<&str>) -> Result<Network, Fail> {
-    network(alloc, group, Some(TO_Z), &[AT_A, FROM_A, AT_C, FROM_C_OR_Z])
+    network(alloc, group, Some(TO_Z), LARGE)
 }
+
+const RETURNING: &[RowOf] = &[AT_A, FROM_A, AT_C_BACK, FROM_C, AT_A_AGAIN];
 
 // What came to c goes back to a, and from there to b.
 fn returning(alloc: Global) -> Result<Network, Fail> {
-    network(
-        alloc,
-        None,
-        Some(BACK_TO_A),
-        &[AT_A, FROM_A, AT_C_BACK, FROM_C, AT_A_AGAIN],
-    )
+    network(alloc, None, Some(BACK_TO_A), RETURNING)
 }
 
 // Another table at a.
@@ -198,7 +229,9 @@ fn turned(alloc: Global, at_a: &[&[Way]]) -> Result<Network, Fail> {
 }
 
 // A function of its own, so that no test shows each part that is let go.
-fn discard(_net: Network) {}
+fn discard(net: Network) {
+    drop(net)
+}
 
 fn set(alloc: Global, links: &[u32]) -> Result<FailSet, Fail> {
     let mut set = FailSet::new(alloc);
@@ -233,7 +266,11 @@ fn bounds(alloc: Global, net: &Network, limits: Limits) -> Result<Bounds, Fail>
     }
 }
 
-fn run(alloc: Global, place: PlaceOf, steps: &[(u32, u32)]) -> Result<Run, Fail> {
+fn location(alloc: Global, at: LocationOf) -> Result<Location, Fail> {
+    Ok((LinkId(at.0), Header::from_labels(alloc, at.1)?))
+}
+
+fn run(alloc: Global, at: LocationOf, steps: &[(u32, u32)]) -> Result<Run, Fail> {
     let mut listed = Vec::new(alloc);
     for (group, member) in steps {
         let step = Step {
@@ -242,16 +279,12 @@ fn run(alloc: Global, place: PlaceOf, steps: &[(u32, u32)]) -> Result<Run, Fail>
         };
         listed.push(step).map_err(AllocError::from)?;
     }
+    let (first, header) = location(alloc, at)?;
     Ok(Run {
-        first: LinkId(place.0),
-        header: Header::from_labels(alloc, place.1)?,
+        first,
+        header,
         steps: Listed::of(listed),
     })
-}
-
-// A run from x.
-fn from_x(alloc: Global, steps: &[(u32, u32)]) -> Result<Run, Fail> {
-    run(alloc, (0, &[IP1]), steps)
 }
 
 fn header_is(rt: &impl Abort, header: &Header, labels: &[(Label, Class)]) {
@@ -261,79 +294,17 @@ fn header_is(rt: &impl Abort, header: &Header, labels: &[(Label, Class)]) {
     }
 }
 
-fn trace_is(rt: &impl Abort, trace: &Trace, places: &[PlaceOf]) {
-    assert_eq!(rt; trace.as_slice().len(), places.len());
-    for (at, (link, labels)) in trace.as_slice().iter().zip(places) {
-        assert_eq!(rt; at.0, LinkId(*link));
-        header_is(rt, &at.1, labels);
+fn trace_is(rt: &impl Abort, trace: &Trace, locations: &[LocationOf]) {
+    assert_eq!(rt; trace.as_slice().len(), locations.len());
+    for (at, expected) in trace.as_slice().iter().zip(locations) {
+        location_is(rt, at, expected);
     }
 }
 
-fn is_refused(rt: &impl Abort, replayed: &Result<Trace, ReplayRefused>, fault: (usize, Cause)) {
-    let (step, cause) = fault;
-    match replayed {
-        Ok(_) => assert!(rt; false),
-        Err(refused) => assert_eq!(rt; *refused, ReplayRefused::Fault { step, cause }),
-    }
-}
-
-// The trace of a run under a set of failed links.
-fn traces(
-    rt: &impl Abort,
-    alloc: Global,
-    net: &Network,
-    fails: &[u32],
-    steps: &[(u32, u32)],
-    places: &[PlaceOf],
-) -> Result<(), Fail> {
-    let fails = set(alloc, fails)?;
-    let run = from_x(alloc, steps)?;
-    trace_is(rt, &replay(alloc, net, &fails, &run)?, places);
-    Ok(())
-}
-
-// The fault of a run under a set of failed links.
-fn faults(
-    rt: &impl Abort,
-    alloc: Global,
-    net: &Network,
-    fails: &[u32],
-    run: &Run,
-    fault: (usize, Cause),
-) -> Result<(), Fail> {
-    let fails = set(alloc, fails)?;
-    is_refused(rt, &replay(alloc, net, &fails, run), fault);
-    Ok(())
-}
-
-// The trace of a run of the moving world.
-fn moves(
-    rt: &impl Abort,
-    alloc: Global,
-    net: &Network,
-    limits: Limits,
-    steps: &[(u32, u32)],
-    places: &[PlaceOf],
-) -> Result<(), Fail> {
-    let bounds = bounds(alloc, net, limits)?;
-    let run = from_x(alloc, steps)?;
-    trace_is(rt, &replay_moving(alloc, net, &bounds, &run)?, places);
-    Ok(())
-}
-
-// The fault of a run in the moving world.
-fn moves_not(
-    rt: &impl Abort,
-    alloc: Global,
-    net: &Network,
-    limits: Limits,
-    steps: &[(u32, u32)],
-    fault: (usize, Cause),
-) -> Result<(), Fail> {
-    let bounds = bounds(alloc, net, limits)?;
-    let run = from_x(alloc, steps)?;
-    is_refused(rt, &replay_moving(alloc, net, &bounds, &run), fault);
-    Ok(())
+fn location_is(rt: &impl Abort, at: &Location, expected: &LocationOf) {
+    let (link, labels) = expected;
+    assert_eq!(rt; at.0, LinkId(*link));
+    header_is(rt, &at.1, labels);
 }
 
 fn set_is(rt: &impl Abort, set: &FailSet, links: &[u32]) {
@@ -353,116 +324,179 @@ enum Expected<'a> {
 
 fn verdict_is(rt: &impl Abort, verdict: &Verdict, expected: Expected) {
     match (verdict, expected) {
-        (Verdict::Fits(fails), Expected::Fits(links)) => set_is(rt, fails, links),
-        (Verdict::Exceeds(count), Expected::Exceeds(most)) => assert_eq!(rt; *count, most),
-        (Verdict::UsesFailed(link), Expected::UsesFailed(used)) => {
-            assert_eq!(rt; *link, LinkId(used))
+        (Verdict::Fits(fails), Fits(links)) => set_is(rt, fails, links),
+        (Verdict::Exceeds(count), Exceeds(most)) => assert_eq!(rt; *count, most),
+        (Verdict::UsesFailed(link), UsesFailed(used)) => { assert_eq!(rt; *link, LinkId(used)) }
+        _ => assert!(rt; false),
+    }
+}
+
+// What a replay is to answer.
+#[derive(Clone, Copy)]
+enum Outcome<'a> {
+    // Its trace.
+    Along(&'a [LocationOf<'a>]),
+    // The step that is at fault, and the cause.
+    Stops(usize, Cause),
+}
+
+fn outcome_is(rt: &impl Abort, replayed: &Result<Trace, ReplayRefused>, expected: Outcome) {
+    match (replayed, expected) {
+        (Ok(trace), Along(locations)) => trace_is(rt, trace, locations),
+        (Err(refused), Stops(step, cause)) => {
+            assert_eq!(rt; *refused, ReplayRefused::Fault { step, cause })
         }
         _ => assert!(rt; false),
     }
 }
 
-// What a run needs, and the verdict on it.
+// What a run shows.
+#[derive(Clone, Copy)]
+enum Shown<'a> {
+    // Under these failed links.
+    Under(&'a [u32], Outcome<'a>),
+    // In the moving world.
+    Moving(Limits<'a>, Outcome<'a>),
+    // What it needs, and the verdict.
+    Needs(Limits<'a>, &'a [u32], Expected<'a>),
+}
+
+fn replays(
+    rt: &impl Abort,
+    alloc: Global,
+    net: &Network,
+    run: &Run,
+    fails: &[u32],
+    expected: Outcome,
+) -> Result<(), Fail> {
+    let fails = set(alloc, fails)?;
+    let replayed = replay(alloc, net, &fails, run);
+    outcome_is(rt, &replayed, expected);
+    drop(replayed);
+    drop(fails);
+    Ok(())
+}
+
+fn moves(
+    rt: &impl Abort,
+    alloc: Global,
+    net: &Network,
+    run: &Run,
+    limits: Limits,
+    expected: Outcome,
+) -> Result<(), Fail> {
+    let bounds = bounds(alloc, net, limits)?;
+    let replayed = replay_moving(alloc, net, &bounds, run);
+    outcome_is(rt, &replayed, expected);
+    drop(replayed);
+    drop(bounds);
+    Ok(())
+}
+
 fn judges(
     rt: &impl Abort,
     alloc: Global,
     net: &Network,
+    run: &Run,
     limits: Limits,
-    steps: &[(u32, u32)],
     links: &[u32],
     expected: Expected,
 ) -> Result<(), Fail> {
     let bounds = bounds(alloc, net, limits)?;
-    let run = from_x(alloc, steps)?;
-    set_is(rt, &needs(alloc, net, &run, &bounds)?, links);
-    verdict_is(rt, &verdict(alloc, net, &run, &bounds)?, expected);
-    Ok(())
-}
-
-fn both_ways(rt: &impl Abort, alloc: Global, net: &Network) -> Result<(), Fail> {
-    let direct: &[PlaceOf] = &[(0, &[IP1]), (1, &[S10, IP1]), (4, &[IP1])];
-    traces(rt, alloc, net, &[], DIRECT, direct)?;
-    traces(rt, alloc, net, &[1], AROUND, AROUND_PLACES)
-}
-
-#[test]
-fn a_trace_takes_the_first_active_group(rt: HostRuntime) -> Result<(), Fail> {
-    let net = small(rt.alloc())?;
-    let said = both_ways(&rt, rt.alloc(), &net);
-    discard(net);
+    let said = judges_within(rt, alloc, net, run, &bounds, links, expected);
+    drop(bounds);
     said
 }
 
-// Failed links, steps, and the fault of a run from x by these steps.
-type FaultOf<'a> = (&'a [u32], &'a [(u32, u32)], usize, Cause);
+fn judges_within(
+    rt: &impl Abort,
+    alloc: Global,
+    net: &Network,
+    run: &Run,
+    bounds: &Bounds,
+    links: &[u32],
+    expected: Expected,
+) -> Result<(), Fail>
+    requires { AreBounds net.now bounds.now }
+{
+    set_is(rt, &needs(alloc, net, run, bounds)?, links);
+    verdict_is(rt, &verdict(alloc, net, run, bounds)?, expected);
+    Ok(())
+}
 
-// The faults of runs from x.
-fn all_fault(rt: &impl Abort, alloc: Global, net: &Network, table: &[FaultOf]) -> Result<(), Fail> {
-    for (fails, steps, step, cause) in table {
-        let run = from_x(alloc, steps)?;
-        faults(rt, alloc, net, fails, &run, (*step, *cause))?;
+fn run_shows(
+    rt: &impl Abort,
+    alloc: Global,
+    net: &Network,
+    run: &Run,
+    shown: Shown,
+) -> Result<(), Fail> {
+    match shown {
+        Under(fails, outcome) => replays(rt, alloc, net, run, fails, outcome),
+        Moving(limits, outcome) => moves(rt, alloc, net, run, limits, outcome),
+        Needs(limits, links, verdict) => judges(rt, alloc, net, run, limits, links, verdict),
+    }
+}
+
+const FROM_X: LocationOf = (0, &[IP1]);
+
+fn case_holds(
+    rt: &impl Abort,
+    alloc: Global,
+    net: &Network,
+    from: LocationOf,
+    steps: &[(u32, u32)],
+    shown: Shown,
+) -> Result<(), Fail> {
+    let run = run(alloc, from, steps)?;
+    let said = run_shows(rt, alloc, net, &run, shown);
+    drop(run);
+    said
+}
+
+// The steps of a run from x, and what it shows.
+type CaseOf<'a> = (&'a [(u32, u32)], Shown<'a>);
+
+fn all_hold(rt: &impl Abort, alloc: Global, net: &Network, cases: &[CaseOf]) -> Result<(), Fail> {
+    for (steps, shown) in cases {
+        case_holds(rt, alloc, net, FROM_X, steps, *shown)?;
     }
     Ok(())
 }
 
-const FAULTS: &[FaultOf] = &[
-    (&[], &[(2, 0)], 1, Cause::NoGroup),
-    (&[], &[(u32::MAX, 0)], 1, Cause::NoGroup),
-    (&[], &[(0, 1)], 1, Cause::NoMember),
-    (&[], &[(0, u32::MAX)], 1, Cause::NoMember),
-    (&[], &[(0, 0), (1, 0)], 2, Cause::NoGroup),
-    (&[], &[(0, 0), (0, 0), (0, 0)], 3, Cause::NoGroup),
-    (&[], AROUND, 1, Cause::NotFirstActive),
-    (&[1], DIRECT, 1, Cause::NotFirstActive),
-    (&[1, 2], AROUND, 1, Cause::NotFirstActive),
-    (&[4], DIRECT, 2, Cause::NotFirstActive),
-];
-
-#[test]
-fn a_run_faults_at_its_first_step_that_is_no_hop(rt: HostRuntime) -> Result<(), Fail> {
-    let net = small(rt.alloc())?;
-    let said = all_fault(&rt, rt.alloc(), &net, FAULTS);
-    discard(net);
+// A function of its own, so that no test shows each part that is let go.
+fn hold_on(rt: &impl Abort, alloc: Global, net: Network, cases: &[CaseOf]) -> Result<(), Fail> {
+    let said = all_hold(rt, alloc, &net, cases);
+    drop(net);
     said
 }
 
-// The first way out of a would push an mpls label on an ip label.
-const UNDEFINED: &[&[Way]] = &[&[(1, &[PUSH_30])], &[(2, &[PUSH_S10, PUSH_30])]];
-
-const UNDEFINED_FAULTS: &[FaultOf] = &[
-    (&[], &[(0, 0)], 1, Cause::Undefined(0)),
-    (&[], &[(1, 0)], 1, Cause::NotFirstActive),
+const UNDER_SETS: &[CaseOf] = &[
+    (
+        DIRECT,
+        Under(&[], Along(&[(0, &[IP1]), (1, &[S10, IP1]), (4, &[IP1])])),
+    ),
+    (AROUND, Under(&[1], Along(AROUND_LOCATIONS))),
+    (&[(2, 0)], Under(&[], Stops(1, NoGroup))),
+    (&[(u32::MAX, 0)], Under(&[], Stops(1, NoGroup))),
+    (&[(0, 1)], Under(&[], Stops(1, NoMember))),
+    (&[(0, u32::MAX)], Under(&[], Stops(1, NoMember))),
+    (&[(0, 0), (1, 0)], Under(&[], Stops(2, NoGroup))),
+    (&[(0, 0), (0, 0), (0, 0)], Under(&[], Stops(3, NoGroup))),
+    (AROUND, Under(&[], Stops(1, NotFirstActive))),
+    (DIRECT, Under(&[1], Stops(1, NotFirstActive))),
+    (AROUND, Under(&[1, 2], Stops(1, NotFirstActive))),
+    (DIRECT, Under(&[4], Stops(2, NotFirstActive))),
 ];
 
 #[test]
-fn no_later_group_is_tried_where_an_operation_is_undefined(rt: HostRuntime) -> Result<(), Fail> {
-    let net = turned(rt.alloc(), UNDEFINED)?;
-    let said = all_fault(&rt, rt.alloc(), &net, UNDEFINED_FAULTS);
-    discard(net);
-    said
+fn a_trace_takes_the_first_active_group(rt: HostRuntime) -> Result<(), Fail> {
+    hold_on(&rt, rt.alloc(), small(rt.alloc(), None)?, UNDER_SETS)
 }
 
-// Two ways in one group, one of which pushes two smpls labels.
-const BALANCED: &[&[Way]] = &[&[(1, &[PUSH_S10]), (2, &[PUSH_S10, PUSH_S10])]];
-
-const BALANCED_FAULTS: &[FaultOf] = &[
-    (&[1], DIRECT, 1, Cause::LinkFailed),
-    (&[2], &[(0, 1)], 1, Cause::LinkFailed),
-    (&[1], &[(0, 1)], 1, Cause::Undefined(1)),
-    (&[1, 2], DIRECT, 1, Cause::NotFirstActive),
-];
-
-#[test]
-fn a_member_of_an_active_group_may_have_failed(rt: HostRuntime) -> Result<(), Fail> {
-    let net = turned(rt.alloc(), BALANCED)?;
-    let said = all_fault(&rt, rt.alloc(), &net, BALANCED_FAULTS);
-    discard(net);
-    said
-}
-
-// Places where no packet sets out while a link is failed, and that link.
-const NO_STARTS: &[(PlaceOf, &[u32])] = &[
-    ((0, &[IP1]), &[0]),
+// Locations where no packet sets out while a link is failed, and that link.
+const NO_STARTS: &[(LocationOf, &[u32])] = &[
+    (FROM_X, &[0]),
     ((5, &[IP1]), &[]),
     ((u32::MAX, &[IP1]), &[]),
     ((2, &[]), &[]),
@@ -473,73 +507,119 @@ const NO_STARTS: &[(PlaceOf, &[u32])] = &[
 ];
 
 fn no_starts(rt: &impl Abort, alloc: Global, net: &Network) -> Result<(), Fail> {
-    for (place, fails) in NO_STARTS {
-        let run = run(alloc, *place, DIRECT)?;
-        faults(rt, alloc, net, fails, &run, (0, Cause::BadStart))?;
+    for (from, fails) in NO_STARTS {
+        case_holds(
+            rt,
+            alloc,
+            net,
+            *from,
+            DIRECT,
+            Under(fails, Stops(0, BadStart)),
+        )?;
     }
     Ok(())
 }
 
 #[test]
 fn a_start_is_a_link_that_is_up_with_a_header_of_the_network(rt: HostRuntime) -> Result<(), Fail> {
-    let net = small(rt.alloc())?;
+    let net = small(rt.alloc(), None)?;
     let said = no_starts(&rt, rt.alloc(), &net);
     discard(net);
     said
 }
 
-// What a run does in the moving world.
-type MoveOf<'a> = (Limits<'a>, &'a [(u32, u32)], usize, Cause);
+// The first way out of a would push an mpls label on an ip label.
+const UNDEFINED: &[&[Way]] = &[&[(1, &[PUSH_30])], &[(2, &[PUSH_S10, PUSH_30])]];
 
-// The faults of runs from x in the moving world.
-fn none_moves(rt: &impl Abort, alloc: Global, net: &Network, table: &[MoveOf]) -> Result<(), Fail> {
-    for (limits, steps, step, cause) in table {
-        moves_not(rt, alloc, net, *limits, steps, (*step, *cause))?;
-    }
-    Ok(())
-}
-
-const MOVING_FAULTS: &[MoveOf] = &[
-    ((0, &[], &[]), AROUND, 1, Cause::TooManyBefore(1)),
-    ((5, &[], &[1]), AROUND, 1, Cause::NeedsUp(LinkId(1))),
-    ((0, &[], &[1]), AROUND, 1, Cause::TooManyBefore(1)),
-    ((0, &[0], &[]), DIRECT, 0, Cause::BadStart),
-    ((0, &[1], &[]), DIRECT, 1, Cause::LinkBefore),
-    ((0, &[], &[]), &[(0, 0), (0, 1)], 2, Cause::NoMember),
-    ((0, &[], &[]), &[(0, 0), (u32::MAX, 0)], 2, Cause::NoGroup),
+const UNDEFINED_CASES: &[CaseOf] = &[
+    (&[(0, 0)], Under(&[], Stops(1, Undefined(0)))),
+    (&[(1, 0)], Under(&[], Stops(1, NotFirstActive))),
 ];
 
-fn moves_around(rt: &impl Abort, alloc: Global, net: &Network) -> Result<(), Fail> {
-    moves(rt, alloc, net, (1, &[], &[]), AROUND, AROUND_PLACES)?;
-    moves(rt, alloc, net, (0, &[1], &[]), AROUND, AROUND_PLACES)?;
-    none_moves(rt, alloc, net, MOVING_FAULTS)
+#[test]
+fn no_later_group_is_tried_where_an_operation_is_undefined(rt: HostRuntime) -> Result<(), Fail> {
+    hold_on(
+        &rt,
+        rt.alloc(),
+        turned(rt.alloc(), UNDEFINED)?,
+        UNDEFINED_CASES,
+    )
 }
+
+// Two ways in one group, one of which pushes two smpls labels.
+const BALANCED: &[&[Way]] = &[&[(1, &[PUSH_S10]), (2, &[PUSH_S10, PUSH_S10])]];
+
+const BALANCED_CASES: &[CaseOf] = &[
+    (DIRECT, Under(&[1], Stops(1, LinkFailed))),
+    (&[(0, 1)], Under(&[2], Stops(1, LinkFailed))),
+    (&[(0, 1)], Under(&[1], Stops(1, Undefined(1)))),
+    (DIRECT, Under(&[1, 2], Stops(1, NotFirstActive))),
+];
+
+#[test]
+fn a_member_of_an_active_group_may_have_failed(rt: HostRuntime) -> Result<(), Fail> {
+    hold_on(
+        &rt,
+        rt.alloc(),
+        turned(rt.alloc(), BALANCED)?,
+        BALANCED_CASES,
+    )
+}
+
+const MOVING_CASES: &[CaseOf] = &[
+    (AROUND, Moving((1, &[], &[]), Along(AROUND_LOCATIONS))),
+    (AROUND, Moving((0, &[1], &[]), Along(AROUND_LOCATIONS))),
+    (AROUND, Moving((0, &[], &[]), Stops(1, TooManyBefore(1)))),
+    (AROUND, Moving((5, &[], &[1]), Stops(1, NeedsUp(LinkId(1))))),
+    (AROUND, Moving((0, &[], &[1]), Stops(1, TooManyBefore(1)))),
+    (DIRECT, Moving((0, &[0], &[]), Stops(0, BadStart))),
+    (DIRECT, Moving((0, &[1], &[]), Stops(1, LinkBefore))),
+    (&[(0, 0), (0, 1)], Moving((0, &[], &[]), Stops(2, NoMember))),
+    (
+        &[(0, 0), (u32::MAX, 0)],
+        Moving((0, &[], &[]), Stops(2, NoGroup)),
+    ),
+];
 
 #[test]
 fn a_step_is_possible_where_what_comes_before_may_fail(rt: HostRuntime) -> Result<(), Fail> {
-    let net = small(rt.alloc())?;
-    let said = moves_around(&rt, rt.alloc(), &net);
-    discard(net);
-    said
+    hold_on(&rt, rt.alloc(), small(rt.alloc(), None)?, MOVING_CASES)
 }
 
-// Both groups at a have the link from a to b alone.
-const SAME_LINK_TWICE: &[&[Way]] = &[&[(1, &[SWAP_IP1])], &[(1, &[PUSH_S10])]];
+// Both of the first groups at a have the link from a to b alone; the fourth comes behind both links from a.
+const FOUR_WAYS: &[&[Way]] = &[
+    &[(1, &[SWAP_IP1])],
+    &[(1, &[PUSH_S10])],
+    &[(2, &[PUSH_S10, PUSH_30])],
+    &[(1, &[SWAP_IP1])],
+];
 
+const FOUR_WAYS_CASES: &[CaseOf] = &[
+    (&[(1, 0)], Moving((5, &[], &[]), Stops(1, LinkBefore))),
+    (&[(3, 0)], Moving((1, &[], &[]), Stops(1, TooManyBefore(2)))),
+    (
+        &[(3, 0)],
+        Moving((0, &[1], &[]), Stops(1, TooManyBefore(1))),
+    ),
+    (
+        &[(3, 0)],
+        Moving((0, &[2, 3], &[]), Stops(1, TooManyBefore(1))),
+    ),
+    (&[(3, 0)], Moving((1, &[1], &[]), Stops(1, LinkBefore))),
+];
+
+// A member over a link that comes before is never used, and what is known down does not count among what comes before.
 #[test]
-fn a_member_over_a_link_that_comes_before_is_never_used(rt: HostRuntime) -> Result<(), Fail> {
-    let net = turned(rt.alloc(), SAME_LINK_TWICE)?;
-    let said = none_moves(
+fn what_comes_before_a_group_is_counted_besides_what_is_down(rt: HostRuntime) -> Result<(), Fail> {
+    hold_on(
         &rt,
         rt.alloc(),
-        &net,
-        &[((5, &[], &[]), &[(1, 0)], 1, Cause::LinkBefore)],
-    );
-    discard(net);
-    said
+        turned(rt.alloc(), FOUR_WAYS)?,
+        FOUR_WAYS_CASES,
+    )
 }
 
-const BACK_PLACES: &[PlaceOf] = &[
+const BACK_LOCATIONS: &[LocationOf] = &[
     (0, &[IP1]),
     (2, &[L30, S10, IP1]),
     (5, &[L31, S10, IP1]),
@@ -547,329 +627,154 @@ const BACK_PLACES: &[PlaceOf] = &[
     (4, &[IP1]),
 ];
 
-// The link from a to b must fail, and be repaired before the packet comes back.
-fn moves_back(rt: &impl Abort, alloc: Global, net: &Network) -> Result<(), Fail> {
-    moves(rt, alloc, net, (1, &[], &[]), AROUND_BACK, BACK_PLACES)?;
-    all_fault(
-        rt,
-        alloc,
-        net,
-        &[
-            (&[], AROUND_BACK, 1, Cause::NotFirstActive),
-            (&[1], AROUND_BACK, 3, Cause::NotFirstActive),
-        ],
-    )?;
-    none_moves(
-        rt,
-        alloc,
-        net,
-        &[((5, &[1], &[]), AROUND_BACK, 3, Cause::LinkBefore)],
-    )
-}
+// The link from a to b must fail, and be repaired before the packet comes back. The link from c back to a comes first on the
+// way, though the one from a to b is the lesser one.
+const BACK_CASES: &[CaseOf] = &[
+    (AROUND_BACK, Moving((1, &[], &[]), Along(BACK_LOCATIONS))),
+    (AROUND_BACK, Under(&[], Stops(1, NotFirstActive))),
+    (AROUND_BACK, Under(&[1], Stops(3, NotFirstActive))),
+    (AROUND_BACK, Moving((5, &[1], &[]), Stops(3, LinkBefore))),
+    (AROUND_BACK, Needs((5, &[], &[]), &[1], UsesFailed(1))),
+    (AROUND_BACK, Needs((5, &[5], &[]), &[1, 5], UsesFailed(5))),
+];
 
 #[test]
 fn each_step_is_judged_by_itself(rt: HostRuntime) -> Result<(), Fail> {
-    let net = returning(rt.alloc())?;
-    let said = moves_back(&rt, rt.alloc(), &net);
-    discard(net);
-    said
+    hold_on(&rt, rt.alloc(), returning(rt.alloc())?, BACK_CASES)
 }
 
-// Limits, steps, what the run needs, and the verdict.
-type JudgedOf<'a> = (Limits<'a>, &'a [(u32, u32)], &'a [u32], Expected<'a>);
-
-fn all_judged(
-    rt: &impl Abort,
-    alloc: Global,
-    net: &Network,
-    table: &[JudgedOf],
-) -> Result<(), Fail> {
-    for (limits, steps, links, expected) in table {
-        judges(rt, alloc, net, *limits, steps, links, *expected)?;
-    }
-    Ok(())
-}
-
-const SMALL_JUDGED: &[JudgedOf] = &[
-    ((0, &[], &[]), DIRECT, &[], Expected::Fits(&[])),
-    ((1, &[], &[]), AROUND, &[1], Expected::Fits(&[1])),
-    ((0, &[], &[]), AROUND, &[1], Expected::Exceeds(1)),
-    ((0, &[1], &[]), AROUND, &[1], Expected::Fits(&[1])),
-    ((5, &[3], &[]), AROUND, &[1, 3], Expected::UsesFailed(3)),
-    ((5, &[0], &[]), DIRECT, &[0], Expected::UsesFailed(0)),
-    ((1, &[], &[]), &[(1, 7), (0, 0)], &[1], Expected::Fits(&[1])),
+const SMALL_JUDGED: &[CaseOf] = &[
+    (DIRECT, Needs((0, &[], &[]), &[], Fits(&[]))),
+    (AROUND, Needs((1, &[], &[]), &[1], Fits(&[1]))),
+    (AROUND, Needs((0, &[], &[]), &[1], Exceeds(1))),
+    (AROUND, Needs((0, &[1], &[]), &[1], Fits(&[1]))),
+    (AROUND, Needs((5, &[3], &[]), &[1, 3], UsesFailed(3))),
+    (AROUND, Needs((5, &[3, 4], &[]), &[1, 3, 4], UsesFailed(3))),
+    (DIRECT, Needs((5, &[0], &[]), &[0], UsesFailed(0))),
+    (&[(1, 7), (0, 0)], Needs((1, &[], &[]), &[1], Fits(&[1]))),
 ];
 
 #[test]
 fn a_run_fits_where_what_it_needs_may_fail(rt: HostRuntime) -> Result<(), Fail> {
-    let net = small(rt.alloc())?;
-    let said = all_judged(&rt, rt.alloc(), &net, SMALL_JUDGED);
-    discard(net);
-    said
+    hold_on(&rt, rt.alloc(), small(rt.alloc(), None)?, SMALL_JUDGED)
 }
 
-const LARGE_JUDGED: &[JudgedOf] = &[
-    ((1, &[], &[]), AROUND_TO_Z, &[1, 4], Expected::Exceeds(2)),
-    ((2, &[], &[]), AROUND_TO_Z, &[1, 4], Expected::Fits(&[1, 4])),
-    (
-        (1, &[1], &[]),
-        AROUND_TO_Z,
-        &[1, 4],
-        Expected::Fits(&[1, 4]),
-    ),
-    ((0, &[1], &[]), AROUND_TO_Z, &[1, 4], Expected::Exceeds(1)),
+const LARGE_JUDGED: &[CaseOf] = &[
+    (AROUND_TO_Z, Needs((1, &[], &[]), &[1, 4], Exceeds(2))),
+    (AROUND_TO_Z, Needs((2, &[], &[]), &[1, 4], Fits(&[1, 4]))),
+    (AROUND_TO_Z, Needs((1, &[1], &[]), &[1, 4], Fits(&[1, 4]))),
+    (AROUND_TO_Z, Needs((0, &[1], &[]), &[1, 4], Exceeds(1))),
 ];
 
 #[test]
 fn needs_are_counted_over_all_steps(rt: HostRuntime) -> Result<(), Fail> {
-    let net = large(rt.alloc(), None)?;
-    let said = all_judged(&rt, rt.alloc(), &net, LARGE_JUDGED);
-    discard(net);
-    said
-}
-
-#[test]
-fn a_run_may_use_a_link_that_it_needs_failed(rt: HostRuntime) -> Result<(), Fail> {
-    let net = returning(rt.alloc())?;
-    let said = all_judged(
-        &rt,
-        rt.alloc(),
-        &net,
-        &[((5, &[], &[]), AROUND_BACK, &[1], Expected::UsesFailed(1))],
-    );
-    discard(net);
-    said
+    hold_on(&rt, rt.alloc(), large(rt.alloc(), None)?, LARGE_JUDGED)
 }
 
 // The links from a to b and from b to y fail together.
-const FIBER_JUDGED: &[JudgedOf] = &[
-    ((1, &[], &[]), AROUND, &[1, 4], Expected::UsesFailed(4)),
-    ((0, &[], &[]), AROUND, &[1, 4], Expected::Exceeds(1)),
-    ((1, &[], &[]), AROUND_TO_Z, &[1, 4], Expected::Fits(&[1, 4])),
+const FIBER_JUDGED: &[CaseOf] = &[
+    (AROUND, Needs((1, &[], &[]), &[1, 4], UsesFailed(4))),
+    (AROUND, Needs((0, &[], &[]), &[1, 4], Exceeds(1))),
+    (AROUND_TO_Z, Needs((1, &[], &[]), &[1, 4], Fits(&[1, 4]))),
 ];
 
 #[test]
 fn links_of_a_risk_group_are_needed_together(rt: HostRuntime) -> Result<(), Fail> {
-    let net = large(rt.alloc(), Some("fiber"))?;
-    let said = all_judged(&rt, rt.alloc(), &net, FIBER_JUDGED);
-    discard(net);
-    said
+    hold_on(
+        &rt,
+        rt.alloc(),
+        large(rt.alloc(), Some("fiber"))?,
+        FIBER_JUDGED,
+    )
 }
 
-// A link, a header, and the failed links.
-type StateOf<'a> = (u32, &'a [(Label, Class)], &'a [u32]);
-
-fn states_are(rt: &impl Abort, states: &[State], expected: &[StateOf]) {
-    assert_eq!(rt; states.len(), expected.len());
-    for (state, expected) in states.iter().zip(expected) {
-        state_is(rt, state, expected);
-    }
-}
-
-fn state_is(rt: &impl Abort, state: &State, expected: &StateOf) {
-    let (link, labels, fails) = expected;
-    assert_eq!(rt; state.link, LinkId(*link));
-    header_is(rt, &state.header, labels);
-    set_is(rt, &state.fails, fails);
-}
-
-// The states of a script that starts with `ip1` on the link from x.
-fn plays(
-    rt: &impl Abort,
-    alloc: Global,
-    net: &Network,
-    k: u32,
-    script: &[u8],
-    expected: &[StateOf],
-) -> Result<(), Fail> {
-    let script = read_script(alloc, net, script)?;
-    let states = play(alloc, net, k, &script)?;
-    states_are(rt, states.as_slice(), expected);
-    Ok(())
-}
-
-// A number of risk groups, a script, and the first line that isn't allowed with its cause.
-type RefusedOf<'a> = (u32, &'a [u8], usize, ScriptCause);
-
-fn all_refused(
-    rt: &impl Abort,
-    alloc: Global,
-    net: &Network,
-    table: &[RefusedOf],
-) -> Result<(), Fail> {
-    for (k, script, line, cause) in table {
-        is_not_played(
-            rt,
-            alloc,
-            net,
-            *k,
-            script,
-            ScriptRefused::BadLine(*line, *cause),
-        )?;
-    }
-    Ok(())
-}
-
-fn is_not_played(
-    rt: &impl Abort,
-    alloc: Global,
-    net: &Network,
-    k: u32,
-    script: &[u8],
-    expected: ScriptRefused,
-) -> Result<(), Fail> {
-    let script = read_script(alloc, net, script)?;
-    match play(alloc, net, k, &script) {
-        Ok(_) => assert!(rt; false),
-        Err(refused) => assert_eq!(rt; refused, expected),
-    }
-    Ok(())
-}
-
-// The link from a to b fails, the packet goes round by c and back to a, the link is repaired, and the packet takes it.
-const ROUND: &[u8] =
-    b"at x.o#a.x ip1\nfail a.b#b.a\nhop 2 1\nhop 1 1\nrepair a.b#b.a\nhop 1 1\nhop 1 1\n";
-
-const ROUND_STATES: &[StateOf] = &[
-    (0, &[IP1], &[]),
-    (0, &[IP1], &[1]),
-    (2, &[L30, S10, IP1], &[1]),
-    (5, &[L31, S10, IP1], &[1]),
-    (5, &[L31, S10, IP1], &[]),
-    (1, &[S10, IP1], &[]),
-    (4, &[IP1], &[]),
-];
-
-fn plays_round(rt: &impl Abort, alloc: Global, net: &Network) -> Result<(), Fail> {
-    plays(rt, alloc, net, 1, ROUND, ROUND_STATES)?;
-    plays(rt, alloc, net, 65_535, ROUND, ROUND_STATES)
-}
-
-#[test]
-fn a_script_is_played_event_by_event(rt: HostRuntime) -> Result<(), Fail> {
-    let net = returning(rt.alloc())?;
-    let said = plays_round(&rt, rt.alloc(), &net);
-    discard(net);
-    said
-}
-
-const REFUSED_ROUND: &[RefusedOf] = &[
-    (
-        1,
-        b"at x.o#a.x ip1\nfail a.b#b.a\nhop 2 1\nhop 1 1\nhop 1 1\nhop 1 1\n",
-        5,
-        ScriptCause::NotFirstActive,
-    ),
-    (0, ROUND, 2, ScriptCause::TooManyFailed),
-    (
-        1,
-        b"at x.o#a.x ip1\nfail a.b#b.a\nfail a.c#c.a\nhop 9 9\n",
-        3,
-        ScriptCause::TooManyFailed,
-    ),
-    (
-        2,
-        b"at x.o#a.x ip1\nfail a.b#b.a\nfail a.b#b.a\n",
-        3,
-        ScriptCause::AlreadyFailed,
-    ),
-    (
-        1,
-        b"at x.o#a.x ip1\nrepair a.b#b.a\n",
-        2,
-        ScriptCause::NotFailed,
-    ),
-    (1, b"at x.o#a.x ip1\nhop 3 1\n", 2, ScriptCause::NoSuchGroup),
-    (
-        1,
-        b"at x.o#a.x ip1\nhop 4294967296 1\n",
-        2,
-        ScriptCause::NoSuchGroup,
-    ),
-    (
-        1,
-        b"at x.o#a.x ip1\nhop 1 2\n",
-        2,
-        ScriptCause::NoSuchMember,
-    ),
-    (
-        1,
-        b"at x.o#a.x ip1\nhop 2 2\n",
-        2,
-        ScriptCause::NoSuchMember,
-    ),
-    (
-        2,
-        b"at x.o#a.x ip1\nfail a.b#b.a\nfail a.c#c.a\nhop 2 1\n",
-        4,
-        ScriptCause::NotFirstActive,
-    ),
-];
-
-#[test]
-fn the_first_event_that_is_not_allowed_is_told(rt: HostRuntime) -> Result<(), Fail> {
-    let net = returning(rt.alloc())?;
-    let said = all_refused(&rt, rt.alloc(), &net, REFUSED_ROUND);
-    discard(net);
-    said
-}
-
-const FIBER: &[u8] =
-    b"at a.b#b.a s10 ip1\nfail b.y#y.b\nrepair a.b#b.a\nfail a.b#b.a\nrepair b.y#y.b\nhop 1 1\nfail b.y#y.b\n";
-
-const FIBER_STATES: &[StateOf] = &[
-    (1, &[S10, IP1], &[]),
-    (1, &[S10, IP1], &[1, 4]),
-    (1, &[S10, IP1], &[]),
-    (1, &[S10, IP1], &[1, 4]),
-    (1, &[S10, IP1], &[]),
-    (4, &[IP1], &[]),
-    (4, &[IP1], &[1, 4]),
-];
-
-const FIBER_REFUSED: &[RefusedOf] = &[(
-    1,
-    b"at x.o#a.x ip1\nfail a.b#b.a\nfail b.y#y.b\n",
-    3,
-    ScriptCause::AlreadyFailed,
+// Both links that fail together are known up.
+const BOTH_KNOWN_UP: &[CaseOf] = &[(
+    AROUND,
+    Moving((5, &[], &[1, 4]), Stops(1, NeedsUp(LinkId(1)))),
 )];
 
-fn plays_fiber(rt: &impl Abort, alloc: Global, net: &Network) -> Result<(), Fail> {
-    plays(rt, alloc, net, 1, FIBER, FIBER_STATES)?;
-    all_refused(rt, alloc, net, FIBER_REFUSED)
-}
-
-// Links of one risk group fail together, also the one that the packet is on, and are repaired together.
 #[test]
-fn risk_groups_fail_as_one(rt: HostRuntime) -> Result<(), Fail> {
-    let net = large(rt.alloc(), Some("fiber"))?;
-    let said = plays_fiber(&rt, rt.alloc(), &net);
-    discard(net);
-    said
+fn the_least_link_that_is_known_up_is_told(rt: HostRuntime) -> Result<(), Fail> {
+    hold_on(
+        &rt,
+        rt.alloc(),
+        small(rt.alloc(), Some("fiber"))?,
+        BOTH_KNOWN_UP,
+    )
 }
 
-// The first way out of a has two members, the second of them with an operation that isn't defined.
-const TWO_MEMBERS: &[&[Way]] = &[&[(1, &[PUSH_S10]), (2, &[PUSH_S10, PUSH_S10])]];
+// Failed links, where the packet is, a step, what stands against it, and where the packet is then.
+type HopOf<'a> = (
+    &'a [u32],
+    LocationOf<'a>,
+    (u32, u32),
+    Option<Cause>,
+    LocationOf<'a>,
+);
 
-const TWO_MEMBERS_REFUSED: &[RefusedOf] = &[
-    (
-        1,
-        b"at x.o#a.x ip1\nfail a.b#b.a\nhop 1 1\n",
-        3,
-        ScriptCause::LinkFailed,
-    ),
-    (
-        1,
-        b"at x.o#a.x ip1\nfail a.b#b.a\nhop 1 2\n",
-        3,
-        ScriptCause::Undefined(1),
-    ),
+const HOPS: &[HopOf] = &[
+    (&[], (0, &[IP1]), (0, 0), None, (1, &[S10, IP1])),
+    (&[1], (0, &[IP1]), (1, 0), None, (2, &[L30, S10, IP1])),
+    (&[1], (0, &[IP1]), (0, 0), Some(NotFirstActive), (0, &[IP1])),
+    (&[], (0, &[]), (0, 0), Some(NoGroup), (0, &[])),
 ];
 
+fn hops(rt: &impl Abort, alloc: Global, net: &Network, case: &HopOf) -> Result<(), Fail> {
+    let fails = set(alloc, case.0)?;
+    let said = hops_under(rt, alloc, net, &fails, case);
+    drop(fails);
+    said
+}
+
+fn hops_under(
+    rt: &impl Abort,
+    alloc: Global,
+    net: &Network,
+    fails: &FailSet,
+    case: &HopOf,
+) -> Result<(), Fail> {
+    let (_, from, (group, member), against, to) = case;
+    let mut at = location(alloc, *from)?;
+    let step = Step {
+        group: *group,
+        member: *member,
+    };
+    let found = hop_under(alloc, net, fails, &mut at, step);
+    assert_eq!(rt; found, Ok(*against));
+    location_is(rt, &at, to);
+    drop(at);
+    Ok(())
+}
+
+fn all_hop(rt: &impl Abort, alloc: Global, net: &Network) -> Result<(), Fail> {
+    for case in HOPS {
+        hops(rt, alloc, net, case)?;
+    }
+    Ok(())
+}
+
 #[test]
-fn a_hop_takes_a_member_whose_link_is_up(rt: HostRuntime) -> Result<(), Fail> {
-    let net = turned(rt.alloc(), TWO_MEMBERS)?;
-    let said = all_refused(&rt, rt.alloc(), &net, TWO_MEMBERS_REFUSED);
+fn a_packet_that_may_not_hop_is_where_it_was(rt: HostRuntime) -> Result<(), Fail> {
+    let net = small(rt.alloc(), None)?;
+    let said = all_hop(&rt, rt.alloc(), &net);
     discard(net);
     said
+}
+
+#[test]
+fn links_are_added_to_a_set(rt: HostRuntime) -> Result<(), Fail> {
+    let mut all = set(rt.alloc(), &[1, 3])?;
+    let said = adds(&rt, rt.alloc(), &mut all);
+    drop(all);
+    said
+}
+
+fn adds(rt: &impl Abort, alloc: Global, all: &mut FailSet) -> Result<(), Fail> {
+    let more = set(alloc, &[0, 3, 7])?;
+    let added = insert_all(all, &more);
+    drop(more);
+    added?;
+    set_is(rt, all, &[0, 1, 3, 7]);
+    Ok(())
 }

@@ -6,6 +6,3 @@ mod unfolding;
 
 pub use refused::UnfoldRefused;
 pub use unfolding::unfold;
-
-#[cfg(test)]
-mod tests;

@@ -14,7 +14,7 @@ use Rattle.wi_net.proofs.SetLemmas.{has_where, where_has, union_has, union_link,
 use Rattle.wi_net.proofs.CountLemmas.{count_within, count_more, union_from, outside_self}
 use Rattle.wi_net.proofs.GroupLemmas.{any_link, groups_known, before_failed, first_is, entry_known, none_before, any_link_weaken, active_by}
 use Rattle.wi_world.specs.declared.run.Step.{Step}
-use Rattle.wi_world.specs.Moves.{Place, groups_at, member_at, needed, by_link, is_usable, is_possible, IsAllowed, AreBounds}
+use Rattle.wi_world.specs.Moves.{Location, groups_at, member_at, needed, by_link, is_usable, is_possible, IsAllowed, AreBounds}
 
 -- what is known to be down may be down
 pub allowed_down : (net : Net) (b : Bounds) → AreBounds net b → IsAllowed net b b.down
@@ -82,14 +82,14 @@ allowed_without net b s d k a known dd = record {
     fewer e h = (and_parts (has s e) (not (same_risk net d e)) ((where_has net (λ x. has s x && not (same_risk net d x)) e h).1)).0
 
 -- a step that names a member
-pub record Names (net : Net) (at : Place) (step : Step) : Type 0 where
+pub record Names (net : Net) (at : Location) (step : Step) : Type 0 where
   pub group : List Member
   pub member : Member
   pub group_is : slice_get (groups_at net at.0 at.1) step.group ≡ Some group
   pub member_is : slice_get group step.member ≡ Some member
 
 -- a step whose link passes a test names a member
-pub by_link_names : (net : Net) (at : Place) (step : Step) (p : LinkId → Bool) → by_link net at step p ≡ true → (n : Names net at step) × (p n.member.link ≡ true)
+pub by_link_names : (net : Net) (at : Location) (step : Step) (p : LinkId → Bool) → by_link net at step p ≡ true → (n : Names net at step) × (p n.member.link ≡ true)
 by_link_names net at step p h = go (slice_get (groups_at net at.0 at.1) step.group) refl
   where
     go : (o : Option (List Member)) → slice_get (groups_at net at.0 at.1) step.group ≡ o → (n : Names net at step) × (p n.member.link ≡ true)
@@ -103,10 +103,10 @@ by_link_names net at step p h = go (slice_get (groups_at net at.0 at.1) step.gro
         go2 None em = let e2 : option_map_or (λ (member : Member). p member.link) None false ≡ true = rw em at e in cc
         go2 (Some m) em = (record { group = g; member = m; group_is = eo; member_is = em }, (rw em at e))
 
-pub member_named : (net : Net) (at : Place) (step : Step) (n : Names net at step) → member_at net at step ≡ Some n.member
+pub member_named : (net : Net) (at : Location) (step : Step) (n : Names net at step) → member_at net at step ≡ Some n.member
 member_named net at step n = rw n.group_is (rw n.member_is refl)
 
-pub names_by_link : (net : Net) (at : Place) (step : Step) (p : LinkId → Bool) (n : Names net at step) → p n.member.link ≡ true → by_link net at step p ≡ true
+pub names_by_link : (net : Net) (at : Location) (step : Step) (p : LinkId → Bool) (n : Names net at step) → p n.member.link ≡ true → by_link net at step p ≡ true
 names_by_link net at step p n h = rw (member_named net at step n) h
 
 pub first_from : (o : Option ℕ) (j : ℕ) → option_map_or (λ i. nat_eq i j) o false ≡ true → o ≡ Some j
@@ -117,13 +117,13 @@ pub first_to : (o : Option ℕ) (j : ℕ) → o ≡ Some j → option_map_or (λ
 first_to o j e = rw e (eq-eqb j j refl)
 
 -- what a step needs is failed where the step is usable
-pub needed_failed : (net : Net) (fails : List LinkId) (at : Place) (step : Step) → widened net fails ≡ fails → is_usable net fails at step ≡ true → (e : LinkId) → has (needed net at step) e ≡ true → has fails e ≡ true
+pub needed_failed : (net : Net) (fails : List LinkId) (at : Location) (step : Step) → widened net fails ≡ fails → is_usable net fails at step ≡ true → (e : LinkId) → has (needed net at step) e ≡ true → has fails e ≡ true
 needed_failed net fails at step u h e n =
     let parts = and_parts (option_map_or (λ j. nat_eq j step.group) (first_active fails (groups_at net at.0 at.1)) false) (by_link net at step (λ d. not (has fails d))) h in
     before_failed net fails (groups_at net at.0 at.1) step.group e u (first_from (first_active fails (groups_at net at.0 at.1)) step.group parts.0) n
 
 -- a hop under an allowed set is a possible hop
-pub usable_possible : (net : Net) (b : Bounds) (fails : List LinkId) (at : Place) (step : Step) → IsAllowed net b fails → is_usable net fails at step ≡ true → is_possible net b at step ≡ true
+pub usable_possible : (net : Net) (b : Bounds) (fails : List LinkId) (at : Location) (step : Step) → IsAllowed net b fails → is_usable net fails at step ≡ true → is_possible net b at step ≡ true
 usable_possible net b fails at step a h =
     and_from (nat_le (risk_count net (outside (needed net at step) b.down)) b.k && is_apart (needed net at step) b.up)
     (by_link net at step (λ e. not (has (needed net at step) e) && not (has b.down e)))
@@ -156,7 +156,7 @@ groups_at_known net e [] k = refl
 groups_at_known net e (top ∷ below) k = entry_known net e top.0 k
 
 -- where what a step needs is failed and its link isn't, the step is usable
-pub possible_usable : (net : Net) (fails : List LinkId) (at : Place) (step : Step) → IsNetwork net → ((e : LinkId) → has (needed net at step) e ≡ true → has fails e ≡ true) → (n : Names net at step) → has fails n.member.link ≡ false → is_usable net fails at step ≡ true
+pub possible_usable : (net : Net) (fails : List LinkId) (at : Location) (step : Step) → IsNetwork net → ((e : LinkId) → has (needed net at step) e ≡ true → has fails e ≡ true) → (n : Names net at step) → has fails n.member.link ≡ false → is_usable net fails at step ≡ true
 possible_usable net fails at step k each n no_fail =
     and_from (option_map_or (λ j. nat_eq j step.group) (first_active fails (groups_at net at.0 at.1)) false) (by_link net at step (λ d. not (has fails d)))
     (first_to (first_active fails (groups_at net at.0 at.1)) step.group
@@ -165,14 +165,14 @@ possible_usable net fails at step k each n no_fail =
     (names_by_link net at step (λ d. not (has fails d)) n (not_from_false (has fails n.member.link) no_fail))
 
 -- what a possible hop is
-pub record Possible (net : Net) (b : Bounds) (at : Place) (step : Step) : Type 0 where
+pub record Possible (net : Net) (b : Bounds) (at : Location) (step : Step) : Type 0 where
   pub few : nat_le (risk_count net (outside (needed net at step) b.down)) b.k ≡ true
   pub up : is_apart (needed net at step) b.up ≡ true
   pub named : Names net at step
   pub spared : has (needed net at step) named.member.link ≡ false
   pub alive : has b.down named.member.link ≡ false
 
-pub possible_parts : (net : Net) (b : Bounds) (at : Place) (step : Step) → is_possible net b at step ≡ true → Possible net b at step
+pub possible_parts : (net : Net) (b : Bounds) (at : Location) (step : Step) → is_possible net b at step ≡ true → Possible net b at step
 possible_parts net b at step h =
     let free : LinkId → Bool = λ e. not (has (needed net at step) e) && not (has b.down e) in
     let p = and_parts (nat_le (risk_count net (outside (needed net at step) b.down)) b.k && is_apart (needed net at step) b.up) (by_link net at step free) h in

@@ -18,7 +18,7 @@ use Rattle.wi_net.specs.Network.{IsNetwork, op_known, is_member_of}
 use Rattle.wi_net.proofs.KeptLists.{all_get}
 use Rattle.wi_net.proofs.GroupLemmas.{entry_groups}
 use Rattle.wi_world.specs.declared.run.Step.{Step}
-use Rattle.wi_world.specs.Moves.{Place, through, moved}
+use Rattle.wi_world.specs.Moves.{Location, through, moved}
 
 -- a label of a header that the network knows has a name
 pub known_label : (net : Net) (h : List Entry) (i : ℕ) (l : Entry) → IsNetwork net → labels_known net h ≡ true → slice_get h i ≡ Some l → l.0.0 < length net.labels
@@ -66,20 +66,20 @@ ops_keep net at (op ∷ ops) h next o k e = go (after_op op h) refl (λ mid. ops
     go (Some mid) em ih = ih mid (op_keeps net op h mid parts.0 k em) (rw (em, outcome) at e)
 
 -- a place whose link and labels are the network's
-abbrev pub IsKnownPlace : Net → Place → Type 0
+abbrev pub IsKnownPlace : Net → Location → Type 0
 IsKnownPlace net at = (is_link net at.0 ≡ true) × (labels_known net at.1 ≡ true)
 
 -- a step leads from known labels to such a place
-pub moved_known : (net : Net) (e : LinkId) (h : List Entry) (step : Step) (next : Place) → IsNetwork net → labels_known net h ≡ true → moved net (e, h) step ≡ Some next → IsKnownPlace net next
-moved_known net e [] step next k known is = let none : ◌≡◌ {A = Option Place} None (Some next) = is in cc
+pub moved_known : (net : Net) (e : LinkId) (h : List Entry) (step : Step) (next : Location) → IsNetwork net → labels_known net h ≡ true → moved net (e, h) step ≡ Some next → IsKnownPlace net next
+moved_known net e [] step next k known is = let none : ◌≡◌ {A = Option Location} None (Some next) = is in cc
 moved_known net e (top ∷ below) step next k known is = in_group (slice_get (entry net e top.0) step.group) refl is
   where
     by_member : (g : List Member) (m : Member) → slice_get (entry net e top.0) step.group ≡ Some g → slice_get g step.member ≡ Some m → (o : Result (List Entry) ℕ) → outcome 0 m.ops (top ∷ below) ≡ o
-        → option_map {U = Place} (λ (h : List Entry). (m.link, h)) (result_ok o) ≡ Some next → IsKnownPlace net next
+        → option_map {U = Location} (λ (h : List Entry). (m.link, h)) (result_ok o) ≡ Some next → IsKnownPlace net next
     by_member g m group here (Err i) did some = cc
     by_member g m group here (Ok h) did some =
         let kept : (is_link net m.link ≡ true) × (list_all (op_known net) m.ops ≡ true) = member_kept_at net e top.0 step.group step.member g m k group here in
-        let same : ◌≡◌ {A = Place} (m.link, h) next = cc in
+        let same : ◌≡◌ {A = Location} (m.link, h) next = cc in
         subst (IsKnownPlace net) same (kept.0, ops_keep net 0 m.ops (top ∷ below) h kept.1 known did)
 
     in_group : (o : Option (List Member)) → slice_get (entry net e top.0) step.group ≡ o

@@ -16,7 +16,7 @@ use Rattle.wi_world.specs.declared.run.Run.{Run}
 use Rattle.wi_world.specs.declared.world.State.{State}
 use Rattle.wi_world.specs.declared.world.Event.{Event}
 use Rattle.wi_world.specs.declared.world.Event.TheVariants.{Fail, Repair, Hop}
-use Rattle.wi_world.specs.Moves.{Place, groups_at, moved, needed, is_usable, is_possible, follows, is_start, is_possible_run, IsAllowed, AreBounds}
+use Rattle.wi_world.specs.Moves.{Location, groups_at, moved, needed, is_usable, is_possible, follows, is_start, is_possible_run, IsAllowed, AreBounds}
 use Rattle.wi_world.specs.Moving.{after_event, after_events, hops, start_of, IsMovingRun}
 use Rattle.wi_world.proofs.Allowed.{allowed_down, allowed_with, allowed_without, before_union, usable_possible, possible_usable, Possible, possible_parts}
 
@@ -49,20 +49,20 @@ module _ (net : Net) (b : Bounds) (k : IsNetwork net) (kb : AreBounds net b) whe
       go false c ih = let none : is_some {T = State} None ≡ true = rw c at h in cc
   forwards (Hop step ∷ events) st a h = go (is_usable net st.fails (st.link, st.header) step) refl (λ next. forwards events (record { link = next.0; header = next.1; fails = st.fails }) a)
     where
-      Rest : Place → Type 0
+      Rest : Location → Type 0
       Rest next = is_some (after_events net b (record { link = next.0; header = next.1; fails = st.fails }) events) ≡ true → follows net (is_possible net b) next (hops events) ≡ true
 
-      go : (c : Bool) → is_usable net st.fails (st.link, st.header) step ≡ c → ((next : Place) → is_some (after_events net b (record { link = next.0; header = next.1; fails = st.fails }) events) ≡ true → follows net (is_possible net b) next (hops events) ≡ true) → follows net (is_possible net b) (st.link, st.header) (step ∷ hops events) ≡ true
+      go : (c : Bool) → is_usable net st.fails (st.link, st.header) step ≡ c → ((next : Location) → is_some (after_events net b (record { link = next.0; header = next.1; fails = st.fails }) events) ≡ true → follows net (is_possible net b) next (hops events) ≡ true) → follows net (is_possible net b) (st.link, st.header) (step ∷ hops events) ≡ true
       go false c ih = let none : is_some {T = State} None ≡ true = rw c at h in cc
       go true c ih = go2 (moved net (st.link, st.header) step) refl
         where
-          h1 : is_some (option_and_then (λ (next : State). after_events net b next events) (option_map (λ (next : Place). record { link = next.0; header = next.1; fails = st.fails }) (moved net (st.link, st.header) step))) ≡ true
+          h1 : is_some (option_and_then (λ (next : State). after_events net b next events) (option_map (λ (next : Location). record { link = next.0; header = next.1; fails = st.fails }) (moved net (st.link, st.header) step))) ≡ true
           h1 = rw c at h
 
-          go2 : (o : Option Place) → moved net (st.link, st.header) step ≡ o → follows net (is_possible net b) (st.link, st.header) (step ∷ hops events) ≡ true
+          go2 : (o : Option Location) → moved net (st.link, st.header) step ≡ o → follows net (is_possible net b) (st.link, st.header) (step ∷ hops events) ≡ true
           go2 None m = let none : is_some {T = State} None ≡ true = rw m at h1 in cc
           go2 (Some next) m =
-              and_from (is_possible net b (st.link, st.header) step) (option_map_or (λ (n : Place). follows net (is_possible net b) n (hops events)) (moved net (st.link, st.header) step) false)
+              and_from (is_possible net b (st.link, st.header) step) (option_map_or (λ (n : Location). follows net (is_possible net b) n (hops events)) (moved net (st.link, st.header) step) false)
               (usable_possible net b st.fails (st.link, st.header) step a c)
               (rw m (ih next (rw m at h1)))
 
@@ -242,7 +242,7 @@ module _ (net : Net) (b : Bounds) (k : IsNetwork net) (kb : AreBounds net b) whe
       usable : is_usable net f.fails (st.link, st.header) step ≡ true
       usable = possible_usable net f.fails (st.link, st.header) step k (λ e i. f.rest e (listed (needed net (st.link, st.header) step) e union i) i) p.named alive
 
-  hop_then : (e : LinkId) (header : List Entry) (fails : List LinkId) (step : Step) (next : Place) (events : List Event) → is_usable net fails (e, header) step ≡ true → moved net (e, header) step ≡ Some next → is_some (after_events net b (record { link = next.0; header = next.1; fails = fails }) events) ≡ true → is_some (after_events net b (record { link = e; header = header; fails = fails }) (Hop step ∷ events)) ≡ true
+  hop_then : (e : LinkId) (header : List Entry) (fails : List LinkId) (step : Step) (next : Location) (events : List Event) → is_usable net fails (e, header) step ≡ true → moved net (e, header) step ≡ Some next → is_some (after_events net b (record { link = next.0; header = next.1; fails = fails }) events) ≡ true → is_some (after_events net b (record { link = e; header = header; fails = fails }) (Hop step ∷ events)) ≡ true
   hop_then e header fails step next events u m h = rw u (rw m h)
 
   -- a course of events in which these hops happen, where each is possible
@@ -250,13 +250,13 @@ module _ (net : Net) (b : Bounds) (k : IsNetwork net) (kb : AreBounds net b) whe
   backwards [] st a h = record { events = []; happens = refl; hops_are = refl }
   backwards (step ∷ steps) st a h = go (moved net (st.link, st.header) step) refl (λ next fails. backwards steps (record { link = next.0; header = next.1; fails = fails }))
     where
-      parts : (is_possible net b (st.link, st.header) step ≡ true) × (option_map_or (λ (next : Place). follows net (is_possible net b) next steps) (moved net (st.link, st.header) step) false ≡ true)
-      parts = and_parts (is_possible net b (st.link, st.header) step) (option_map_or (λ (next : Place). follows net (is_possible net b) next steps) (moved net (st.link, st.header) step) false) h
+      parts : (is_possible net b (st.link, st.header) step ≡ true) × (option_map_or (λ (next : Location). follows net (is_possible net b) next steps) (moved net (st.link, st.header) step) false ≡ true)
+      parts = and_parts (is_possible net b (st.link, st.header) step) (option_map_or (λ (next : Location). follows net (is_possible net b) next steps) (moved net (st.link, st.header) step) false) h
 
       r : Ready st step
       r = ready st step a parts.0
 
-      go : (o : Option Place) → moved net (st.link, st.header) step ≡ o → ((next : Place) (fails : List LinkId) → IsAllowed net b fails → follows net (is_possible net b) next steps ≡ true → Course (record { link = next.0; header = next.1; fails = fails }) steps) → Course st (step ∷ steps)
+      go : (o : Option Location) → moved net (st.link, st.header) step ≡ o → ((next : Location) (fails : List LinkId) → IsAllowed net b fails → follows net (is_possible net b) next steps ≡ true → Course (record { link = next.0; header = next.1; fails = fails }) steps) → Course st (step ∷ steps)
       go None m ih = let none : false ≡ true = rw m at parts.1 in cc
       go (Some next) m ih =
           let rest = ih next r.fails r.leads.allowed (rw m at parts.1) in

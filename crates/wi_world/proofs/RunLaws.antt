@@ -15,24 +15,24 @@ use Rattle.wi_net.proofs.CountLemmas.{count_less, union_from, filter_same, bool_
 use Rattle.wi_world.specs.declared.run.Step.{Step}
 use Rattle.wi_world.specs.declared.run.Run.{Run}
 use Rattle.wi_world.specs.declared.answer.Verdict.TheVariants.{Fits, Exceeds, UsesFailed}
-use Rattle.wi_world.specs.Moves.{Place, groups_at, moved, needed, is_usable, is_possible, follows, is_start, is_trace, is_possible_run, IsAllowed, AreBounds}
+use Rattle.wi_world.specs.Moves.{Location, groups_at, moved, needed, is_usable, is_possible, follows, is_start, is_trace, is_possible_run, IsAllowed, AreBounds}
 use Rattle.wi_world.specs.Moving.{IsMovingRun}
-use Rattle.wi_world.specs.Runs.{places, links_of, is_needed, needs, judged, verdict_of}
+use Rattle.wi_world.specs.Runs.{locations, links_of, is_needed, needs, judged, verdict_of}
 use Rattle.wi_world.proofs.Allowed.{before_union, Names, member_named, usable_possible, possible_usable, Possible, possible_parts}
 use Rattle.wi_world.proofs.MovingLaws.{possible_moving}
 
 -- a test that another implies
-pub follows_weaken : (net : Net) (p q : Place → Step → Bool) (at : Place) (steps : List Step) → ((at : Place) (step : Step) → p at step ≡ true → q at step ≡ true) → follows net p at steps ≡ true → follows net q at steps ≡ true
+pub follows_weaken : (net : Net) (p q : Location → Step → Bool) (at : Location) (steps : List Step) → ((at : Location) (step : Step) → p at step ≡ true → q at step ≡ true) → follows net p at steps ≡ true → follows net q at steps ≡ true
 follows_weaken net p q at [] each h = refl
 follows_weaken net p q at (step ∷ steps) each h = go (moved net at step) refl (λ next. follows_weaken net p q next steps each)
   where
-    parts : (p at step ≡ true) × (option_map_or (λ (next : Place). follows net p next steps) (moved net at step) false ≡ true)
-    parts = and_parts (p at step) (option_map_or (λ (next : Place). follows net p next steps) (moved net at step) false) h
+    parts : (p at step ≡ true) × (option_map_or (λ (next : Location). follows net p next steps) (moved net at step) false ≡ true)
+    parts = and_parts (p at step) (option_map_or (λ (next : Location). follows net p next steps) (moved net at step) false) h
 
-    go : (o : Option Place) → moved net at step ≡ o → ((next : Place) → follows net p next steps ≡ true → follows net q next steps ≡ true) → follows net q at (step ∷ steps) ≡ true
+    go : (o : Option Location) → moved net at step ≡ o → ((next : Location) → follows net p next steps ≡ true → follows net q next steps ≡ true) → follows net q at (step ∷ steps) ≡ true
     go None m ih = let none : false ≡ true = rw m at parts.1 in cc
     go (Some next) m ih =
-        and_from (q at step) (option_map_or (λ (n : Place). follows net q n steps) (moved net at step) false)
+        and_from (q at step) (option_map_or (λ (n : Location). follows net q n steps) (moved net at step) false)
         (each at step parts.0) (rw m (ih next (rw m at parts.1)))
 
 -- the start of a trace is a start of the moving world
@@ -92,79 +92,79 @@ find_none p (y ∷ xs) x f h = go (p y) refl (find_none p xs x)
         ]
 
 -- a step leads to its member's link
-moved_link : (net : Net) (at : Place) (step : Step) (n : Names net at step) (next : Place) → moved net at step ≡ Some next → next.0 ≡ n.member.link
+moved_link : (net : Net) (at : Location) (step : Step) (n : Names net at step) (next : Location) → moved net at step ≡ Some next → next.0 ≡ n.member.link
 moved_link net at step n next m = go (after_ops n.member.ops at.1) refl
   where
     m1 : option_map (λ (h : List Entry). (n.member.link, h)) (after_ops n.member.ops at.1) ≡ Some next
     m1 = rw (member_named net at step n) at m
 
     go : (o : Option (List Entry)) → after_ops n.member.ops at.1 ≡ o → next.0 ≡ n.member.link
-    go None e = let none : ◌≡◌ {A = Option Place} None (Some next) = rw e at m1 in cc
-    go (Some h) e = let some : ◌≡◌ {A = Option Place} (Some (n.member.link, h)) (Some next) = rw e at m1 in cc
+    go None e = let none : ◌≡◌ {A = Option Location} None (Some next) = rw e at m1 in cc
+    go (Some h) e = let some : ◌≡◌ {A = Option Location} (Some (n.member.link, h)) (Some next) = rw e at m1 in cc
 
-abbrev pub links_along : Net → Place → List Step → List LinkId
-links_along net at steps = map (λ (p : Place). p.0) (places net at steps)
+abbrev pub links_along : Net → Location → List Step → List LinkId
+links_along net at steps = map (λ (p : Location). p.0) (locations net at steps)
 
-first_link : (net : Net) (at : Place) (steps : List Step) → has (links_along net at steps) at.0 ≡ true
+first_link : (net : Net) (at : Location) (steps : List Step) → has (links_along net at steps) at.0 ≡ true
 first_link net at [] = or_left (nat_eq (at.0).0 (at.0).0) false (eq-eqb (at.0).0 (at.0).0 refl)
-first_link net at (step ∷ steps) = or_left (nat_eq (at.0).0 (at.0).0) (has (map (λ (p : Place). p.0) (option_map_or (λ next. places net next steps) (moved net at step) [])) at.0) (eq-eqb (at.0).0 (at.0).0 refl)
+first_link net at (step ∷ steps) = or_left (nat_eq (at.0).0 (at.0).0) (has (map (λ (p : Location). p.0) (option_map_or (λ next. locations net next steps) (moved net at step) [])) at.0) (eq-eqb (at.0).0 (at.0).0 refl)
 
 -- possible hops whose needs have failed, and whose links haven't, are a trace
-pub follows_needs : (net : Net) (b : Bounds) (s : List LinkId) (at : Place) (steps : List Step) → IsNetwork net
+pub follows_needs : (net : Net) (b : Bounds) (s : List LinkId) (at : Location) (steps : List Step) → IsNetwork net
     → ((e : LinkId) → is_link net e ≡ true → is_needed net e at steps ≡ true → has s e ≡ true)
     → ((e : LinkId) → has (links_along net at steps) e ≡ true → has s e ≡ false)
     → follows net (is_possible net b) at steps ≡ true → follows net (is_usable net s) at steps ≡ true
 follows_needs net b s at [] k into free h = refl
 follows_needs net b s at (step ∷ steps) k into free h = go (moved net at step) refl (λ next. follows_needs net b s next steps k)
   where
-    parts : (is_possible net b at step ≡ true) × (option_map_or (λ (next : Place). follows net (is_possible net b) next steps) (moved net at step) false ≡ true)
-    parts = and_parts (is_possible net b at step) (option_map_or (λ (next : Place). follows net (is_possible net b) next steps) (moved net at step) false) h
+    parts : (is_possible net b at step ≡ true) × (option_map_or (λ (next : Location). follows net (is_possible net b) next steps) (moved net at step) false ≡ true)
+    parts = and_parts (is_possible net b at step) (option_map_or (λ (next : Location). follows net (is_possible net b) next steps) (moved net at step) false) h
 
     p : Possible net b at step
     p = possible_parts net b at step parts.0
 
-    go : (o : Option Place) → moved net at step ≡ o
-        → ((next : Place) → ((e : LinkId) → is_link net e ≡ true → is_needed net e next steps ≡ true → has s e ≡ true) → ((e : LinkId) → has (links_along net next steps) e ≡ true → has s e ≡ false) → follows net (is_possible net b) next steps ≡ true → follows net (is_usable net s) next steps ≡ true)
+    go : (o : Option Location) → moved net at step ≡ o
+        → ((next : Location) → ((e : LinkId) → is_link net e ≡ true → is_needed net e next steps ≡ true → has s e ≡ true) → ((e : LinkId) → has (links_along net next steps) e ≡ true → has s e ≡ false) → follows net (is_possible net b) next steps ≡ true → follows net (is_usable net s) next steps ≡ true)
         → follows net (is_usable net s) at (step ∷ steps) ≡ true
     go None m ih = let none : false ≡ true = rw m at parts.1 in cc
     go (Some next) m ih =
         let later : (e : LinkId) → is_link net e ≡ true → is_needed net e next steps ≡ true → has s e ≡ true
-        = λ e known n. into e known (or_right (has (needed net at step) e) (option_map_or (λ (n2 : Place). is_needed net e n2 steps) (moved net at step) false) (rw m n)) in
+        = λ e known n. into e known (or_right (has (needed net at step) e) (option_map_or (λ (n2 : Location). is_needed net e n2 steps) (moved net at step) false) (rw m n)) in
         let now : (e : LinkId) → has (needed net at step) e ≡ true → has s e ≡ true
-        = λ e n. into e (union_link net (needed net at step) e (before_union net (groups_at net at.0 at.1) step.group) n) (or_left (has (needed net at step) e) (option_map_or (λ (n2 : Place). is_needed net e n2 steps) (moved net at step) false) n) in
+        = λ e n. into e (union_link net (needed net at step) e (before_union net (groups_at net at.0 at.1) step.group) n) (or_left (has (needed net at step) e) (option_map_or (λ (n2 : Location). is_needed net e n2 steps) (moved net at step) false) n) in
         let free_later : (e : LinkId) → has (links_along net next steps) e ≡ true → has s e ≡ false
-        = λ e i. free e (or_right (nat_eq (at.0).0 e.0) (has (map (λ (p : Place). p.0) (option_map_or (λ n2. places net n2 steps) (moved net at step) [])) e) (rw m i)) in
+        = λ e i. free e (or_right (nat_eq (at.0).0 e.0) (has (map (λ (p : Location). p.0) (option_map_or (λ n2. locations net n2 steps) (moved net at step) [])) e) (rw m i)) in
         let alive : has s p.named.member.link ≡ false
         = rw (sym (moved_link net at step p.named next m)) (free_later next.0 (first_link net next steps)) in
-        and_from (is_usable net s at step) (option_map_or (λ (n2 : Place). follows net (is_usable net s) n2 steps) (moved net at step) false)
+        and_from (is_usable net s at step) (option_map_or (λ (n2 : Location). follows net (is_usable net s) n2 steps) (moved net at step) false)
         (possible_usable net s at step k now p.named alive)
         (rw m (ih next later free_later (rw m at parts.1)))
 
 -- the needs of possible hops are an allowed set, as far as the count goes
-needed_along : (net : Net) (b : Bounds) (at : Place) (steps : List Step) (x e : LinkId) → is_link net e ≡ true → same_risk net x e ≡ true → is_needed net x at steps ≡ true → is_needed net e at steps ≡ true
+needed_along : (net : Net) (b : Bounds) (at : Location) (steps : List Step) (x e : LinkId) → is_link net e ≡ true → same_risk net x e ≡ true → is_needed net x at steps ≡ true → is_needed net e at steps ≡ true
 needed_along net b at [] x e known r h = cc
 needed_along net b at (step ∷ steps) x e known r h =
-    elim (or_cases (has (needed net at step) x) (option_map_or (λ (n : Place). is_needed net x n steps) (moved net at step) false) h) [
-      | inl now ↦ or_left (has (needed net at step) e) (option_map_or (λ (n : Place). is_needed net e n steps) (moved net at step) false) (union_has net (needed net at step) x e (before_union net (groups_at net at.0 at.1) step.group) now r known)
-      | inr later ↦ or_right (has (needed net at step) e) (option_map_or (λ (n : Place). is_needed net e n steps) (moved net at step) false) (carry (moved net at step) (λ n. needed_along net b n steps x e known r) later)
+    elim (or_cases (has (needed net at step) x) (option_map_or (λ (n : Location). is_needed net x n steps) (moved net at step) false) h) [
+      | inl now ↦ or_left (has (needed net at step) e) (option_map_or (λ (n : Location). is_needed net e n steps) (moved net at step) false) (union_has net (needed net at step) x e (before_union net (groups_at net at.0 at.1) step.group) now r known)
+      | inr later ↦ or_right (has (needed net at step) e) (option_map_or (λ (n : Location). is_needed net e n steps) (moved net at step) false) (carry (moved net at step) (λ n. needed_along net b n steps x e known r) later)
     ]
   where
-    carry : (o : Option Place) → ((n : Place) → is_needed net x n steps ≡ true → is_needed net e n steps ≡ true) → option_map_or (λ (n : Place). is_needed net x n steps) o false ≡ true → option_map_or (λ (n : Place). is_needed net e n steps) o false ≡ true
+    carry : (o : Option Location) → ((n : Location) → is_needed net x n steps ≡ true → is_needed net e n steps ≡ true) → option_map_or (λ (n : Location). is_needed net x n steps) o false ≡ true → option_map_or (λ (n : Location). is_needed net e n steps) o false ≡ true
     carry None ih i = cc
     carry (Some n) ih i = ih n i
 
-pub needed_up : (net : Net) (b : Bounds) (at : Place) (steps : List Step) (e : LinkId) → follows net (is_possible net b) at steps ≡ true → is_needed net e at steps ≡ true → has b.up e ≡ false
+pub needed_up : (net : Net) (b : Bounds) (at : Location) (steps : List Step) (e : LinkId) → follows net (is_possible net b) at steps ≡ true → is_needed net e at steps ≡ true → has b.up e ≡ false
 needed_up net b at [] e h i = cc
 needed_up net b at (step ∷ steps) e h i =
-    elim (or_cases (has (needed net at step) e) (option_map_or (λ (n : Place). is_needed net e n steps) (moved net at step) false) i) [
+    elim (or_cases (has (needed net at step) e) (option_map_or (λ (n : Location). is_needed net e n steps) (moved net at step) false) i) [
       | inl now ↦ apart_has (needed net at step) b.up e ((possible_parts net b at step parts.0).up) now
       | inr later ↦ carry (moved net at step) (λ n. needed_up net b n steps e) parts.1 later
     ]
   where
-    parts : (is_possible net b at step ≡ true) × (option_map_or (λ (next : Place). follows net (is_possible net b) next steps) (moved net at step) false ≡ true)
-    parts = and_parts (is_possible net b at step) (option_map_or (λ (next : Place). follows net (is_possible net b) next steps) (moved net at step) false) h
+    parts : (is_possible net b at step ≡ true) × (option_map_or (λ (next : Location). follows net (is_possible net b) next steps) (moved net at step) false ≡ true)
+    parts = and_parts (is_possible net b at step) (option_map_or (λ (next : Location). follows net (is_possible net b) next steps) (moved net at step) false) h
 
-    carry : (o : Option Place) → ((n : Place) → follows net (is_possible net b) n steps ≡ true → is_needed net e n steps ≡ true → has b.up e ≡ false) → option_map_or (λ (n : Place). follows net (is_possible net b) n steps) o false ≡ true → option_map_or (λ (n : Place). is_needed net e n steps) o false ≡ true → has b.up e ≡ false
+    carry : (o : Option Location) → ((n : Location) → follows net (is_possible net b) n steps ≡ true → is_needed net e n steps ≡ true → has b.up e ≡ false) → option_map_or (λ (n : Location). follows net (is_possible net b) n steps) o false ≡ true → option_map_or (λ (n : Location). is_needed net e n steps) o false ≡ true → has b.up e ≡ false
     carry None ih f j = cc
     carry (Some n) ih f j = ih n f j
 
@@ -175,7 +175,7 @@ fits_trace net b run fails k kb h v = (rw (sym fit.are_needs) trace, rw (sym fit
     fit : Fit net b run fails
     fit = fit_parts net b run fails v
 
-    at : Place
+    at : Location
     at = (run.first, run.header)
 
     parts : (is_start net b.down run.first run.header ≡ true) × (follows net (is_possible net b) (run.first, run.header) run.steps ≡ true)
@@ -216,7 +216,7 @@ fits_trace net b run fails k kb h v = (rw (sym fit.are_needs) trace, rw (sym fit
     }
 
 -- where nothing may fail, what a possible hop needs is down already
-pub needed_none : (net : Net) (b : Bounds) (at : Place) (step : Step) → IsNetwork net → AreBounds net b → b.k ≡ 0 → is_possible net b at step ≡ true → (e : LinkId) → has (needed net at step) e ≡ true → has b.down e ≡ true
+pub needed_none : (net : Net) (b : Bounds) (at : Location) (step : Step) → IsNetwork net → AreBounds net b → b.k ≡ 0 → is_possible net b at step ≡ true → (e : LinkId) → has (needed net at step) e ≡ true → has b.down e ≡ true
 needed_none net b at step k kb zero_k h e i = elim (cases_Bool (has b.down e)) [ inl d ↦ d | inr d ↦ absurd (none d) ]
   where
     none : has b.down e ≡ false → ⊥
@@ -236,38 +236,38 @@ zero_trace net b run k kb zero_k h =
     parts.1)
 
 -- the links of possible hops aren't known to be down
-pub alive_along : (net : Net) (b : Bounds) (at : Place) (steps : List Step) (e : LinkId) → has b.down at.0 ≡ false → follows net (is_possible net b) at steps ≡ true → has (links_along net at steps) e ≡ true → has b.down e ≡ false
+pub alive_along : (net : Net) (b : Bounds) (at : Location) (steps : List Step) (e : LinkId) → has b.down at.0 ≡ false → follows net (is_possible net b) at steps ≡ true → has (links_along net at steps) e ≡ true → has b.down e ≡ false
 alive_along net b at [] e first h i =
     elim (or_cases (nat_eq (at.0).0 e.0) false i) [ inl eb ↦ rw (sym (same_link at.0 e eb)) first | inr no_more ↦ cc ]
 alive_along net b at (step ∷ steps) e first h i =
-    elim (or_cases (nat_eq (at.0).0 e.0) (has (map (λ (p : Place). p.0) (option_map_or (λ n. places net n steps) (moved net at step) [])) e) i) [
+    elim (or_cases (nat_eq (at.0).0 e.0) (has (map (λ (p : Location). p.0) (option_map_or (λ n. locations net n steps) (moved net at step) [])) e) i) [
       | inl eb ↦ rw (sym (same_link at.0 e eb)) first
       | inr later ↦ go (moved net at step) refl (λ n. alive_along net b n steps e) later
     ]
   where
-    parts : (is_possible net b at step ≡ true) × (option_map_or (λ (next : Place). follows net (is_possible net b) next steps) (moved net at step) false ≡ true)
-    parts = and_parts (is_possible net b at step) (option_map_or (λ (next : Place). follows net (is_possible net b) next steps) (moved net at step) false) h
+    parts : (is_possible net b at step ≡ true) × (option_map_or (λ (next : Location). follows net (is_possible net b) next steps) (moved net at step) false ≡ true)
+    parts = and_parts (is_possible net b at step) (option_map_or (λ (next : Location). follows net (is_possible net b) next steps) (moved net at step) false) h
 
-    go : (o : Option Place) → moved net at step ≡ o → ((n : Place) → has b.down n.0 ≡ false → follows net (is_possible net b) n steps ≡ true → has (links_along net n steps) e ≡ true → has b.down e ≡ false)
-        → has (map (λ (p : Place). p.0) (option_map_or (λ n. places net n steps) (moved net at step) [])) e ≡ true → has b.down e ≡ false
+    go : (o : Option Location) → moved net at step ≡ o → ((n : Location) → has b.down n.0 ≡ false → follows net (is_possible net b) n steps ≡ true → has (links_along net n steps) e ≡ true → has b.down e ≡ false)
+        → has (map (λ (p : Location). p.0) (option_map_or (λ n. locations net n steps) (moved net at step) [])) e ≡ true → has b.down e ≡ false
     go None m ih j = let none : false ≡ true = rw m at parts.1 in cc
     go (Some n) m ih j =
         let q = possible_parts net b at step parts.0 in
         let alive : has b.down n.0 ≡ false = rw (moved_link net at step q.named n m) q.alive in
         ih n alive (rw m at parts.1) (rw m at j)
 
-needs_down : (net : Net) (b : Bounds) (at : Place) (steps : List Step) → IsNetwork net → AreBounds net b → b.k ≡ 0 → follows net (is_possible net b) at steps ≡ true → (e : LinkId) → is_needed net e at steps ≡ true → has b.down e ≡ true
+needs_down : (net : Net) (b : Bounds) (at : Location) (steps : List Step) → IsNetwork net → AreBounds net b → b.k ≡ 0 → follows net (is_possible net b) at steps ≡ true → (e : LinkId) → is_needed net e at steps ≡ true → has b.down e ≡ true
 needs_down net b at [] k kb zero_k h e i = cc
 needs_down net b at (step ∷ steps) k kb zero_k h e i =
-    elim (or_cases (has (needed net at step) e) (option_map_or (λ (n : Place). is_needed net e n steps) (moved net at step) false) i) [
+    elim (or_cases (has (needed net at step) e) (option_map_or (λ (n : Location). is_needed net e n steps) (moved net at step) false) i) [
       | inl now ↦ needed_none net b at step k kb zero_k parts.0 e now
       | inr later ↦ carry (moved net at step) (λ n f j. needs_down net b n steps k kb zero_k f e j) parts.1 later
     ]
   where
-    parts : (is_possible net b at step ≡ true) × (option_map_or (λ (next : Place). follows net (is_possible net b) next steps) (moved net at step) false ≡ true)
-    parts = and_parts (is_possible net b at step) (option_map_or (λ (next : Place). follows net (is_possible net b) next steps) (moved net at step) false) h
+    parts : (is_possible net b at step ≡ true) × (option_map_or (λ (next : Location). follows net (is_possible net b) next steps) (moved net at step) false ≡ true)
+    parts = and_parts (is_possible net b at step) (option_map_or (λ (next : Location). follows net (is_possible net b) next steps) (moved net at step) false) h
 
-    carry : (o : Option Place) → ((n : Place) → follows net (is_possible net b) n steps ≡ true → is_needed net e n steps ≡ true → has b.down e ≡ true) → option_map_or (λ (n : Place). follows net (is_possible net b) n steps) o false ≡ true → option_map_or (λ (n : Place). is_needed net e n steps) o false ≡ true → has b.down e ≡ true
+    carry : (o : Option Location) → ((n : Location) → follows net (is_possible net b) n steps ≡ true → is_needed net e n steps ≡ true → has b.down e ≡ true) → option_map_or (λ (n : Location). follows net (is_possible net b) n steps) o false ≡ true → option_map_or (λ (n : Location). is_needed net e n steps) o false ≡ true → has b.down e ≡ true
     carry None ih f j = cc
     carry (Some n) ih f j = ih n f j
 

@@ -10,7 +10,7 @@ use Rattle.wi_labels.specs.Header.{Entry}
 use Rattle.wi_net.specs.declared.parts.LinkId.{LinkId}
 use Rattle.wi_net.specs.declared.parts.Link.{Link}
 use Rattle.wi_net.specs.declared.parts.Member.{Member}
-use Rattle.wi_net.specs.declared.parts.Row.{Row}
+use Rattle.wi_net.specs.declared.parts.TableRow.{TableRow}
 use Rattle.wi_net.specs.declared.bounds.Bounds.{Bounds}
 use Rattle.wi_net.specs.Names.{are_names}
 use Rattle.wi_net.specs.Ends.{are_ends_apart}
@@ -59,7 +59,7 @@ abbrev pub only : ℕ → List Op → List Member
 only e ops = member e ops ∷ []
 
 -- what the tables say of a link and a label
-abbrev pub row : ℕ → Entry → List (List Member) → Row
+abbrev pub row : ℕ → Entry → List (List Member) → TableRow
 row e t groups = record { link = l e; label = t.0; groups = groups }
 
 -- the routers are x, a, b, c, y, z and r
@@ -67,7 +67,7 @@ abbrev routers : List (List ℕ)
 routers = (120 ∷ []) ∷ (97 ∷ []) ∷ (98 ∷ []) ∷ (99 ∷ []) ∷ (121 ∷ []) ∷ (122 ∷ []) ∷ (114 ∷ []) ∷ []
 
 -- a network of these links and rows, with an interface for each link
-abbrev pub net_of : List Link → List Row → Net
+abbrev pub net_of : List Link → List TableRow → Net
 net_of links rows = record {
   routers = routers;
   labels = (51 ∷ 48 ∷ []) ∷ (51 ∷ 49 ∷ []) ∷ (115 ∷ 49 ∷ 48 ∷ []) ∷ (105 ∷ 112 ∷ 49 ∷ []) ∷ [];
@@ -78,7 +78,7 @@ net_of links rows = record {
 }
 
 -- tests that compute make such a network one that the laws speak of
-pub sample_network : (links : List Link) (rows : List Row) → are_names (take (length links) routers) ≡ true → named_after (Some 0) links ≡ Some (length (take (length links) routers)) → list_all (is_link_of (net_of links rows)) links ≡ true → are_ends_apart links ≡ true → list_all (λ (l : Link). nat_lt l.distance (2 ^ 32)) links ≡ true → list_all (is_risk_named (net_of links rows)) (all_links (net_of links rows)) ≡ true → list_all (is_row_of (net_of links rows)) rows ≡ true → are_rows_apart rows ≡ true → nat_le (length (take (length links) routers)) (2 * length links) ≡ true → nat_le (length links) 20000 ≡ true → nat_le (length rows) 200000 ≡ true → nat_le (row_members rows) 400000 ≡ true → IsNetwork (net_of links rows)
+pub sample_network : (links : List Link) (rows : List TableRow) → are_names (take (length links) routers) ≡ true → named_after (Some 0) links ≡ Some (length (take (length links) routers)) → list_all (is_link_of (net_of links rows)) links ≡ true → are_ends_apart links ≡ true → list_all (λ (l : Link). nat_lt l.distance (2 ^ 32)) links ≡ true → list_all (is_risk_named (net_of links rows)) (all_links (net_of links rows)) ≡ true → list_all (is_row_of (net_of links rows)) rows ≡ true → are_rows_apart rows ≡ true → nat_le (length (take (length links) routers)) (2 * length links) ≡ true → nat_le (length links) 20000 ≡ true → nat_le (length rows) 200000 ≡ true → nat_le (row_members rows) 400000 ≡ true → IsNetwork (net_of links rows)
 sample_network links rows interfaces in_turn between ends near risks tables apart named few_links few_rows few_members = record {
   routers = refl;
   labels = refl;
@@ -105,7 +105,7 @@ abbrev pub five_links : LinkId → LinkId → LinkId → List Link
 five_links r1 r2 r4 = link 0 0 1 1 (l 0) ∷ link 1 1 2 1 r1 ∷ link 2 1 3 2 r2 ∷ link 3 3 2 2 (l 3) ∷ link 4 2 4 1 r4 ∷ []
 
 -- from x there is a choice at a; from a to b it goes on to y; from a to c, and from there to b, there is a choice again
-abbrev pub tables : List (List Member) → List (List Member) → List (List Member) → List Row
+abbrev pub tables : List (List Member) → List (List Member) → List (List Member) → List TableRow
 tables at_a at_c at_b = row 0 ip1 at_a ∷ row 1 s10 (only 4 (Pop ∷ []) ∷ []) ∷ row 2 t30 at_c ∷ row 3 s10 at_b ∷ []
 
 -- first to b, else by c in a tunnel

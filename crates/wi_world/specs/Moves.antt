@@ -8,12 +8,13 @@ use Rattle.wi_net.specs.declared.parts.Member.{Member}
 use Rattle.wi_net.specs.declared.bounds.Bounds.{Bounds}
 use Rattle.wi_net.specs.LinkSet.{has, is_within, is_apart, outside}
 use Rattle.wi_net.specs.Net.{Net, is_link, labels_known, widened, risk_count, entry, first_active, before}
+use Rattle.wi_net.specs.Network.{IsNetwork}
 use Rattle.wi_world.specs.declared.run.Step.{Step}
 use Rattle.wi_world.specs.declared.run.Run.{Run}
 
 -- the link that the packet is on, and its header
-abbrev pub Place : Type 0
-Place = LinkId × List Entry
+abbrev pub Location : Type 0
+Location = LinkId × List Entry
 
 -- the groups that the tables have for a link and a header
 abbrev pub groups_at : Net → LinkId → List Entry → List (List Member)
@@ -21,40 +22,45 @@ groups_at net e [] = []
 groups_at net e (top ∷ below) = entry net e top.0
 
 -- the member that a step names
-abbrev pub member_at : Net → Place → Step → Option Member
+abbrev pub member_at : Net → Location → Step → Option Member
 member_at net at step = option_and_then (λ group. slice_get group step.member) (slice_get (groups_at net at.0 at.1) step.group)
 
 -- where a member leads: nowhere, where one of its operations isn't defined
-abbrev pub through : List Entry → Member → Option Place
+abbrev pub through : List Entry → Member → Option Location
 through header member = option_map (λ next. (member.link, next)) (after_ops member.ops header)
 
 -- where a step leads, whatever is failed
-abbrev pub moved : Net → Place → Step → Option Place
+abbrev pub moved : Net → Location → Step → Option Location
 moved net at step = option_and_then (λ member. through at.1 member) (member_at net at step)
 
 -- what must have failed for the step's group to be used: the risk groups of the links of the groups before it
-abbrev pub needed : Net → Place → Step → List LinkId
+abbrev pub needed : Net → Location → Step → List LinkId
 needed net at step = before net (groups_at net at.0 at.1) step.group
 
 -- the step names a member, whose link passes a test
-abbrev pub by_link : Net → Place → Step → (LinkId → Bool) → Bool
+abbrev pub by_link : Net → Location → Step → (LinkId → Bool) → Bool
 by_link net at step p = option_map_or (λ member. p member.link) (member_at net at step) false
 
 -- the hop of one moment: the step's group is the first active one, and its member's link isn't failed
-abbrev pub is_usable : Net → List LinkId → Place → Step → Bool
+abbrev pub is_usable : Net → List LinkId → Location → Step → Bool
 is_usable net fails at step =
     option_map_or (λ j. j == step.group) (first_active fails (groups_at net at.0 at.1)) false
     && by_link net at step (λ e. not (has fails e))
 
+-- all of a union of risk groups may be down at some moment
+abbrev pub may_be_down : Net → Bounds → List LinkId → Bool
+may_be_down net bounds links = nat_le (risk_count net (outside links bounds.down)) bounds.k && is_apart links bounds.up
+
+-- a link may be up then
+abbrev pub may_be_up : Bounds → List LinkId → LinkId → Bool
+may_be_up bounds links e = not (has links e) && not (has bounds.down e)
+
 -- the hop can happen at some moment: all that it needs may be down then, with its own link up
-abbrev pub is_possible : Net → Bounds → Place → Step → Bool
-is_possible net bounds at step =
-    nat_le (risk_count net (outside (needed net at step) bounds.down)) bounds.k
-    && is_apart (needed net at step) bounds.up
-    && by_link net at step (λ e. not (has (needed net at step) e) && not (has bounds.down e))
+abbrev pub is_possible : Net → Bounds → Location → Step → Bool
+is_possible net bounds at step = may_be_down net bounds (needed net at step) && by_link net at step (may_be_up bounds (needed net at step))
 
 -- each step passes a test where the packet is, and leads on
-abbrev pub follows : Net → (Place → Step → Bool) → Place → List Step → Bool
+abbrev pub follows : Net → (Location → Step → Bool) → Location → List Step → Bool
 follows net test at [] = true
 follows net test at (step ∷ steps) = test at step && option_map_or (λ next. follows net test next steps) (moved net at step) false
 
@@ -82,3 +88,8 @@ pub record AreBounds (net : Net) (bounds : Bounds) : Type 0 where
   pub down : widened net bounds.down ≡ bounds.down
   pub up : widened net bounds.up ≡ bounds.up
   pub apart : is_apart bounds.down bounds.up ≡ true
+
+-- a network, and bounds on what may fail in it
+pub record IsBounded (net : Net) (bounds : Bounds) : Type 0 where
+  pub network : IsNetwork net
+  pub bounds_of : AreBounds net bounds

@@ -14,33 +14,33 @@ use Rattle.wi_world.specs.declared.answer.Verdict.{Verdict}
 use Rattle.wi_world.specs.declared.answer.Verdict.TheVariants.{Fits, Exceeds, UsesFailed}
 use Rattle.wi_world.specs.declared.run.Quantity.{Quantity}
 use Rattle.wi_world.specs.declared.run.Quantity.TheVariants.{Links, Hops, Distance, Failures, Tunnels}
-use Rattle.wi_world.specs.Moves.{Place, member_at, moved, needed}
+use Rattle.wi_world.specs.Moves.{Location, member_at, moved, needed}
 
 -- the places of a packet, as far as the steps lead
-abbrev pub places : Net → Place → List Step → List Place
-places net at [] = at ∷ []
-places net at (step ∷ steps) = at ∷ option_map_or (λ next. places net next steps) (moved net at step) []
+abbrev pub locations : Net → Location → List Step → List Location
+locations net at [] = at ∷ []
+locations net at (step ∷ steps) = at ∷ option_map_or (λ next. locations net next steps) (moved net at step) []
 
 -- the places of a run
-abbrev pub trace_of : Net → Run → List Place
-trace_of net run = places net (run.first, run.header) run.steps
+abbrev pub trace_of : Net → Run → List Location
+trace_of net run = locations net (run.first, run.header) run.steps
 
 -- the links of a run
 abbrev pub links_of : Net → Run → List LinkId
 links_of net run = map (λ at. at.0) (trace_of net run)
 
 -- the header after the last step, or none where a step leads nowhere
-abbrev pub last_header : Net → Place → List Step → List Entry
+abbrev pub last_header : Net → Location → List Step → List Entry
 last_header net at [] = at.1
 last_header net at (step ∷ steps) = option_map_or (λ next. last_header net next steps) (moved net at step) []
 
 -- a sum over the steps, each with the places before and after it
-abbrev pub sum_over : Net → (Place → Step → Place → ℕ) → Place → List Step → ℕ
+abbrev pub sum_over : Net → (Location → Step → Location → ℕ) → Location → List Step → ℕ
 sum_over net f at [] = 0
 sum_over net f at (step ∷ steps) = option_map_or (λ next. f at step next + sum_over net f next steps) (moved net at step) 0
 
 -- a link is needed by one of the steps
-abbrev pub is_needed : Net → LinkId → Place → List Step → Bool
+abbrev pub is_needed : Net → LinkId → Location → List Step → Bool
 is_needed net e at [] = false
 is_needed net e at (step ∷ steps) = has (needed net at step) e || option_map_or (λ next. is_needed net e next steps) (moved net at step) false
 
@@ -68,7 +68,7 @@ link_share Failures net e = 0
 link_share Tunnels net e = 0
 
 -- what a step adds besides its link
-abbrev pub hop_share : Quantity → Net → Place → Step → Place → ℕ
+abbrev pub hop_share : Quantity → Net → Location → Step → Location → ℕ
 hop_share Failures net at step next = risk_count net (needed net at step)
 hop_share Tunnels net at step next = length next.1 - length at.1
 hop_share _ net at step next = 0
@@ -80,7 +80,7 @@ quantity_of q net run =
     + sum_over net (λ at step next. link_share q net next.0 + hop_share q net at step next) (run.first, run.header) run.steps
 
 -- how many operations a step does, or one where it does none
-abbrev pub work : Net → Place → Step → Place → ℕ
+abbrev pub work : Net → Location → Step → Location → ℕ
 work net at step next = option_map_or (λ member. max 1 (length member.ops)) (member_at net at step) 0
 
 -- how many pushdown rules make the run: one for each label of its first and last headers, the work of its steps, and four

@@ -1,38 +1,36 @@
 //! Laws: what the definitions mean. Each holds for every network, every bounds and every run, and runs no code.
 ghost use Rattle.std.specs.Prelude.{◌≡◌, ℕ, true, List, []};
 ghost use Rattle.wi_net.specs.Net.{Net};
-ghost use Rattle.wi_net.specs.Network.{IsNetwork};
 ghost use Rattle.wi_net.specs.declared.bounds.Bounds.{Bounds};
 ghost use Rattle.wi_net.specs.declared.parts.LinkId.{LinkId};
 ghost use Rattle.wi_world.specs.declared.run.Run.{Run};
 ghost use Rattle.wi_world.specs.declared.answer.Verdict.{Verdict};
-ghost use Rattle.wi_world.specs.Moves.{is_trace, is_possible_run, AreBounds, IsAllowed};
+ghost use Rattle.wi_world.specs.Moves.{is_trace, is_possible_run, IsAllowed, IsBounded};
 ghost use Rattle.wi_world.specs.Moving.{IsMovingRun};
 ghost use Rattle.wi_world.specs.Runs.{verdict_of};
 
 /// A run moves exactly where each of its steps is a possible hop: whatever the course of failures, repairs and hops.
-#[tactic(auto, using(crate::proofs::MovingLaws::moving_possible, crate::proofs::MovingLaws::possible_moving))]
 pub fn moving_runs_are_possible_runs()
-    ensures forwards { (net : Net) (bounds : Bounds) (run : Run) → IsNetwork net → AreBounds net bounds → IsMovingRun net bounds run → is_possible_run net bounds run ≡ true }
-    ensures backwards { (net : Net) (bounds : Bounds) (run : Run) → IsNetwork net → AreBounds net bounds → is_possible_run net bounds run ≡ true → IsMovingRun net bounds run }
+    ensures forwards { (net : Net) (bounds : Bounds) (run : Run) → IsBounded net bounds → IsMovingRun net bounds run → is_possible_run net bounds run ≡ true }
+    ensures backwards { (net : Net) (bounds : Bounds) (run : Run) → IsBounded net bounds → is_possible_run net bounds run ≡ true → IsMovingRun net bounds run }
 {}
 
 /// A trace under failures that the bounds allow is a run of the moving world: those fail first.
 pub fn traces_are_moving_runs()
-    ensures { (net : Net) (bounds : Bounds) (fails : List LinkId) (run : Run) → IsNetwork net → AreBounds net bounds → IsAllowed net bounds fails → is_trace net fails run ≡ true → IsMovingRun net bounds run }
+    ensures { (net : Net) (bounds : Bounds) (fails : List LinkId) (run : Run) → IsBounded net bounds → IsAllowed net bounds fails → is_trace net fails run ≡ true → IsMovingRun net bounds run }
 {}
 
 /// A moving run that fits is a trace under its own needs, and the bounds allow those. It is the same run, and so weighs
 /// the same.
 pub fn fitting_runs_are_traces()
-    ensures trace { (net : Net) (bounds : Bounds) (fails : List LinkId) (run : Run) → IsNetwork net → AreBounds net bounds → IsMovingRun net bounds run → verdict_of net bounds run ≡ Verdict.Fits fails → is_trace net fails run ≡ true }
-    ensures allowed { (net : Net) (bounds : Bounds) (fails : List LinkId) (run : Run) → IsNetwork net → AreBounds net bounds → IsMovingRun net bounds run → verdict_of net bounds run ≡ Verdict.Fits fails → IsAllowed net bounds fails }
+    ensures trace { (net : Net) (bounds : Bounds) (fails : List LinkId) (run : Run) → IsBounded net bounds → IsMovingRun net bounds run → verdict_of net bounds run ≡ Verdict.Fits fails → is_trace net fails run ≡ true }
+    ensures allowed { (net : Net) (bounds : Bounds) (fails : List LinkId) (run : Run) → IsBounded net bounds → IsMovingRun net bounds run → verdict_of net bounds run ≡ Verdict.Fits fails → IsAllowed net bounds fails }
 {}
 
 /// Where nothing may fail besides what is down, the moving runs are the traces under what is down, and each fits: with
 /// nothing known to be down, the traces under the empty set.
 pub fn without_failures()
-    ensures trace { (net : Net) (bounds : Bounds) (run : Run) → IsNetwork net → AreBounds net bounds → bounds.k ≡ 0 → IsMovingRun net bounds run → is_trace net bounds.down run ≡ true }
-    ensures moving { (net : Net) (bounds : Bounds) (run : Run) → IsNetwork net → AreBounds net bounds → is_trace net bounds.down run ≡ true → IsMovingRun net bounds run }
-    ensures fits { (net : Net) (bounds : Bounds) (run : Run) → IsNetwork net → AreBounds net bounds → bounds.k ≡ 0 → IsMovingRun net bounds run → verdict_of net bounds run ≡ Verdict.Fits bounds.down }
+    ensures trace { (net : Net) (bounds : Bounds) (run : Run) → IsBounded net bounds → bounds.k ≡ 0 → IsMovingRun net bounds run → is_trace net bounds.down run ≡ true }
+    ensures moving { (net : Net) (bounds : Bounds) (run : Run) → IsBounded net bounds → is_trace net bounds.down run ≡ true → IsMovingRun net bounds run }
+    ensures fits { (net : Net) (bounds : Bounds) (run : Run) → IsBounded net bounds → bounds.k ≡ 0 → IsMovingRun net bounds run → verdict_of net bounds run ≡ Verdict.Fits bounds.down }
 {}

@@ -8,4 +8,5 @@ pub returns-clause-played : goal.returns-clause-played
 returns-clause-played g c = bytes_played _ _ _ _ _ _ _ c.as_slice.ensures.value c.in_ok-bytes.ensures.found c.played.ensures.played
 
 pub returns-clause-refused : goal.returns-clause-refused
-returns-clause-refused g c = bytes_refused _ _ _ _ _ _ _ _ _ _ c.as_slice.ensures.value c.in_ok-bytes.ensures.found c.in_ok-bytes.ensures.calm c.played.ensures.refused
+returns-clause-refused g c =
+    bytes_refused _ (g.S.Shelf.seen c.args.shelf.now) (g.S.Shelf.seen c.script_bytes.new.shelf) _ _ _ _ _ c.as_slice.ensures.value c.in_ok-bytes.ensures.found c.in_ok-bytes.ensures.short c.in_ok-bytes.ensures.calm c.played.ensures.refused

@@ -1,10 +1,11 @@
 use Rattle.std.proofs.Common.{◌≡◌, [], arith}
-use Rattle.wi_build.specs.Systems.{setup_given, spot_rules}
+use Rattle.wi_build.specs.Encodings.{encoding_of}
+use Rattle.wi_build.specs.Systems.{spot_rules}
 use Rattle.wi_build.proofs.RowLemmas.{more_listed, all_made}
 use Rattle.wi_build.proofs.listed.build.Goals as goal
 
 pub loop-spot-preserved : goal.loop-spot-preserved
-loop-spot-preserved c = more_listed (spot_rules (setup_given c.in_ok-system.system)) [] _ _ c.loop-spot.spot c.loop-spot.invariant c.in_ok-push_spot.ensures
+loop-spot-preserved c = more_listed (spot_rules (encoding_of c.in_ok-system.system)) [] _ _ c.loop-spot.spot c.loop-spot.invariant c.in_ok-push_spot.ensures
 
 pub returns-clause-rules : goal.returns-clause-rules
 returns-clause-rules c =

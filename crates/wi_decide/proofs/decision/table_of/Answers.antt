@@ -2,4 +2,4 @@ use Rattle.wi_decide.proofs.RuleLemmas.{ready}
 use Rattle.wi_decide.proofs.decision.table_of.Goals as goal
 
 pub least-requires-clause-ready : goal.least-requires-clause-ready
-least-requires-clause-ready g c = ready c.args.system.now c.args.heads.now.heads c.requires.given c.requires.vector
+least-requires-clause-ready g c = ready c.args.system.now c.args.heads.now.heads c.requires.problem c.requires.vector

@@ -2,12 +2,12 @@ use Rattle.std.proofs.Common.{◌≡◌, refl, sym, ◌∙◌, subst}
 use Rattle.std.specs.Prelude.{IsSome}
 use Rattle.std.proofs.lemmas.Result.{IfOk-weaker}
 use Rattle.wi_decide.specs.Spelled.{Spelled}
-use Rattle.wi_setup.specs.Answers.{IsAnswering}
-use Rattle.wi_rules.specs.Goals.{told_of}
-use Rattle.wi_rules.specs.Numbers.{told_by}
+use Rattle.wi_build.specs.Problems.{IsAnswering}
+use Rattle.wi_rules.specs.Goals.{origins_for}
+use Rattle.wi_rules.specs.Numbers.{origins_by}
 use Rattle.wi_decide.specs.Spelled.{origin}
 use Rattle.wi_world.specs.declared.run.Run.{Run}
-use Rattle.wi_decide.proofs.SpellingLemmas.{goal_tells, told_same, whole}
+use Rattle.wi_decide.proofs.SpellingLemmas.{goal_tells, spelled_same, whole}
 use Rattle.wi_decide.proofs.spelling.run_of.Goals as goal
 
 pub spell-requires-clause-names : goal.spell-requires-clause-names
@@ -23,9 +23,9 @@ into_run-requires g c =
 pub returns : goal.returns
 returns g c =
     IfOk-weaker c.into_run.result _ _
-    (λ run told given w are goal.
-    (let t = goal_tells given c.args.net.now c.args.layout.now (g.S.System.rules c.args.sys.now) c.args.ids.now w are goal in
-    let same : run ≡ t.0 = told_same c.in_ok-spelling.spelling run t.0 told (c.in_ok-spelling.ensures ∙ t.1.whole) in
-    let P : Run → Type 0 = λ r. IsAnswering given.net given.query given.vector given.bounds w r × (told_by origin goal.0 ≡ told_of r) in
+    (λ run told problem w are goal.
+    (let t = goal_tells problem c.args.net.now c.args.layout.now (g.S.System.rules c.args.sys.now) c.args.ids.now w are goal in
+    let same : run ≡ t.0 = spelled_same c.in_ok-spelling.spelling run t.0 told (c.in_ok-spelling.ensures ∙ t.1.whole) in
+    let P : Run → Type 0 = λ r. IsAnswering problem w r × (origins_by origin goal.0 ≡ origins_for r) in
     subst P (sym same) (t.1.answers, t.1.told)))
     c.into_run.ensures

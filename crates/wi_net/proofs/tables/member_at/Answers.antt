@@ -1,6 +1,6 @@
 use Rattle.std.proofs.Common.{◌≡◌, ◌∙◌, ◌<◌, ◌-◌, ap, sym, subst, List, [], ◌∷◌, ℕ, zero, suc, nat_le, length, slice_get, get_or, Some, arith, rules}
 use Rattle.std.specs.List.Sorted.{IsPartitionedBy}
-use Rattle.wi_net.specs.declared.parts.Row.{Row}
+use Rattle.wi_net.specs.declared.parts.TableRow.{TableRow}
 use Rattle.wi_net.specs.declared.parts.Member.{Member}
 use Rattle.wi_net.specs.Tables.{row_members, starts_from, begun, members_of, all_members, group_members}
 use Rattle.std.proofs.lemmas.Option.{slice_get_within}
@@ -8,13 +8,13 @@ use Rattle.wi_net.proofs.MemberLemmas.{Located, located, starts_parted, get_or_s
 use Rattle.wi_net.proofs.tables.member_at.Goals as goal
 
 -- where the number falls
-found : (rows : List Row) (starts : List ℕ) (number after : ℕ) → starts ≡ starts_from 0 rows → number < row_members rows → after ≡ begun number starts → Located rows 0 number after
+found : (rows : List TableRow) (starts : List ℕ) (number after : ℕ) → starts ≡ starts_from 0 rows → number < row_members rows → after ≡ begun number starts → Located rows 0 number after
 found rows starts number after known within is =
     let P : ℕ → Type 0 = λ a. Located rows 0 number a in
     subst P (sym (is ∙ ap (begun number) known)) (located rows 0 number (omega arith) (omega (arith, within)))
 
 -- what stands at the place before
-row_at : (rows : List Row) (number after : ℕ) (at : Located rows 0 number after) → slice_get rows (after - 1) ≡ Some at.row
+row_at : (rows : List TableRow) (number after : ℕ) (at : Located rows 0 number after) → slice_get rows (after - 1) ≡ Some at.row
 row_at rows number after at = ap (λ k. slice_get rows k) (omega (arith, at.place_is)) ∙ at.row_is
 
 read_at : (xs : List ℕ) (i x : ℕ) → slice_get xs i ≡ Some x → get_or xs i 0 ≡ x
@@ -22,7 +22,7 @@ read_at [] i x e = cc
 read_at (y ∷ xs) zero x e = cc
 read_at (y ∷ xs) (suc i) x e = read_at xs i x e
 
-start_at : (rows : List Row) (starts : List ℕ) (number after : ℕ) (at : Located rows 0 number after) → starts ≡ starts_from 0 rows → get_or starts (after - 1) 0 ≡ at.start
+start_at : (rows : List TableRow) (starts : List ℕ) (number after : ℕ) (at : Located rows 0 number after) → starts ≡ starts_from 0 rows → get_or starts (after - 1) 0 ≡ at.start
 start_at rows starts number after at known = read_at starts (after - 1) at.start (ap (λ ss. slice_get ss (after - 1)) known ∙ ap (λ k. slice_get (starts_from 0 rows) k) (omega (arith, at.place_is)) ∙ at.start_is)
 
 pub begun-place-requires : goal.begun-place-requires
@@ -65,8 +65,8 @@ overflow_sub-number c =
     omega (arith, start_at c.args.rows.now c.args.starts.now c.args.number c.begun-place.result at c.requires.known, at.low)
 
 -- the groups of the row that is read
-groups_at : (rows : List Row) (number after : ℕ) (at : Located rows 0 number after) (row : Row) (groups : List (List Member)) → row ≡ get_or rows (after - 1) row → groups ≡ (get_or rows (after - 1) row).groups → groups ≡ at.row.groups
-groups_at rows number after at row groups is same = same ∙ ap (λ (r : Row). r.groups) (sym is ∙ get_or_some rows (after - 1) at.row row (row_at rows number after at) is)
+groups_at : (rows : List TableRow) (number after : ℕ) (at : Located rows 0 number after) (row : TableRow) (groups : List (List Member)) → row ≡ get_or rows (after - 1) row → groups ≡ (get_or rows (after - 1) row).groups → groups ≡ at.row.groups
+groups_at rows number after at row groups is same = same ∙ ap (λ (r : TableRow). r.groups) (sym is ∙ get_or_some rows (after - 1) at.row row (row_at rows number after at) is)
 
 pub member_in-requires : goal.member_in-requires
 member_in-requires c =

@@ -1,4 +1,4 @@
-use Rattle.wi_netjson.proofs.Classes.{then_smpls, then_ip}
+use Rattle.wi_net.proofs.Classes.{then_smpls, then_ip}
 use Rattle.wi_netjson.proofs.labels.labels.Goals as goal
 
 pub label_list-requires-2 : goal.label_list-requires-2

@@ -1,5 +1,5 @@
 use Rattle.std.proofs.Common.{◌∙◌, ap, sym}
-use Rattle.wi_quantity.specs.declared.written.Place.TheVariants.{Start}
+use Rattle.wi_quantity.specs.declared.written.Stage.TheVariants.{Start}
 use Rattle.wi_quantity.specs.Syntax.{stop}
 use Rattle.wi_quantity.proofs.Stopping.{fault_is}
 use Rattle.wi_quantity.proofs.TermLemmas.{noted_from, numbers_from, means_if, fault_if}

@@ -1,23 +1,23 @@
-use Rattle.std.proofs.Common.{refl, length, arith}
+use Rattle.std.proofs.Common.{refl, length}
 use Rattle.std.proofs.lemmas.Option.{slice_get_read}
 use Rattle.wi_saturate.proofs.Elements.{on_ok}
 use Rattle.wi_saturate.proofs.Counts.{one_tries, no_one_tries}
-use Rattle.wi_saturate.proofs.Pushes.{one_first, no_one, adds_none}
+use Rattle.wi_saturate.proofs.Pushes.{one_first, no_one, pushed_none}
+use Rattle.wi_saturate.specs.Turns.{rules_of, rows_of}
 use Rattle.wi_saturate.proofs.joins.push_if_one.Goals as goal
 
 pub push_one-requires-clause-one : goal.push_one-requires-clause-one
 push_one-requires-clause-one g c =
-    one_first c.args.index.now.rules.items c.args.rows.now c.args.rule c.args.last c.in-One.field-0 c.get.result c.requires.rule c.requires.within c.get.ensures c.requires.first c.in-One.is
+    one_first (rules_of c.args.turn.now) (rows_of c.args.turn.now) c.args.rule c.args.turn.now.last c.in-One.field-0 c.get.result c.requires.rule c.requires.turn.within c.get.ensures c.requires.first c.in-One.is
 
 pub returns-in_default : goal.returns-in_default
 returns-in_default g c = record {
-  adds = adds_none g.W.Domain.components c.args.index.now.rules.items c.args.rows.now c.args.heap.now;
-  tries = λ f r at row. no_one_tries c.args.index.now.rules.items c.args.rule c.get.result f r _ (slice_get_read c.args.index.now.rules.items (length c.args.index.now.rules.items) c.args.rule c.get.result refl c.requires.rule c.get.ensures) at c.in_default.not-One;
-  lengths = omega arith;
-  has = no_one g.W.Domain.components c.args.index.now.rules.items c.args.rows.now c.args.heap.now c.args.rule c.args.last c.get.result c.requires.rule c.get.ensures c.in_default.not-One;
+  pushed = pushed_none g.W.Domain.components c.args.turn.now c.args.heap.now c.args.tries.now;
+  tries = λ f r at row. no_one_tries (rules_of c.args.turn.now) c.args.rule c.get.result f r _ (slice_get_read (rules_of c.args.turn.now) (length (rules_of c.args.turn.now)) c.args.rule c.get.result refl c.requires.rule c.get.ensures) at c.in_default.not-One;
+  has = no_one g.W.Domain.components (rules_of c.args.turn.now) (rows_of c.args.turn.now) c.args.heap.now c.args.rule c.args.turn.now.last c.get.result c.requires.rule c.get.ensures c.in_default.not-One;
 }
 
 pub returns-in-One-clause-tries : goal.returns-in-One-clause-tries
 returns-in-One-clause-tries g c = on_ok c.push_one.result (λ more f r at row.
-    one_tries c.args.index.now.rules.items c.args.rule c.in-One.field-0 c.get.result f r _ _ (slice_get_read c.args.index.now.rules.items (length c.args.index.now.rules.items) c.args.rule c.get.result refl c.requires.rule c.get.ensures) at
+    one_tries (rules_of c.args.turn.now) c.args.rule c.in-One.field-0 c.get.result f r _ _ (slice_get_read (rules_of c.args.turn.now) (length (rules_of c.args.turn.now)) c.args.rule c.get.result refl c.requires.rule c.get.ensures) at
     c.in-One.is (c.requires.first f r at row) more) c.push_one.ensures.tries

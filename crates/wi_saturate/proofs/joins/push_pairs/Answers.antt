@@ -4,31 +4,32 @@ use Rattle.std.proofs.lemmas.Option.{slice_get_within}
 use Rattle.std.proofs.Common.{◌<◌, ℕ, ◌≡◌, ◌+◌, ◌-◌, Some, slice_get, subst, arith, ◌∙◌, ◌≤◌, ap, sym, length}
 use Rattle.wi_saturate.specs.declared.waits.Wait.{Wait}
 use Rattle.wi_saturate.specs.Searches.{HasTwo}
+use Rattle.wi_saturate.proofs.Lookups.{once}
 use Rattle.wi_saturate.proofs.Elements.{same_item, some_there}
 use Rattle.wi_saturate.proofs.Walks.{walk_starts, walk_goes_on, walk_falls, walk_ends}
-use Rattle.wi_saturate.proofs.Pushes.{adds_none, adds_both, two_kept, wait_meets, wait_there}
+use Rattle.wi_saturate.proofs.Pushes.{pushed_none, pushed_both, two_kept, wait_meets, wait_there}
+use Rattle.wi_saturate.specs.Turns.{heads_of, rules_of, rows_of}
 use Rattle.wi_saturate.proofs.joins.push_pairs.Goals as goal
 
 pub end-end-requires : goal.end-end-requires
 end-end-requires g c =
-    let head = wait_head c.args.heads.now.heads c.args.index.now.rules.items c.args.rows.now c.args.waits.now c.requires.waits c.args.n c.place-place.result c.place-place.ensures in
-    subst (λ (n : ℕ). c.place-place.result < n) (sym c.requires.places.room) (slice_get_within c.args.heads.now.heads c.place-place.result _ head.2)
+    let head = wait_head (heads_of c.args.turn.now) (rules_of c.args.turn.now) (rows_of c.args.turn.now) c.args.waits.now c.requires.waits c.args.n c.place-place.result c.place-place.ensures in
+    subst (λ (n : ℕ). c.place-place.result < n) (sym c.requires.places.room) (slice_get_within (heads_of c.args.turn.now) c.place-place.result _ head.2)
 
 pub loop-end-init : goal.loop-end-init
 loop-end-init g c = record {
-  lengths = omega arith;
-  tries = λ p q head. sum_starts (λ r. one_if (is_from p q r)) c.args.rows.now c.args.places.now.places c.place-place.result c.requires.places.count
-      (row_elsewhere c.args.heads.now.heads c.args.rows.now c.args.places.now c.requires.places c.requires.index.once c.place-place.result p q head) _ c.end-end.result c.end-end.ensures;
-  adds = adds_none g.W.Domain.components c.args.index.now.rules.items c.args.rows.now c.args.heap.now;
+  tries = λ p q head. sum_starts (λ r. one_if (is_from p q r)) (rows_of c.args.turn.now) c.args.places.now.places c.place-place.result c.requires.places.count
+      (row_elsewhere (heads_of c.args.turn.now) (rows_of c.args.turn.now) c.args.places.now c.requires.places (once (heads_of c.args.turn.now) c.requires.turn.index.rise) c.place-place.result p q head) _ c.end-end.result c.end-end.ensures;
+  pushed = pushed_none g.W.Domain.components c.args.turn.now c.args.heap.now c.args.tries.now;
   walk = walk_starts c.args.places.now.places c.place-place.result
-      (λ j. HasTwo g.W.Domain.components c.args.index.now.rules.items c.args.rows.now c.args.heap.now c.get-wait.result.rule c.get-wait.result.row j) c.end-end.result c.end-end.ensures;
+      (λ j. HasTwo g.W.Domain.components (rules_of c.args.turn.now) (rows_of c.args.turn.now) c.args.heap.now c.get-wait.result.rule c.get-wait.result.row j) c.end-end.result c.end-end.ensures;
 }
 
 pub push_two-requires-clause-two : goal.push_two-requires-clause-two
 push_two-requires-clause-two g c =
     let j = c.loop-end.end - 1 in
     let step : c.loop-end.end ≡ j + 1 = omega (arith, c.loop-end-test.true) in
-    wait_meets c.args.heads.now.heads c.args.index.now.rules.items c.args.rows.now c.args.waits.now c.args.places.now c.requires.waits c.requires.places c.args.n c.place-place.result j c.get-wait.result
+    wait_meets (heads_of c.args.turn.now) (rules_of c.args.turn.now) (rows_of c.args.turn.now) c.args.waits.now c.args.places.now c.requires.waits c.requires.places c.args.n c.place-place.result j c.get-wait.result
     (wait_there c.args.waits.now c.args.n c.get-wait.result c.requires.within c.get-wait.ensures) c.place-place.ensures (c.loop-end.invariant.walk.at j step)
 
 pub loop-end-smaller : goal.loop-end-smaller
@@ -39,23 +40,22 @@ loop-end-smaller g c =
 pub loop-end-preserved : goal.loop-end-preserved
 loop-end-preserved g c =
     let w = g.W.Domain.components in
-    let flat = c.args.index.now.rules.items in
-    let rows = c.args.rows.now in
+    let flat = (rules_of c.args.turn.now) in
+    let rows = (rows_of c.args.turn.now) in
     let j = c.loop-end.end - 1 in
     let step : c.loop-end.end ≡ j + 1 = omega (arith, c.loop-end-test.true) in
     let wait = c.get-wait.result in
     let low : c.loop-end.end ≤ length c.args.places.now.places = c.loop-end.invariant.walk.within in
     let s = some_there rows j (omega (arith, c.requires.places.count, c.loop-end-test.true)) in
     record {
-      lengths = omega (arith, c.loop-end.invariant.lengths, c.in_ok-push_two.ensures.lengths);
       tries = λ p q head. sum_goes_on (λ r. one_if (is_from p q r)) rows c.args.places.now.places c.place-place.result c.requires.places.count
-          (row_elsewhere c.args.heads.now.heads rows c.args.places.now c.requires.places c.requires.index.once c.place-place.result p q head) _ _ _ c.loop-end.end j c.end_before-end.result s.0 step c.end_before-end.ensures
+          (row_elsewhere (heads_of c.args.turn.now) rows c.args.places.now c.requires.places (once (heads_of c.args.turn.now) c.requires.turn.index.rise) c.place-place.result p q head) _ _ _ c.loop-end.end j c.end_before-end.result s.0 step c.end_before-end.ensures
           (c.loop-end.invariant.walk.at j step) s.1 (c.loop-end.invariant.tries p q head)
-          (c.in_ok-push_two.ensures.tries ∙ ap (λ i. c.loop-end.tries + i) (sym (row_counted c.args.heads.now.heads rows c.args.places.now c.requires.places c.place-place.result p q head j s.0 s.1 (c.loop-end.invariant.walk.at j step))));
-      adds = adds_both w flat rows c.args.heap.now c.loop-end.heap c.push_two.new.heap c.loop-end.invariant.adds c.in_ok-push_two.ensures.adds;
+          (c.in_ok-push_two.ensures.tries ∙ ap (λ i. c.loop-end.tries + i) (sym (row_counted (heads_of c.args.turn.now) rows c.args.places.now c.requires.places c.place-place.result p q head j s.0 s.1 (c.loop-end.invariant.walk.at j step))));
+      pushed = pushed_both w c.args.turn.now c.args.heap.now c.loop-end.heap c.push_two.new.heap c.args.tries.now c.loop-end.tries c.push_two.new.tries c.loop-end.invariant.pushed c.in_ok-push_two.ensures.pushed;
       walk = walk_goes_on c.args.places.now.places c.place-place.result (λ j. HasTwo w flat rows c.loop-end.heap wait.rule wait.row j) (λ j. HasTwo w flat rows c.push_two.new.heap wait.rule wait.row j)
           c.loop-end.end j c.end_before-end.result c.loop-end.invariant.walk step c.end_before-end.ensures
-          (λ i. two_kept w flat rows c.loop-end.heap c.push_two.new.heap c.in_ok-push_two.ensures.adds wait.rule wait.row i) c.in_ok-push_two.ensures.has;
+          (λ i. two_kept w flat rows c.loop-end.heap c.push_two.new.heap c.in_ok-push_two.ensures.pushed.adds wait.rule wait.row i) c.in_ok-push_two.ensures.has;
     }
 
 pub returns-clause-has : goal.returns-clause-has
@@ -63,14 +63,14 @@ returns-clause-has g c x place j at there here =
     let wait = c.get-wait.result in
     let same : wait ≡ x = same_item c.args.waits.now.items.items c.args.n wait x (wait_there c.args.waits.now c.args.n wait c.requires.within c.get-wait.ensures) at in
     let alike : place ≡ c.place-place.result = same_item c.args.waits.now.places.places c.args.n place c.place-place.result there c.place-place.ensures in
-    subst (λ (z : Wait). HasTwo g.W.Domain.components c.args.index.now.rules.items c.args.rows.now c.loop-end.heap z.rule z.row j) same
-    (walk_ends c.args.places.now.places c.place-place.result (λ j. HasTwo g.W.Domain.components c.args.index.now.rules.items c.args.rows.now c.loop-end.heap wait.rule wait.row j) c.loop-end.end c.loop-end.invariant.walk c.loop-end-test.false j
+    subst (λ (z : Wait). HasTwo g.W.Domain.components (rules_of c.args.turn.now) (rows_of c.args.turn.now) c.loop-end.heap z.rule z.row j) same
+    (walk_ends c.args.places.now.places c.place-place.result (λ j. HasTwo g.W.Domain.components (rules_of c.args.turn.now) (rows_of c.args.turn.now) c.loop-end.heap wait.rule wait.row j) c.loop-end.end c.loop-end.invariant.walk c.loop-end-test.false j
     (subst (λ z. slice_get c.args.places.now.places j ≡ Some z) alike here))
 
 pub returns-clause-tries : goal.returns-clause-tries
 returns-clause-tries g c place there =
     let alike : c.place-place.result ≡ place = same_item c.args.waits.now.places.places c.args.n c.place-place.result place c.place-place.ensures there in
-    let h = wait_head c.args.heads.now.heads c.args.index.now.rules.items c.args.rows.now c.args.waits.now c.requires.waits c.args.n c.place-place.result c.place-place.ensures in
-    sum_ends (λ r. one_if (is_from h.0 h.1 r)) c.args.rows.now c.args.places.now.places c.place-place.result c.requires.places.count
-    (row_elsewhere c.args.heads.now.heads c.args.rows.now c.args.places.now c.requires.places c.requires.index.once c.place-place.result h.0 h.1 h.2) _ _ c.loop-end.end c.loop-end-test.false (c.loop-end.invariant.tries h.0 h.1 h.2)
-    ∙ ap (λ i. c.args.tries.now + i) (head_counted c.args.heads.now.heads c.args.rows.now place h.0 h.1 (subst (λ n. slice_get c.args.heads.now.heads n ≡ Some (h.0, h.1)) alike h.2))
+    let h = wait_head (heads_of c.args.turn.now) (rules_of c.args.turn.now) (rows_of c.args.turn.now) c.args.waits.now c.requires.waits c.args.n c.place-place.result c.place-place.ensures in
+    sum_ends (λ r. one_if (is_from h.0 h.1 r)) (rows_of c.args.turn.now) c.args.places.now.places c.place-place.result c.requires.places.count
+    (row_elsewhere (heads_of c.args.turn.now) (rows_of c.args.turn.now) c.args.places.now c.requires.places (once (heads_of c.args.turn.now) c.requires.turn.index.rise) c.place-place.result h.0 h.1 h.2) _ _ c.loop-end.end c.loop-end-test.false (c.loop-end.invariant.tries h.0 h.1 h.2)
+    ∙ ap (λ i. c.args.tries.now + i) (head_counted (heads_of c.args.turn.now) (rows_of c.args.turn.now) place h.0 h.1 (subst (λ n. slice_get (heads_of c.args.turn.now) n ≡ Some (h.0, h.1)) alike h.2))

@@ -1,53 +1,46 @@
-use Rattle.std.proofs.Common.{arith}
+use Rattle.std.proofs.Common.{rules}
 use Rattle.std.proofs.lemmas.Option.{slice_get_within}
-use Rattle.wi_saturate.proofs.Elements.{on_ok, on_any}
-use Rattle.wi_saturate.proofs.Pushes.{two_pushed, rule_fits, row_fits, both_fit}
+use Rattle.wi_saturate.proofs.Elements.{on_ok, on_ok_both, on_any}
+use Rattle.wi_saturate.proofs.Pushes.{pushed_one, two_pushed, rule_fits, row_fits, both_fit}
+use Rattle.wi_saturate.specs.Turns.{rules_of, rows_of}
 use Rattle.wi_saturate.proofs.joins.push_two.Goals as goal
 
-pub offset_bounds-rows-j : goal.offset_bounds-rows-j
-offset_bounds-rows-j g c = let within = slice_get_within c.args.rows.now c.args.j c.requires.two.2 c.requires.two.8 in omega (arith, within)
+pub offset_bounds-turn-j : goal.offset_bounds-turn-j
+offset_bounds-turn-j g c = let within = slice_get_within (rows_of c.args.turn.now) c.args.j c.requires.two.2 c.requires.two.8 in search rules
 
-pub bounds-rows-j : goal.bounds-rows-j
-bounds-rows-j g c = slice_get_within c.args.rows.now c.args.j c.requires.two.2 c.requires.two.8
-
-pub bounds-rows-j-2 : goal.bounds-rows-j-2
-bounds-rows-j-2 g c = slice_get_within c.args.rows.now c.args.j c.requires.two.2 c.requires.two.8
+pub bounds-turn-j : goal.bounds-turn-j
+bounds-turn-j g c = slice_get_within (rows_of c.args.turn.now) c.args.j c.requires.two.2 c.requires.two.8
 
 pub extend-half-requires-clause-first : goal.extend-half-requires-clause-first
-extend-half-requires-clause-first g c = rule_fits g.W.Domain.components c.args.index.now.rules.items c.args.rows.now c.requires.index.small c.requires.fit c.args.rule c.get.result c.requires.two.0 c.requires.two.5 c.get.ensures
+extend-half-requires-clause-first g c = rule_fits g.W.Domain.components (rules_of c.args.turn.now) (rows_of c.args.turn.now) c.requires.turn.index.small c.requires.turn.fit c.args.rule c.get.result c.requires.two.0 c.requires.two.5 c.get.ensures
 
 pub extend-half-requires-clause-second : goal.extend-half-requires-clause-second
-extend-half-requires-clause-second g c = row_fits g.W.Domain.components c.args.index.now.rules.items c.args.rows.now c.requires.index.small c.requires.fit c.args.i c.index-rows-i.result c.requires.two.1 c.requires.two.7
+extend-half-requires-clause-second g c = row_fits g.W.Domain.components (rules_of c.args.turn.now) (rows_of c.args.turn.now) c.requires.turn.index.small c.requires.turn.fit c.args.i c.index-turn-i.result c.requires.two.1 c.requires.two.7
 
 pub extend-weight-requires-clause-first : goal.extend-weight-requires-clause-first
-extend-weight-requires-clause-first g c = both_fit g.W.Domain.components c.args.index.now.rules.items c.args.rows.now c.requires.index.small c.requires.fit c.args.rule c.args.i c.get.result c.requires.two.0 c.index-rows-i.result c.requires.two.1 c.extend-half.result c.requires.two.5 c.get.ensures c.requires.two.7 c.extend-half.ensures
+extend-weight-requires-clause-first g c = both_fit g.W.Domain.components (rules_of c.args.turn.now) (rows_of c.args.turn.now) c.requires.turn.index.small c.requires.turn.fit c.args.rule c.args.i c.get.result c.requires.two.0 c.index-turn-i.result c.requires.two.1 c.extend-half.result c.requires.two.5 c.get.ensures c.requires.two.7 c.extend-half.ensures
 
 pub extend-weight-requires-clause-second : goal.extend-weight-requires-clause-second
-extend-weight-requires-clause-second g c = row_fits g.W.Domain.components c.args.index.now.rules.items c.args.rows.now c.requires.index.small c.requires.fit c.args.j c.index-rows-j.result c.requires.two.2 c.requires.two.8
+extend-weight-requires-clause-second g c = row_fits g.W.Domain.components (rules_of c.args.turn.now) (rows_of c.args.turn.now) c.requires.turn.index.small c.requires.turn.fit c.args.j c.index-turn-j.result c.requires.two.2 c.requires.two.8
 
-pub returns-clause-adds : goal.returns-clause-adds
-returns-clause-adds g c = on_ok c.push.result (λ more. (
-    two_pushed g.W.Domain.components c.args.index.now.rules.items c.args.rows.now c.args.rule c.args.i c.args.j c.get.result c.index-rows-i.result c.index-rows-j.result c.get.ensures c.args.heap.now c.push.new.self
+pub returns-clause-pushed : goal.returns-clause-pushed
+returns-clause-pushed g c = on_ok_both c.push.result (λ more longer.
+    pushed_one g.W.Domain.components c.args.turn.now c.args.heap.now c.push.new.self c.args.tries.now c.push.new.tries (
+    two_pushed g.W.Domain.components (rules_of c.args.turn.now) (rows_of c.args.turn.now) c.args.rule c.args.i c.args.j c.get.result c.index-turn-i.result c.index-turn-j.result c.get.ensures c.args.heap.now c.push.new.self
     c.extend-weight.result c.extend-half.result c.extend-half.ensures c.extend-weight.ensures c.requires.two more
-    ).0) c.push.ensures.more
+    ).0 longer c.push.ensures.tries) c.push.ensures.more c.push.ensures.length
 
 pub returns-clause-has : goal.returns-clause-has
 returns-clause-has g c = on_ok c.push.result (λ more. (
-    two_pushed g.W.Domain.components c.args.index.now.rules.items c.args.rows.now c.args.rule c.args.i c.args.j c.get.result c.index-rows-i.result c.index-rows-j.result c.get.ensures c.args.heap.now c.push.new.self
+    two_pushed g.W.Domain.components (rules_of c.args.turn.now) (rows_of c.args.turn.now) c.args.rule c.args.i c.args.j c.get.result c.index-turn-i.result c.index-turn-j.result c.get.ensures c.args.heap.now c.push.new.self
     c.extend-weight.result c.extend-half.result c.extend-half.ensures c.extend-weight.ensures c.requires.two more
     ).1) c.push.ensures.more
-
-pub returns-clause-lengths : goal.returns-clause-lengths
-returns-clause-lengths g c = on_ok c.push.result (λ longer. omega (arith, longer, c.push.ensures.tries)) c.push.ensures.length
 
 pub returns-clause-tries : goal.returns-clause-tries
 returns-clause-tries g c = on_any c.push.result c.push.ensures.tries
 
-pub offset_bounds-rows-i : goal.offset_bounds-rows-i
-offset_bounds-rows-i g c = let within = slice_get_within c.args.rows.now c.args.i c.requires.two.1 c.requires.two.7 in omega (arith, within)
+pub offset_bounds-turn-i : goal.offset_bounds-turn-i
+offset_bounds-turn-i g c = let within = slice_get_within (rows_of c.args.turn.now) c.args.i c.requires.two.1 c.requires.two.7 in search rules
 
-pub bounds-rows-i : goal.bounds-rows-i
-bounds-rows-i g c = slice_get_within c.args.rows.now c.args.i c.requires.two.1 c.requires.two.7
-
-pub bounds-rows-i-2 : goal.bounds-rows-i-2
-bounds-rows-i-2 g c = slice_get_within c.args.rows.now c.args.i c.requires.two.1 c.requires.two.7
+pub bounds-turn-i : goal.bounds-turn-i
+bounds-turn-i g c = slice_get_within (rows_of c.args.turn.now) c.args.i c.requires.two.1 c.requires.two.7

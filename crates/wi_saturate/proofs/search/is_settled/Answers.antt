@@ -18,15 +18,15 @@ loop-end-preserved g c =
     let step : c.loop-end.end ≡ i + 1 = omega (arith, c.loop-end-test.true) in
     walk_goes_on c.args.places.now.places c.args.place (λ i. (r : Row _) → slice_get c.args.rows.now i ≡ Some r → r.q ≡ c.args.q → ⊥) (λ i. (r : Row _) → slice_get c.args.rows.now i ≡ Some r → r.q ≡ c.args.q → ⊥)
     c.loop-end.end i c.end_before-end.result c.loop-end.invariant step c.end_before-end.ensures (λ k h. h)
-    (other_row c.args.heads.now.heads c.args.rows.now c.args.places.now c.requires.places c.args.place c.args.q i c.index-rows-i.result (c.loop-end.invariant.at i step) c.if-rows-i.false)
+    (other_row c.args.rows.now c.args.places.now.places c.requires.count c.args.place c.args.q i c.index-rows-i.result (c.loop-end.invariant.at i step) c.if-rows-i.false)
 
 pub returns-then-rows-i : goal.returns-then-rows-i
 returns-then-rows-i g c =
     let i = c.loop-end.end - 1 in
     let step : c.loop-end.end ≡ i + 1 = omega (arith, c.loop-end-test.true) in
-    settled_here c.args.heads.now.heads c.args.rows.now c.args.places.now c.requires.places c.args.place c.args.q i c.index-rows-i.result (c.loop-end.invariant.at i step) c.if-rows-i.true
+    settled_here c.args.rows.now c.args.places.now.places c.requires.count c.args.place c.args.q i c.index-rows-i.result (c.loop-end.invariant.at i step) c.if-rows-i.true
 
 pub returns : goal.returns
 returns g c =
-    unsettled c.args.heads.now.heads c.args.rows.now c.args.places.now c.requires.places c.args.place c.args.q c.requires.once
+    unsettled c.args.rows.now c.args.places.now.places c.requires.count c.args.place c.args.q
     (walk_ends c.args.places.now.places c.args.place (λ i. (r : Row _) → slice_get c.args.rows.now i ≡ Some r → r.q ≡ c.args.q → ⊥) c.loop-end.end c.loop-end.invariant c.loop-end-test.false)

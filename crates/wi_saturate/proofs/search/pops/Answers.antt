@@ -10,7 +10,7 @@ use borrow.Author.Count.{below_more}
 pub loop-rule-preserved : goal.loop-rule-preserved
 loop-rule-preserved g c =
     let w = g.W.Domain.components in
-    let flat = c.args.index.now.rules.items in
+    let flat = c.args.rules.now.items in
     record {
       sound = adds_both w flat [] [] c.loop-rule.heap c.push_if_pop.new.heap c.loop-rule.invariant.sound c.in_ok-push_if_pop.ensures.adds;
       lengths = omega (arith, c.loop-rule.invariant.lengths, c.in_ok-push_if_pop.ensures.lengths);
@@ -20,8 +20,8 @@ loop-rule-preserved g c =
 
 pub returns-clause-has : goal.returns-clause-has
 returns-clause-has g c k f at word =
-    let within = slice_get_within c.args.index.now.rules.items k f at in
+    let within = slice_get_within c.args.rules.now.items k f at in
     c.loop-rule.invariant.has k (omega (arith, within, c.loop-rule-test.false, c.len-rule-end.ensures)) f at word
 
 pub returns-clause-tries : goal.returns-clause-tries
-returns-clause-tries g c = all_tries c.args.index.now.rules.items c.loop-rule.rule _ _ (omega (arith, c.loop-rule-test.false, c.len-rule-end.ensures)) c.loop-rule.invariant.tries
+returns-clause-tries g c = all_tries c.args.rules.now.items c.loop-rule.rule _ _ (omega (arith, c.loop-rule-test.false, c.len-rule-end.ensures)) c.loop-rule.invariant.tries

@@ -8,19 +8,19 @@ use Rattle.wi_saturate.proofs.search.push_if_pop.Goals as goal
 
 pub returns-in-Empty-clause-adds : goal.returns-in-Empty-clause-adds
 returns-in-Empty-clause-adds g c =
-    let flat = c.args.index.now.rules.items in
+    let flat = c.args.rules.now.items in
     let f = c.get-ruled.result in
     on_ok c.push.result (λ more. (pop_pushed g.W.Domain.components flat c.args.rule f (slice_get_read flat (length flat) c.args.rule f refl c.requires c.get-ruled.ensures) c.args.heap.now c.push.new.self c.in-Empty.is more).0) c.push.ensures.more
 
 pub returns-in-Empty-clause-has : goal.returns-in-Empty-clause-has
 returns-in-Empty-clause-has g c =
-    let flat = c.args.index.now.rules.items in
+    let flat = c.args.rules.now.items in
     let f = c.get-ruled.result in
     on_ok c.push.result (λ more. (pop_pushed g.W.Domain.components flat c.args.rule f (slice_get_read flat (length flat) c.args.rule f refl c.requires c.get-ruled.ensures) c.args.heap.now c.push.new.self c.in-Empty.is more).1) c.push.ensures.more
 
 pub returns-in_default : goal.returns-in_default
 returns-in_default g c =
-    let flat = c.args.index.now.rules.items in
+    let flat = c.args.rules.now.items in
     let f = c.get-ruled.result in
     record {
       adds = adds_none g.W.Domain.components flat [] c.args.heap.now;
@@ -31,7 +31,7 @@ returns-in_default g c =
 
 pub returns-in-Empty-clause-tries : goal.returns-in-Empty-clause-tries
 returns-in-Empty-clause-tries g c =
-    let flat = c.args.index.now.rules.items in
+    let flat = c.args.rules.now.items in
     let f = c.get-ruled.result in
     on_any c.push.result (λ f' at. pop_tries flat c.args.rule f f' _ _ (slice_get_read flat (length flat) c.args.rule f refl c.requires c.get-ruled.ensures) at c.in-Empty.is c.push.ensures.tries)
 

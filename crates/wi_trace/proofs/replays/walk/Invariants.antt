@@ -1,5 +1,5 @@
 use Rattle.std.proofs.Common.{◌≡◌, ◌+◌, ◌++◌, drop}
-use Rattle.wi_world.specs.Runs.{places}
+use Rattle.wi_world.specs.Runs.{locations}
 use Rattle.wi_trace.specs.Replays.{first_fault}
 use Rattle.wi_trace.specs.Hops.{cause_in}
 use Rattle.wi_trace.proofs.replays.walk.Given as goal
@@ -7,5 +7,5 @@ use Rattle.wi_trace.proofs.replays.walk.Given as goal
 abbrev pub invariant-loop-i : goal.invariant-loop-i
 invariant-loop-i l = record {
   fault : first_fault l.net (cause_in l.world l.net) (l.i + 1) l.at (drop l.i l.steps) ≡ first_fault l.net (cause_in l.world l.net) 1 l.initial.at l.steps;
-  places : l.trace.items ++ places l.net l.at (drop l.i l.steps) ≡ places l.net l.initial.at l.steps;
+  locations : l.trace.items ++ locations l.net l.at (drop l.i l.steps) ≡ locations l.net l.initial.at l.steps;
 }

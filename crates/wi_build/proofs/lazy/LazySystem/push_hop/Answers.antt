@@ -1,7 +1,7 @@
 use Rattle.std.proofs.Common.{◌≡◌, Some, ◌∙◌}
 use Rattle.wi_rules.specs.Rules.{first_written}
 use Rattle.wi_build.specs.Needs.{may_be_up}
-use Rattle.wi_build.specs.Systems.{setup_given}
+use Rattle.wi_build.specs.Encodings.{encoding_of}
 use Rattle.wi_build.proofs.RowLemmas.{on_ok, none_made}
 use Rattle.wi_build.proofs.HopLemmas.{member_known, no_hop, hop_row, needs_few}
 use Rattle.wi_build.proofs.lazy.LazySystem.push_hop.Goals as goal
@@ -9,7 +9,7 @@ use Rattle.wi_build.proofs.lazy.LazySystem.push_hop.Goals as goal
 pub returns-then-not-may_be_up : goal.returns-then-not-may_be_up
 returns-then-not-may_be_up c =
     let up : c.may_be_up.result ≡ may_be_up c.args.self.now.net c.args.self.now.bounds c.args.needs.now c.args.member.now.link = cc in
-    none_made (setup_given c.args.self.now) c.args.head _ _
+    none_made (encoding_of c.args.self.now) c.args.head _ _
     (no_hop c.args.self.now c.args.at c.args.needs.now c.args.step c.args.number c.args.member.now c.keeps.ensures c.requires.needs c.requires.member c.may_be_up.result up c.if-not-may_be_up.true)
 
 pub first_written-requires-clause-ops : goal.first_written-requires-clause-ops

@@ -1,6 +1,15 @@
-use Rattle.std.proofs.Common.{◌≡◌, ◌∙◌, ℕ, List, Some, slice_get, ap, sym, subst}
+use Rattle.std.proofs.Common.{◌≡◌, ◌∙◌, ℕ, List, Some, slice_get, refl, ap, sym, subst}
+use Rattle.wi_saturate.specs.Rulings.{RulesView}
+use Rattle.wi_saturate.specs.Indexes.{AreBegins}
 use Rattle.wi_saturate.proofs.Lookups.{rule_named}
 use Rattle.wi_saturate.proofs.index.Index.add_head.Goals as goal
+
+pub loop-at-init : goal.loop-at-init
+loop-at-init g c = record {
+  heads = refl;
+  begins = subst (λ (v : RulesView _). AreBegins v.heads v.items c.args.self.now.begins) (sym c.begin_head.ensures) c.requires.begins;
+  rules = refl;
+}
 
 pub add-requires-clause-named : goal.add-requires-clause-named
 add-requires-clause-named g c =

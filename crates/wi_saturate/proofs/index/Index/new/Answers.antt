@@ -2,6 +2,9 @@ use Rattle.std.proofs.Common.{◌∙◌, ◌<◌, ◌^◌, ℕ, List, sym, subst
 use Rattle.std.specs.List.{Contains}
 use Rattle.std.proofs.lemmas.List.Elements.{Contains-get_or}
 use Rattle.std.proofs.lemmas.Option.{slice_get-get_or}
+use Rattle.std.specs.List.Sorted.{IsStrictlySortedBy}
+use Rattle.wi_pds.specs.Pairs.{pair_cmp}
+use Rattle.wi_saturate.specs.LeastTables.{AreReady}
 use Rattle.wi_saturate.proofs.Lookups.{head_added, heads_done, indexes, all_named}
 use Rattle.wi_saturate.proofs.index.Index.new.Goals as goal
 
@@ -36,6 +39,12 @@ loop-head-preserved g c =
           c.deref.ensures.value c.in_ok-rules.ensures c.in_ok-add_head.ensures.rules c.loop-head.invariant.rules;
     }
 
-pub returns : goal.returns
-returns g c = indexes g.W.Domain.components (g.S.System.rules c.args.sys.now) c.args.heads.now.heads c.loop-head.index c.requires.ready c.args.heads.now.heads_rise
-    (heads_done (g.S.System.rules c.args.sys.now) _ c.loop-head.head _ _ c.as_slice-listed.ensures c.loop-head-test.false c.loop-head.invariant.rules) c.loop-head.invariant.begins
+pub add_head-requires-clause-rise : goal.add_head-requires-clause-rise
+add_head-requires-clause-rise g c = subst (IsStrictlySortedBy pair_cmp) (sym c.loop-head.invariant.heads) c.args.heads.now.heads_rise
+
+pub returns-clause-index : goal.returns-clause-index
+returns-clause-index g c =
+    let rules = g.S.System.rules c.args.sys.now in
+    let same = c.loop-head.invariant.heads in
+    indexes g.W.Domain.components rules c.loop-head.index (subst (λ hs. AreReady g.W.Domain.components rules hs) (sym same) c.requires.ready) (subst (IsStrictlySortedBy pair_cmp) (sym same) c.args.heads.now.heads_rise)
+    (heads_done rules _ c.loop-head.head _ _ (c.as_slice-listed.ensures ∙ sym same) c.loop-head-test.false c.loop-head.invariant.rules) c.loop-head.invariant.begins

@@ -1,0 +1,444 @@
+//! Systems by example.
+ghost use Rattle.wi_query.specs.Meaning.{IsQueryOf};
+
+use crate::common::query_of;
+use std::alloc::Global;
+use std::process::Abort;
+use std::test::Fail;
+use wi_build::{Layout, LazySystem, build};
+use wi_labels::Label;
+use wi_net::{LinkId, Network};
+use wi_pds::{Rule, RuleList, System, Word2};
+use wi_quantity::{Vector, Weight, read_weights};
+use wi_query::Query;
+use wi_rules::{Origin, Spot};
+use wi_samples::{N1, N1_FIBER, N1_NEAR, N2, N2_FIBER, N3, N4, N5, Sample, network};
+use wi_world::Step;
+
+// What a rule is to be: where it leads, what it writes, what it adds to each term, and what it stands for.
+type Expected = (u64, Word2, [u128; 5], Origin);
+
+// A spot and a symbol, and the rules there.
+type HeadCase<'a> = (u64, u32, &'a [Expected]);
+
+const NO_TERM: [u128; 5] = [0; 5];
+
+// The only member of the first group, and of the second.
+const FIRST: Origin = Origin::Hop(Step {
+    group: 0,
+    member: 0,
+});
+
+const SECOND: Origin = Origin::Hop(Step {
+    group: 1,
+    member: 0,
+});
+
+fn weight_is(rt: &impl Abort, weight: Weight, terms: [u128; 5]) {
+    assert_eq!(rt; weight.first.parts(), terms);
+    assert_eq!(rt; weight.second.count, 1);
+}
+
+fn rules_are(
+    rt: &impl Abort,
+    layout: &Layout,
+    rules: &[Rule<Weight>],
+    spot: u64,
+    symbol: u32,
+    expected: &[Expected],
+) {
+    assert_eq!(rt; rules.len(), expected.len());
+    for (rule, (to, word, terms, origin)) in rules.iter().zip(expected) {
+        assert_eq!(rt; (rule.from, rule.top, rule.to), (spot, symbol, *to));
+        assert_eq!(rt; rule.word, *word);
+        weight_is(rt, rule.weight, *terms);
+        assert_eq!(rt; layout.rule_origin(rule), *origin);
+    }
+}
+
+fn heads_are(
+    rt: &impl Abort,
+    alloc: Global,
+    system: &LazySystem<'_>,
+    layout: &Layout,
+    heads: &[HeadCase],
+) -> Result<(), Fail> {
+    assert_eq!(rt; system.start(), (0, 0));
+    for (spot, symbol, expected) in heads {
+        let rules = system.rules_of(alloc, *spot, *symbol)?;
+        rules_are(rt, layout, rules.as_slice(), *spot, *symbol, expected);
+    }
+    Ok(())
+}
+
+// Whether the system's rules at the head of a rule are the listed ones, in their order.
+fn same_at(
+    rt: &impl Abort,
+    alloc: Global,
+    list: &RuleList<Weight>,
+    system: &LazySystem<'_>,
+    rule: &Rule<Weight>,
+) -> Result<(), Fail> {
+    let listed = list.rules_of(alloc, rule.from, rule.top)?;
+    let made = system.rules_of(alloc, rule.from, rule.top)?;
+    assert_eq!(rt; listed.len(), made.len());
+    for (one, other) in listed.iter().zip(made.iter()) {
+        assert!(rt; *one == *other);
+    }
+    Ok(())
+}
+
+// Whether the rules of each head of a listed rule are the listed ones, in their order.
+fn same_rules(
+    rt: &impl Abort,
+    alloc: Global,
+    list: &RuleList<Weight>,
+    system: &LazySystem<'_>,
+) -> Result<(), Fail> {
+    assert_eq!(rt; list.start, (0, 0));
+    for rule in list.rules.as_slice() {
+        same_at(rt, alloc, list, system, rule)?;
+    }
+    Ok(())
+}
+
+fn list_is(
+    rt: &impl Abort,
+    alloc: Global,
+    list: &RuleList<Weight>,
+    system: &LazySystem<'_>,
+) -> Result<(), Fail> {
+    assert!(rt; list.rules.as_slice().len() > 0);
+    same_rules(rt, alloc, list, system)
+}
+
+fn system_is(
+    rt: &impl Abort,
+    alloc: Global,
+    net: &Network,
+    query: &Query,
+    vector: &Vector,
+    heads: &[HeadCase],
+) -> Result<(), Fail>
+    requires { IsQueryOf net.now query.now }
+{
+    let system = LazySystem::new(alloc, net, query, vector, &query.bounds)?;
+    let layout = Layout::of(net, query);
+    heads_are(rt, alloc, &system, &layout, heads)?;
+    let list = build(alloc, net, query, vector, &query.bounds)?;
+    let outcome = list_is(rt, alloc, &list, &system);
+    drop(list);
+    outcome
+}
+
+// A query, what runs are weighed by, and the rules of some heads.
+type Case<'a> = (&'a str, &'a str, &'a [HeadCase<'a>]);
+
+fn weighed_is(
+    rt: &impl Abort,
+    alloc: Global,
+    net: &Network,
+    query: &Query,
+    case: &Case,
+) -> Result<(), Fail>
+    requires { IsQueryOf net.now query.now }
+{
+    let vector = read_weights(alloc, case.1)?;
+    let outcome = system_is(rt, alloc, net, query, &vector, case.2);
+    drop(vector);
+    outcome
+}
+
+// The rules of some heads for a query, and that the listed rules are those on demand.
+fn case_is(rt: &impl Abort, alloc: Global, net: &Network, case: &Case) -> Result<(), Fail> {
+    let query = query_of(alloc, net, case.0)?;
+    let outcome = weighed_is(rt, alloc, net, &query, case);
+    drop(query);
+    outcome
+}
+
+fn cases_are(rt: &impl Abort, alloc: Global, net: &Network, cases: &[Case]) -> Result<(), Fail> {
+    for case in cases {
+        case_is(rt, alloc, net, case)?;
+    }
+    Ok(())
+}
+
+// First s10 ip1, then the link from a to b again and again. The automata have 3, 2 and 3 states.
+const AGAIN: &str = "<s10 ip1> [a#b]+ <smpls ip> 0";
+
+const AGAIN_HEADS: &[HeadCase] = &[
+    (0, 0, &[(4, Word2::One(0), NO_TERM, Origin::Nothing)]),
+    (
+        4,
+        0,
+        &[(3, Word2::Two(3, 0), NO_TERM, Origin::Pushed(Label(2)))],
+    ),
+    (
+        3,
+        3,
+        &[(2, Word2::Two(2, 3), NO_TERM, Origin::Pushed(Label(1)))],
+    ),
+    (
+        2,
+        2,
+        &[(
+            11,
+            Word2::One(2),
+            [1, 0, 0, 0, 0],
+            Origin::SetOut(LinkId(1)),
+        )],
+    ),
+    (11, 2, &[(5, Word2::One(2), NO_TERM, Origin::Nothing)]),
+    (5, 2, &[(6, Word2::Empty, NO_TERM, Origin::Nothing)]),
+    (6, 3, &[(7, Word2::Empty, NO_TERM, Origin::Nothing)]),
+    (7, 0, &[(1, Word2::Empty, NO_TERM, Origin::Nothing)]),
+    // Neither ip1 on a label, nor s10 on the bottom or on s10, nor a packet with no label, nor a label past the last.
+    (4, 2, &[]),
+    (3, 0, &[]),
+    (3, 2, &[]),
+    (2, 0, &[]),
+    (11, 0, &[]),
+    (11, 4, &[]),
+    (10, 2, &[]),
+    (6, 2, &[]),
+    (1, 0, &[]),
+    (88, 2, &[]),
+];
+
+// By c and b to y. The automata have 2, 5 and 2 states, and the packet comes from x with ip1 in 7.
+const AROUND_HEADS: &[HeadCase] = &[
+    (
+        2,
+        3,
+        &[(7, Word2::One(3), [1, 1, 0, 0, 0], Origin::SetOut(LinkId(0)))],
+    ),
+    (7, 3, &[(68, Word2::Two(2, 3), [1, 8, 0, 0, 0], SECOND)]),
+    (
+        68,
+        2,
+        &[(18, Word2::Two(1, 2), NO_TERM, Origin::Operation(1, 1))],
+    ),
+    (68, 3, &[]),
+    (18, 1, &[(24, Word2::Empty, [1, 2, 0, 0, 0], FIRST)]),
+    (
+        24,
+        2,
+        &[
+            (29, Word2::Empty, [1, 1, 0, 0, 0], FIRST),
+            (30, Word2::Empty, [1, 1, 0, 0, 0], FIRST),
+        ],
+    ),
+    (30, 3, &[(4, Word2::One(3), NO_TERM, Origin::Nothing)]),
+];
+
+const SMALL_CASES: &[Case] = &[
+    (AGAIN, "Hops", AGAIN_HEADS),
+    ("<ip1> [x#a] .* [b#y] <ip1> 0", "Hops", &[]),
+    ("<ip1> [x#a] [a#c] .* [b#y] <ip1> 0", "Hops", &[(7, 3, &[])]),
+    (
+        "<ip1> [x#a] [a#c] .* [b#y] <ip1> 1",
+        "Hops, Distance+3*Tunnels",
+        AROUND_HEADS,
+    ),
+    ("<30 ip1> .* <.*> 0", "Links", &[]),
+    // Known to be down, the link to b is neither counted nor taken; known to be up, it can't have failed.
+    (
+        "<ip1> [x#a] .* [b#y] <ip1> 0 down [a#b]",
+        "Failures",
+        &[(7, 3, &[(56, Word2::Two(2, 3), [1, 0, 0, 0, 0], SECOND)])],
+    ),
+    (
+        "<ip1> [x#a] [a#c] .* [b#y] <ip1> 5 up [a#b]",
+        "Hops",
+        &[(7, 3, &[])],
+    ),
+    (
+        "<ip1> [x#a] .* [b#y] <ip1> 0 down [x#a]",
+        "Hops",
+        &[(2, 3, &[])],
+    ),
+];
+
+// The rules that a network has for some queries.
+fn network_has(
+    rt: &impl Abort,
+    alloc: Global,
+    sample: &Sample,
+    cases: &[Case],
+) -> Result<(), Fail> {
+    let net = network(alloc, sample)?;
+    let outcome = cases_are(rt, alloc, &net, cases);
+    drop(net);
+    outcome
+}
+
+#[test]
+fn rules_are_made_head_by_head(rt: HostRuntime) -> Result<(), Fail> {
+    network_has(&rt, rt.alloc(), &N1, SMALL_CASES)
+}
+
+fn layout_is(rt: &impl Abort, layout: &Layout) {
+    for (number, spot) in [
+        (0, Some(Spot::Start)),
+        (1, Some(Spot::Done)),
+        (4, Some(Spot::Build(2))),
+        (7, Some(Spot::Close(2))),
+        (11, Some(Spot::OnLink(LinkId(1), 1))),
+        (18, Some(Spot::Mid(0, 1, 0))),
+        (87, Some(Spot::Mid(4, 7, 1))),
+        (88, None),
+        (u64::MAX, None),
+    ] {
+        assert!(rt; layout.spot_of(number) == spot);
+    }
+}
+
+fn spots_are(rt: &impl Abort, alloc: Global, net: &Network) -> Result<(), Fail> {
+    let query = query_of(alloc, net, AGAIN)?;
+    layout_is(rt, &Layout::of(net, &query));
+    drop(query);
+    Ok(())
+}
+
+#[test]
+fn spots_have_numbers(rt: HostRuntime) -> Result<(), Fail> {
+    let net = network(rt.alloc(), &N1)?;
+    let outcome = spots_are(&rt, rt.alloc(), &net);
+    drop(net);
+    outcome
+}
+
+// By c and b to z, where from b there is a second way, to z.
+const TO_Z_HEADS: &[HeadCase] = &[
+    (7, 3, &[(73, Word2::Two(2, 3), [1, 0, 0, 0, 0], SECOND)]),
+    (
+        24,
+        2,
+        &[
+            (29, Word2::Empty, NO_TERM, FIRST),
+            (34, Word2::Empty, [1, 0, 0, 0, 0], SECOND),
+            (35, Word2::Empty, [1, 0, 0, 0, 0], SECOND),
+        ],
+    ),
+];
+
+const LARGE_CASES: &[Case] = &[
+    (
+        "<ip1> [x#a] [a#c] .* [b#z] <ip1> 0",
+        "Failures",
+        &[(7, 3, &[])],
+    ),
+    ("<ip1> [x#a] [a#c] .* [b#z] <ip1> 1", "Failures", TO_Z_HEADS),
+    ("<ip1> [x#a] [a#c] .* [b#z] <ip1> 2", "Failures", TO_Z_HEADS),
+];
+
+const KNOWN_CASES: &[Case] = &[(
+    "<ip1> [x#a] [a#c] .* [b#z] <ip1> 1 down [a#b]",
+    "Failures",
+    TO_Z_HEADS,
+)];
+
+// Where the links to b and to y are one risk group, both are known to be down.
+const DOWN_CASES: &[Case] = &[(
+    "<ip1> [x#a] [a#c] .* [b#z] <ip1> 0 down [a#b]",
+    "Failures",
+    &[
+        (7, 3, &[(73, Word2::Two(2, 3), [1, 0, 0, 0, 0], SECOND)]),
+        (
+            24,
+            2,
+            &[
+                (34, Word2::Empty, [1, 0, 0, 0, 0], SECOND),
+                (35, Word2::Empty, [1, 0, 0, 0, 0], SECOND),
+            ],
+        ),
+    ],
+)];
+
+#[test]
+fn what_stands_before_must_have_failed(rt: HostRuntime) -> Result<(), Fail> {
+    network_has(&rt, rt.alloc(), &N2, LARGE_CASES)?;
+    network_has(&rt, rt.alloc(), &N2, KNOWN_CASES)?;
+    network_has(&rt, rt.alloc(), &N2_FIBER, LARGE_CASES)?;
+    network_has(&rt, rt.alloc(), &N2_FIBER, DOWN_CASES)
+}
+
+const FIBER_CASES: &[Case] = &[(
+    "<ip1> [x#a] [a#c] .* [b#y] <ip1> 1",
+    "Failures",
+    &[(7, 3, &[(68, Word2::Two(2, 3), [1, 0, 0, 0, 0], SECOND)])],
+)];
+
+const NEAR_CASES: &[Case] = &[(
+    "<ip1> [x#a] [a#c] .* [b#y] <ip1> 5",
+    "Failures",
+    &[(7, 3, &[])],
+)];
+
+#[test]
+fn a_risk_group_fails_once_and_as_a_whole(rt: HostRuntime) -> Result<(), Fail> {
+    network_has(&rt, rt.alloc(), &N1_FIBER, FIBER_CASES)?;
+    network_has(&rt, rt.alloc(), &N1_NEAR, NEAR_CASES)
+}
+
+const SAME_LINK_CASES: &[Case] = &[(
+    "<ip1> [x#a] [a#b] <s10 ip1> 5",
+    "Failures",
+    &[(8, 3, &[(12, Word2::One(3), NO_TERM, FIRST)])],
+)];
+
+#[test]
+fn a_member_needs_its_link_up(rt: HostRuntime) -> Result<(), Fail> {
+    network_has(&rt, rt.alloc(), &N4, SAME_LINK_CASES)
+}
+
+const RETURNING_CASES: &[Case] = &[
+    (
+        "<ip1> [x#a] [a#c] [c#a] [a#b] .* <ip1> 5",
+        "Hops",
+        &[
+            (20, 1, &[(39, Word2::One(2), [1, 0, 0, 0, 0], FIRST)]),
+            (39, 2, &[(16, Word2::Empty, [1, 0, 0, 0, 0], FIRST)]),
+        ],
+    ),
+    (
+        "<ip1> [x#a] [a#c] [c#a] [a#b] .* <ip1> 5 down [a#b]",
+        "Hops",
+        &[
+            (20, 1, &[(39, Word2::One(2), [1, 0, 0, 0, 0], FIRST)]),
+            (39, 2, &[]),
+        ],
+    ),
+];
+
+#[test]
+fn a_packet_may_return(rt: HostRuntime) -> Result<(), Fail> {
+    network_has(&rt, rt.alloc(), &N3, RETURNING_CASES)
+}
+
+const UNDEFINED_CASES: &[Case] = &[
+    ("<ip1> [x#a] [a#c] .* [b#y] <ip1> 0", "Hops", &[(7, 3, &[])]),
+    (
+        "<ip1> [x#a] [a#c] .* [b#y] <ip1> 1",
+        "Tunnels",
+        &[(7, 3, &[(68, Word2::Two(2, 3), [2, 0, 0, 0, 0], SECOND)])],
+    ),
+    (
+        "<ip1> .* <ip1> 1",
+        "Failures",
+        &[(
+            7,
+            3,
+            &[
+                (31, Word2::Two(2, 3), [1, 0, 0, 0, 0], SECOND),
+                (4, Word2::One(3), NO_TERM, Origin::Nothing),
+            ],
+        )],
+    ),
+];
+
+#[test]
+fn an_undefined_operation_gives_no_rule(rt: HostRuntime) -> Result<(), Fail> {
+    network_has(&rt, rt.alloc(), &N5, UNDEFINED_CASES)
+}

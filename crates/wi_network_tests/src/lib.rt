@@ -1,0 +1,22 @@
+//! Tests of headers, of networks and of network files that need only what `wi_labels`, `wi_net` and `wi_netjson` offer to all:
+//! here they don't make those crates be proved a second time, since a crate that has tests is.
+#![tactic(auto)]
+
+#[cfg(test)]
+mod building;
+#[cfg(test)]
+mod common;
+#[cfg(test)]
+mod faults;
+#[cfg(test)]
+mod headers;
+#[cfg(test)]
+mod limits;
+#[cfg(test)]
+mod networks;
+#[cfg(test)]
+mod risks;
+#[cfg(test)]
+mod sets;
+#[cfg(test)]
+mod texts;

@@ -1,0 +1,12 @@
+//! Turns.
+use crate::index::Index;
+use crate::row::Row;
+
+// What a turn reads: the index, the rows so far, the last of which was settled now, and the place of that row's head.
+#[derive(Drop)]
+pub(crate) struct Turn<'a, W> {
+    pub(crate) index: &'a Index<'a, W>,
+    pub(crate) rows: &'a [Row<W>],
+    pub(crate) last: usize,
+    pub(crate) place: usize,
+}

@@ -14,6 +14,3 @@ pub use plays::play;
 pub use read::read_script;
 pub use script::{Script, ScriptCause, ScriptRefused};
 pub use wi_world::{Event, State};
-
-#[cfg(test)]
-mod tests;

@@ -14,4 +14,6 @@ mod syntax;
 #[cfg(test)]
 mod text;
 #[cfg(test)]
+mod tree;
+#[cfg(test)]
 mod words;

@@ -1,61 +1,11 @@
 //! Queries by example.
-ghost use Rattle.std.specs.Prelude.{◌≡◌, []};
-
 use std::alloc::{AllocError, Global};
 use std::process::Abort;
 use std::test::Fail;
-use wi_labels::Class;
-use wi_net::{BuildRefused, FailSet, LinkId, Network, NetworkBuilder};
+use wi_net::{FailSet, LinkId, Network};
 use wi_query::{Expression, Query, SymbolSet, read_query};
 use wi_regex::{Atom, Regex, Symbol};
-
-// From a router by an interface to a router by one.
-type Ends<'a> = (&'a str, &'a str, &'a str, &'a str);
-
-// The labels 30, s10 and ip1, by their numbers 0, 1 and 2.
-#[tactic(auto, unfolding(wi_net::specs::Builder::add_label))]
-fn add_labels(builder: &mut NetworkBuilder) -> Result<(), BuildRefused>
-    requires { builder.old.net.classes ≡ [] }
-{
-    builder.label(Class::Mpls, "30")?;
-    builder.label(Class::Smpls, "s10")?;
-    builder.label(Class::Ip, "ip1")?;
-    Ok(())
-}
-
-fn add_link(
-    builder: &mut NetworkBuilder,
-    ends: Ends,
-    group: Option<&str>,
-) -> Result<(), BuildRefused> {
-    let (from, out, to, into) = ends;
-    builder.link(from, out, to, into, 1, group)?;
-    Ok(())
-}
-
-// From x to a, from a to b and c, from c to b, and from b to y. The links from a to b and from b to y may be in one risk group.
-fn add_links(builder: &mut NetworkBuilder, group: Option<&str>) -> Result<(), BuildRefused> {
-    for name in ["x", "a", "b", "c", "y"] {
-        builder.router(name)?;
-    }
-    for (ends, group) in [
-        (("x", "o", "a", "x"), None),
-        (("a", "b", "b", "a"), group),
-        (("a", "c", "c", "a"), None),
-        (("c", "b", "b", "c"), None),
-        (("b", "y", "y", "b"), group),
-    ] {
-        add_link(builder, ends, group)?;
-    }
-    Ok(())
-}
-
-fn network(alloc: Global, group: Option<&str>) -> Result<Network, Fail> {
-    let mut builder = NetworkBuilder::new(alloc);
-    add_labels(&mut builder)?;
-    add_links(&mut builder, group)?;
-    Ok(builder.finish()?)
-}
+use wi_samples::{N1, N1_FIBER, network};
 
 // The text of parts, each so many times.
 fn text(alloc: Global, parts: &[(&str, u32)]) -> Result<String, AllocError> {
@@ -88,54 +38,54 @@ fn faults_are(
     Ok(())
 }
 
+// Texts, and what is wrong with each.
+const FAULTS: &[(&str, &str)] = &[
+    ("", "byte 0: syntax"),
+    ("<ip> . <ip> 00", "byte 13: syntax"),
+    ("<nope> . <ip> 00", "byte 15: syntax"),
+    ("<nope> . <ip> 0", "byte 1: unknown label nope"),
+    ("<\"ip\"> . <ip> 0", "byte 1: unknown label ip"),
+    ("<[30, nope]> . <ip> 0", "byte 6: unknown label nope"),
+    ("<ip> [q#a] <nope> 0", "byte 6: unknown router q"),
+    ("<ip> [.#q] <ip> 0", "byte 8: unknown router q"),
+    ("<ip> [r.q#a] <ip> 0", "byte 6: unknown router r"),
+    ("<ip> [x.q#a] <ip> 0", "byte 8: unknown interface q"),
+    ("<ip> [x.q#r] <ip> 0", "byte 8: unknown interface q"),
+    ("<ip> [r#a, x.q#a] <ip> 0", "byte 6: unknown router r"),
+    ("<ip> [a.x#.] <ip> 0", "byte 8: unknown interface x"),
+    ("<ip> [.#a.b] <ip> 0", "byte 10: unknown interface b"),
+    ("<ip> . <nope> 0 down [q#a]", "byte 8: unknown label nope"),
+    ("<ip> . <ip> 65536 down [q#a]", "byte 24: unknown router q"),
+    ("<ip> . <ip> 0 up [q#a]", "byte 18: unknown router q"),
+    (
+        "<ip> . <ip> 0 down [q#a] up [r#a]",
+        "byte 20: unknown router q",
+    ),
+    ("<ip> . <ip> 65536", "byte 12: over the limit 65535"),
+    (
+        "<ip> . <ip> 100000000000000000000000000000 down [a#b] up [.#b]",
+        "byte 12: over the limit 65535",
+    ),
+    (
+        "<ip> . <ip> 1000000000000000000000000000000000000000000000000000000000000000000000",
+        "byte 12: over the limit 65535",
+    ),
+    (
+        "<ip> . <ip> 0 down [a#b] up [.#b]",
+        "link number 1 both down and up",
+    ),
+    (
+        "<ip> . <ip> 65535 down [.#.] up [b#y, c#b]",
+        "link number 3 both down and up",
+    ),
+];
+
 #[test]
 fn the_first_fault_is_told(rt: HostRuntime) -> Result<(), Fail> {
-    let net = network(rt.alloc(), None)?;
-    faults_are(
-        &rt,
-        rt.alloc(),
-        &net,
-        &[
-            ("", "byte 0: syntax"),
-            ("<ip> . <ip> 00", "byte 13: syntax"),
-            ("<nope> . <ip> 00", "byte 15: syntax"),
-            ("<nope> . <ip> 0", "byte 1: unknown label nope"),
-            ("<\"ip\"> . <ip> 0", "byte 1: unknown label ip"),
-            ("<[30, nope]> . <ip> 0", "byte 6: unknown label nope"),
-            ("<ip> [q#a] <nope> 0", "byte 6: unknown router q"),
-            ("<ip> [.#q] <ip> 0", "byte 8: unknown router q"),
-            ("<ip> [r.q#a] <ip> 0", "byte 6: unknown router r"),
-            ("<ip> [x.q#a] <ip> 0", "byte 8: unknown interface q"),
-            ("<ip> [x.q#r] <ip> 0", "byte 8: unknown interface q"),
-            ("<ip> [r#a, x.q#a] <ip> 0", "byte 6: unknown router r"),
-            ("<ip> [a.x#.] <ip> 0", "byte 8: unknown interface x"),
-            ("<ip> [.#a.b] <ip> 0", "byte 10: unknown interface b"),
-            ("<ip> . <nope> 0 down [q#a]", "byte 8: unknown label nope"),
-            ("<ip> . <ip> 65536 down [q#a]", "byte 24: unknown router q"),
-            ("<ip> . <ip> 0 up [q#a]", "byte 18: unknown router q"),
-            (
-                "<ip> . <ip> 0 down [q#a] up [r#a]",
-                "byte 20: unknown router q",
-            ),
-            ("<ip> . <ip> 65536", "byte 12: over the limit 65535"),
-            (
-                "<ip> . <ip> 100000000000000000000000000000 down [a#b] up [.#b]",
-                "byte 12: over the limit 65535",
-            ),
-            (
-                "<ip> . <ip> 1000000000000000000000000000000000000000000000000000000000000000000000",
-                "byte 12: over the limit 65535",
-            ),
-            (
-                "<ip> . <ip> 0 down [a#b] up [.#b]",
-                "link number 1 both down and up",
-            ),
-            (
-                "<ip> . <ip> 65535 down [.#.] up [b#y, c#b]",
-                "link number 3 both down and up",
-            ),
-        ],
-    )
+    let net = network(rt.alloc(), &N1)?;
+    let outcome = faults_are(&rt, rt.alloc(), &net, FAULTS);
+    drop(net);
+    outcome
 }
 
 // The parts of a text, each so many times, and what is wrong with the text.
@@ -168,14 +118,14 @@ const LONG_TEXTS: &[LongText] = &[
     (
         &[
             ("<ip>", 1),
-            ("(", 1300),
+            ("(", 2000),
             (".", 1),
-            (")", 1300),
+            (")", 2000),
             ("<ip> 0", 1),
         ],
         "no fault",
     ),
-    (&[("<ip> .", 1), ("*", 1300), ("<ip> 0", 1)], "no fault"),
+    (&[("<ip> .", 1), ("*", 4000), ("<ip> 0", 1)], "no fault"),
 ];
 
 fn long_faults_are(
@@ -193,8 +143,10 @@ fn long_faults_are(
 
 #[test]
 fn long_texts_are_read(rt: HostRuntime) -> Result<(), Fail> {
-    let net = network(rt.alloc(), None)?;
-    long_faults_are(&rt, rt.alloc(), &net, LONG_TEXTS)
+    let net = network(rt.alloc(), &N1)?;
+    let outcome = long_faults_are(&rt, rt.alloc(), &net, LONG_TEXTS);
+    drop(net);
+    outcome
 }
 
 fn holds_each(rt: &impl Abort, set: &SymbolSet, symbols: &[bool]) {
@@ -288,11 +240,17 @@ fn names_mean_labels(rt: &impl Abort, alloc: Global, net: &Network) -> Result<()
     Ok(())
 }
 
+fn ends_and_names_mean_sets(rt: &impl Abort, alloc: Global, net: &Network) -> Result<(), Fail> {
+    pairs_mean_links(rt, alloc, net)?;
+    names_mean_labels(rt, alloc, net)
+}
+
 #[test]
 fn atoms_mean_sets(rt: HostRuntime) -> Result<(), Fail> {
-    let net = network(rt.alloc(), None)?;
-    pairs_mean_links(&rt, rt.alloc(), &net)?;
-    names_mean_labels(&rt, rt.alloc(), &net)
+    let net = network(rt.alloc(), &N1)?;
+    let outcome = ends_and_names_mean_sets(&rt, rt.alloc(), &net);
+    drop(net);
+    outcome
 }
 
 // A word, and whether it is accepted.
@@ -407,11 +365,17 @@ fn firsts_accept(rt: &impl Abort, alloc: Global, net: &Network) -> Result<(), Fa
     Ok(())
 }
 
+fn all_accept(rt: &impl Abort, alloc: Global, net: &Network) -> Result<(), Fail> {
+    path_accepts(rt, alloc, net)?;
+    firsts_accept(rt, alloc, net)
+}
+
 #[test]
 fn expressions_accept_their_words(rt: HostRuntime) -> Result<(), Fail> {
-    let net = network(rt.alloc(), None)?;
-    path_accepts(&rt, rt.alloc(), &net)?;
-    firsts_accept(&rt, rt.alloc(), &net)
+    let net = network(rt.alloc(), &N1)?;
+    let outcome = all_accept(&rt, rt.alloc(), &net);
+    drop(net);
+    outcome
 }
 
 fn set_is(rt: &impl Abort, set: &FailSet, links: &[u32]) {
@@ -450,8 +414,10 @@ fn all_bounds_are(rt: &impl Abort, alloc: Global, net: &Network) -> Result<(), F
 
 #[test]
 fn lists_of_links_are_bounds(rt: HostRuntime) -> Result<(), Fail> {
-    let net = network(rt.alloc(), None)?;
-    all_bounds_are(&rt, rt.alloc(), &net)
+    let net = network(rt.alloc(), &N1)?;
+    let outcome = all_bounds_are(&rt, rt.alloc(), &net);
+    drop(net);
+    outcome
 }
 
 fn risk_groups_are_known(rt: &impl Abort, alloc: Global, net: &Network) -> Result<(), Fail> {
@@ -468,6 +434,8 @@ fn risk_groups_are_known(rt: &impl Abort, alloc: Global, net: &Network) -> Resul
 
 #[test]
 fn links_are_known_with_their_risk_groups(rt: HostRuntime) -> Result<(), Fail> {
-    let net = network(rt.alloc(), Some("duct"))?;
-    risk_groups_are_known(&rt, rt.alloc(), &net)
+    let net = network(rt.alloc(), &N1_FIBER)?;
+    let outcome = risk_groups_are_known(&rt, rt.alloc(), &net);
+    drop(net);
+    outcome
 }

@@ -1,14 +1,12 @@
 //! Scripts by example.
-ghost use Rattle.std.specs.Prelude.{◌≡◌, []};
-
-use crate::ScriptCause::{BadHeader, NotAnEvent, UnknownName};
-use crate::{Event, Script, ScriptCause, ScriptRefused, State, play, read_script};
-use std::alloc::{AllocError, Global};
+use std::alloc::Global;
 use std::process::Abort;
 use std::test::Fail;
-use wi_base::Listed;
-use wi_labels::{Class, Header, Label, Op, Ops};
-use wi_net::{BuildRefused, FailSet, Group, LinkId, Member, Network, NetworkBuilder};
+use wi_labels::{Class, Header, Label, Op};
+use wi_net::{FailSet, LinkId, Network};
+use wi_samples::{N1_WITH_31, N2_FIBER_WITH_31, N3, QUOTED_END, Sample, network};
+use wi_script::ScriptCause::{BadHeader, NotAnEvent, UnknownName};
+use wi_script::{Event, ScriptCause, ScriptRefused, State, play, read_script};
 use wi_world::Step;
 
 const L30: (Label, Class) = (Label(0), Class::Mpls);
@@ -21,174 +19,13 @@ const IP1: (Label, Class) = (Label(3), Class::Ip);
 
 const IP: (Label, Class) = (Label(4), Class::Ip);
 
-const PUSH_30: Op = Op::Push(Label(0), Class::Mpls);
-
 const PUSH_S10: Op = Op::Push(Label(2), Class::Smpls);
 
-const SWAP_31: Op = Op::Swap(Label(1), Class::Mpls);
-
-// From a router by an interface to a router by one.
-type Ends<'a> = (&'a str, &'a str, &'a str, &'a str);
-
-// A member: its link and its operations.
-type Way<'a> = (u32, &'a [Op]);
-
-// A link, a label, and groups of members.
-type RowOf<'a> = (u32, (Label, Class), &'a [&'a [Way<'a>]]);
-
-// The last one has the name of a class.
-#[tactic(auto, unfolding(wi_net::specs::Builder::add_label))]
-fn add_labels(builder: &mut NetworkBuilder) -> Result<(), BuildRefused>
-    requires { builder.old.net.classes ≡ [] }
-{
-    builder.label(Class::Mpls, "30")?;
-    builder.label(Class::Mpls, "31")?;
-    builder.label(Class::Smpls, "s10")?;
-    builder.label(Class::Ip, "ip1")?;
-    builder.label(Class::Ip, "ip")?;
-    Ok(())
-}
-
-fn add_link(
-    builder: &mut NetworkBuilder,
-    ends: Ends,
-    distance: u32,
-    group: Option<&str>,
-) -> Result<(), BuildRefused> {
-    let (from, out, to, into) = ends;
-    builder.link(from, out, to, into, distance, group)?;
-    Ok(())
-}
-
-const ROUTERS: &[&str] = &["x", "a", "b", "c", "y", "b 1"];
-
-// From x to a, from a to b and c, from c to b, and from b to y. The links from a to b and from b to y may be in one risk group.
-const LINKS: &[(Ends, u32, bool)] = &[
-    (("x", "o", "a", "x"), 1, false),
-    (("a", "b", "b", "a"), 1, true),
-    (("a", "c", "c", "a"), 2, false),
-    (("c", "b", "b", "c"), 2, false),
-    (("b", "y", "y", "b"), 1, true),
-];
-
-fn add_links(builder: &mut NetworkBuilder, group: Option<&str>) -> Result<(), BuildRefused> {
-    for name in ROUTERS {
-        builder.router(name)?;
-    }
-    for (ends, distance, grouped) in LINKS {
-        let group = if *grouped { group } else { None };
-        add_link(builder, *ends, *distance, group)?;
-    }
-    Ok(())
-}
-
-fn group(alloc: Global, ways: &[Way]) -> Result<Group, Fail> {
-    let mut members = Vec::new(alloc);
-    for (link, ops) in ways {
-        let member = Member {
-            link: LinkId(*link),
-            ops: Ops::from_slice(alloc, ops)?,
-        };
-        members.push(member).map_err(AllocError::from)?;
-    }
-    Ok(Listed::of(members))
-}
-
-fn groups(alloc: Global, ways: &[&[Way]]) -> Result<Vec<Group>, Fail> {
-    let mut groups = Vec::new(alloc);
-    for members in ways {
-        groups
-            .push(group(alloc, members)?)
-            .map_err(AllocError::from)?;
-    }
-    Ok(groups)
-}
-
-fn add_rows(alloc: Global, builder: &mut NetworkBuilder, rows: &[RowOf]) -> Result<(), Fail> {
-    for (link, label, ways) in rows {
-        let groups = groups(alloc, ways)?;
-        builder.table(LinkId(*link), label.0, groups)?;
-    }
-    Ok(())
-}
-
-// Such links, maybe a sixth one, and these rows.
-fn fill(
-    alloc: Global,
-    builder: &mut NetworkBuilder,
-    group: Option<&str>,
-    sixth: Option<Ends>,
-    rows: &[RowOf],
-) -> Result<(), Fail>
-    requires { builder.old.net.classes ≡ [] }
-{
-    add_labels(builder)?;
-    add_links(builder, group)?;
-    if let Some(ends) = sixth {
-        add_link(builder, ends, 1, None)?;
-    }
-    add_rows(alloc, builder, rows)
-}
-
-// No builder is left where a path ends: each part of one that is let go takes its own proof.
-fn network(
-    alloc: Global,
-    group: Option<&str>,
-    sixth: Option<Ends>,
-    rows: &[RowOf],
-) -> Result<Network, Fail> {
-    let mut builder = NetworkBuilder::new(alloc);
-    match fill(alloc, &mut builder, group, sixth, rows) {
-        Ok(()) => Ok(builder.finish()?),
-        Err(fail) => {
-            drop(builder);
-            Err(fail)
-        }
-    }
-}
-
-// Names that are not plain.
-const ODD: Ends = ("b 1", "o.1", "x", "a#\u{e9}");
-
-fn named(alloc: Global) -> Result<Network, Fail> {
-    network(alloc, None, Some(ODD), &[])
-}
-
-// First to b, else by c in a tunnel.
-const AT_A: RowOf = (0, IP1, &[&[(1, &[PUSH_S10])], &[(2, &[PUSH_S10, PUSH_30])]]);
-
-const FROM_A: RowOf = (1, S10, &[&[(4, &[Op::Pop])]]);
-
-const SMALL: &[RowOf] = &[
-    AT_A,
-    FROM_A,
-    (2, L30, &[&[(3, &[Op::Pop])]]),
-    (3, S10, &[&[(4, &[Op::Pop])]]),
-];
-
-// The links from a to b and from b to y fail together.
-fn fiber(alloc: Global) -> Result<Network, Fail> {
-    network(alloc, Some("fiber"), None, SMALL)
-}
-
-const BACK_TO_A: Ends = ("c", "a2", "a", "c2");
-
-const RETURNING: &[RowOf] = &[
-    AT_A,
-    FROM_A,
-    (2, L30, &[&[(5, &[SWAP_31])]]),
-    (5, L31, &[&[(1, &[Op::Pop])]]),
-];
-
-// What came to c goes back to a, and from there to b.
-fn returning(alloc: Global) -> Result<Network, Fail> {
-    network(alloc, None, Some(BACK_TO_A), RETURNING)
-}
-
-// A function of its own, so that no test shows each part that is let go.
-fn discard(net: Network) {
-    drop(net)
-}
+// With 31 as in the other networks, so that a label has one number.
+const NAMED: Sample = Sample {
+    mpls: &["30", "31"],
+    ..QUOTED_END
+};
 
 fn header_is(rt: &impl Abort, header: &Header, labels: &[(Label, Class)]) {
     assert_eq!(rt; header.len(), labels.len());
@@ -261,9 +98,9 @@ fn are_read(rt: &impl Abort, alloc: Global, net: &Network) -> Result<(), Fail> {
 
 #[test]
 fn scripts_are_read(rt: HostRuntime) -> Result<(), Fail> {
-    let net = named(rt.alloc())?;
+    let net = network(rt.alloc(), &NAMED)?;
     let said = are_read(&rt, rt.alloc(), &net);
-    discard(net);
+    drop(net);
     said
 }
 
@@ -363,9 +200,9 @@ fn faults_are_told(rt: &impl Abort, alloc: Global, net: &Network) {
 
 #[test]
 fn the_first_fault_is_told(rt: HostRuntime) -> Result<(), Fail> {
-    let net = named(rt.alloc())?;
+    let net = network(rt.alloc(), &NAMED)?;
     faults_are_told(&rt, rt.alloc(), &net);
-    discard(net);
+    drop(net);
     Ok(())
 }
 
@@ -460,9 +297,9 @@ fn plays_round(rt: &impl Abort, alloc: Global, net: &Network) -> Result<(), Fail
 
 #[test]
 fn a_script_is_played_event_by_event(rt: HostRuntime) -> Result<(), Fail> {
-    let net = returning(rt.alloc())?;
+    let net = network(rt.alloc(), &N3)?;
     let said = plays_round(&rt, rt.alloc(), &net);
-    discard(net);
+    drop(net);
     said
 }
 
@@ -521,9 +358,9 @@ const REFUSED_ROUND: &[RefusedOf] = &[
 
 #[test]
 fn the_first_event_that_is_not_allowed_is_told(rt: HostRuntime) -> Result<(), Fail> {
-    let net = returning(rt.alloc())?;
+    let net = network(rt.alloc(), &N3)?;
     let said = all_refused(&rt, rt.alloc(), &net, REFUSED_ROUND);
-    discard(net);
+    drop(net);
     said
 }
 
@@ -555,14 +392,17 @@ fn plays_fiber(rt: &impl Abort, alloc: Global, net: &Network) -> Result<(), Fail
 // Links of one risk group fail together, also the one that the packet is on, and are repaired together.
 #[test]
 fn risk_groups_fail_as_one(rt: HostRuntime) -> Result<(), Fail> {
-    let net = fiber(rt.alloc())?;
+    let net = network(rt.alloc(), &N2_FIBER_WITH_31)?;
     let said = plays_fiber(&rt, rt.alloc(), &net);
-    discard(net);
+    drop(net);
     said
 }
 
 // The first way out of a has two members, the second of them with an operation that isn't defined.
-const TWO_MEMBERS: &[RowOf] = &[(0, IP1, &[&[(1, &[PUSH_S10]), (2, &[PUSH_S10, PUSH_S10])]])];
+const TWO_MEMBERS: Sample = Sample {
+    rows: &[(0, 3, &[&[(1, &[PUSH_S10]), (2, &[PUSH_S10, PUSH_S10])]])],
+    ..N1_WITH_31
+};
 
 const TWO_MEMBERS_REFUSED: &[RefusedOf] = &[
     (
@@ -581,8 +421,8 @@ const TWO_MEMBERS_REFUSED: &[RefusedOf] = &[
 
 #[test]
 fn a_hop_takes_a_member_whose_link_is_up(rt: HostRuntime) -> Result<(), Fail> {
-    let net = network(rt.alloc(), None, None, TWO_MEMBERS)?;
+    let net = network(rt.alloc(), &TWO_MEMBERS)?;
     let said = all_refused(&rt, rt.alloc(), &net, TWO_MEMBERS_REFUSED);
-    discard(net);
+    drop(net);
     said
 }

@@ -1,5 +1,5 @@
 //! Systems by example.
-ghost use Rattle.wi_query.specs.Meaning.{IsQueryOf};
+ghost use Rattle.wi_world.specs.Moves.{AreBounds};
 
 use crate::common::query_of;
 use std::alloc::Global;
@@ -120,7 +120,7 @@ fn system_is(
     vector: &Vector,
     heads: &[HeadCase],
 ) -> Result<(), Fail>
-    requires { IsQueryOf net.now query.now }
+    requires { AreBounds net.now query.now.bounds }
 {
     let system = LazySystem::new(alloc, net, query, vector, &query.bounds)?;
     let layout = Layout::of(net, query);
@@ -141,7 +141,7 @@ fn weighed_is(
     query: &Query,
     case: &Case,
 ) -> Result<(), Fail>
-    requires { IsQueryOf net.now query.now }
+    requires { AreBounds net.now query.now.bounds }
 {
     let vector = read_weights(alloc, case.1)?;
     let outcome = system_is(rt, alloc, net, query, &vector, case.2);

@@ -1,6 +1,6 @@
 //! What tests of several libraries ask.
 ghost use Rattle.std.specs.Prelude.{IfOk};
-ghost use Rattle.wi_query.specs.Meaning.{IsQueryOf};
+ghost use Rattle.wi_world.specs.Moves.{AreBounds};
 
 use std::alloc::Global;
 use std::test::Fail;
@@ -10,7 +10,7 @@ use wi_query::{Query, read_query};
 
 /// The query that a text is.
 pub fn query_of(alloc: Global, net: &Network, text: &str) -> Result<Query, Fail>
-    ensures { IfOk result (λ query. IsQueryOf net.now query) }
+    ensures { IfOk result (λ query. AreBounds net.now query.bounds) }
 {
     match read_query(alloc, net, text) {
         Ok(query) => Ok(query),

@@ -1,5 +1,5 @@
 //! Answers by example.
-ghost use Rattle.wi_query.specs.Meaning.{IsQueryOf};
+ghost use Rattle.wi_world.specs.Moves.{AreBounds};
 
 use crate::common::{query_of, vector_of};
 use std::alloc::Global;
@@ -124,7 +124,7 @@ fn decides(
     vector: &Vector,
     shown: &Option<Shown>,
 )
-    requires { IsQueryOf net.now query.now }
+    requires { AreBounds net.now query.now.bounds }
 {
     match decide(alloc, net, query, vector) {
         Ok(answer) => {
@@ -142,7 +142,7 @@ fn weighed_is(
     query: &Query,
     case: &Case,
 ) -> Result<(), Fail>
-    requires { IsQueryOf net.now query.now }
+    requires { AreBounds net.now query.now.bounds }
 {
     let vector = vector_of(alloc, case.1)?;
     decides(rt, alloc, net, query, &vector, &case.2);
@@ -385,7 +385,7 @@ fn refuses(
     vector: &Vector,
     expected: DecideRefused,
 )
-    requires { IsQueryOf net.now query.now }
+    requires { AreBounds net.now query.now.bounds }
 {
     match decide(alloc, net, query, vector) {
         Ok(answer) => {

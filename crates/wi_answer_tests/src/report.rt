@@ -1,6 +1,6 @@
 //! Texts by example.
 ghost use Rattle.std.specs.Prelude.{IfOk, IfSome};
-ghost use Rattle.wi_query.specs.Meaning.{IsQueryOf};
+ghost use Rattle.wi_world.specs.Moves.{AreBounds};
 ghost use Rattle.wi_report.specs.Reports.{IsKnownRun};
 
 use crate::common::{query_of, vector_of};
@@ -407,7 +407,7 @@ fn answered_is(
     vector: &Vector,
     case: &Case,
 ) -> Result<(), Fail>
-    requires { IsQueryOf net.now query.now }
+    requires { AreBounds net.now query.now.bounds }
 {
     let answer = answer_of(alloc, net, &case.2)?;
     let outcome = says(rt, report(alloc, net, query, vector, &answer), case.3);
@@ -422,7 +422,7 @@ fn weighed_is(
     query: &Query,
     case: &Case,
 ) -> Result<(), Fail>
-    requires { IsQueryOf net.now query.now }
+    requires { AreBounds net.now query.now.bounds }
 {
     let vector = vector_of(alloc, case.1)?;
     let outcome = answered_is(rt, alloc, net, query, &vector, case);

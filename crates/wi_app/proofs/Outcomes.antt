@@ -29,7 +29,8 @@ use Rattle.wi_words.specs.Commands.{Command, Verify, Play, command_of}
 use Rattle.wi_app.specs.Texts.{text_of, status_of, IsPutTogether}
 use Rattle.wi_app.specs.Edges.{Says, SaysWhy, kept}
 use Rattle.wi_app.specs.Asked.{FromDecision, FromTexts, IsAnswer, IsAsked, IsBadQuery, IsBadWeights, IsReported, WeighsBy}
-use Rattle.wi_app.specs.Run.{AreAnswered, IsAnswered, IsStatus, HoldsNetwork, IsPlay, IsCalm, FileHasFault, FromNetwork, IsBadScript, FromBytes, FromScript, FromCommand, FromWords, CanBeAnswered, Prints, Completes}
+use Rattle.wi_app.specs.Run.{AreAnswered, IsAnswered, IsStatus, HoldsNetwork, IsPlay, IsCalm, FileHasFault, FromNetwork, IsBadScript, FromScript, FromCommand, FromWords, CanBeAnswered, Prints, Completes}
+use Rattle.wi_app.specs.private.Run.{FromBytes}
 use Rattle.wi_app.specs.declared.answer.Printed.{Printed}
 use Rattle.wi_app.specs.declared.refusal.Refusal.{Refusal}
 use Rattle.wi_app.specs.declared.refusal.Refusal.TheVariants.{Usage, CannotRead, Network, Query as BadQuery, Weights as BadWeights, Overflow, TooLong, Script, LongScript, CannotPrint, Memory}

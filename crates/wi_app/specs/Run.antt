@@ -25,7 +25,6 @@ use Rattle.wi_app.specs.declared.refusal.Refusal.{Refusal}
 use Rattle.wi_app.specs.declared.refusal.Refusal.TheVariants.{Usage, CannotRead, Network, Script as BadScript, LongScript, CannotPrint, Memory}
 
 -- ---- answers
-
 -- the lines of the states of the moving world while bytes, which are a script of the network, are played with at most k risk
 -- groups failed
 pub record IsPlay (net : Net) (k : ℕ) (bytes text : List ℕ) : Type 0 where
@@ -56,7 +55,6 @@ AreAnswered shelf None status text = ⊥
 AreAnswered shelf (Some command) status text = IsAnswered shelf command status text
 
 -- ---- causes of refusals. Old and new are the shelf before and after; what it tells of a file is said where it tells
-
 -- no call on the shelf failed
 abbrev pub IsCalm : ShelfSeen → ShelfSeen → Type 0
 IsCalm old new = new.failed ≡ old.failed
@@ -80,12 +78,6 @@ FromNetwork old new name refusal = ⊥
 -- bytes aren't a script of the network, or are one with an event that isn't allowed
 abbrev pub IsBadScript : Net → ℕ → List ℕ → ScriptRefused → Type 0
 IsBadScript net k bytes refused = IsNoScript net bytes refused ⊎ ((script : Script) × IsScript net bytes script × IsNotPlayed net k script refused)
-
--- the bytes of the script are the cause
-abbrev pub FromBytes : Net → ℕ → List ℕ → Refusal → Type 0
-FromBytes net k bytes (BadScript refused) = IsBadScript net k bytes refused
-FromBytes net k bytes Memory = Unit {0}
-FromBytes net k bytes refusal = ⊥
 
 -- the script's file is the cause: over the limit it is told so, whatever its lines are
 abbrev pub FromScript : ShelfSeen → ShelfSeen → Net → List ℕ → ℕ → Refusal → Type 0
@@ -113,7 +105,6 @@ FromWords old new None refusal = ⊥
 FromWords old new (Some command) refusal = FromCommand old new command refusal
 
 -- ---- what is done
-
 -- a report was printed, and nothing was said; or it wasn't, and it was said why
 abbrev pub Prints : ℕ → List ℕ → SinkSeen → SinkSeen → SinkSeen → SinkSeen → ℕ → Type 0
 Prints status text out_old out_new err_old err_new result =

@@ -1,7 +1,8 @@
-//! From the words to the report.
+//! What is to be printed is made whole, with its status, before anything is printed: so a refusal on the way puts nothing on
+//! standard output. It costs the whole text in memory.
 ghost use Rattle.std.specs.Prelude.{◌≡◌, ℕ, List, map, string_bytes, IfOk, IfErr};
 ghost use Rattle.wi_words.specs.Commands.{command_of};
-ghost use Rattle.wi_words.specs.Shown.{shown};
+ghost use Rattle.wi_words.specs.private.Shown.{shown};
 ghost use Rattle.wi_app.specs.Run.{AreAnswered, FromCommand, FromWords, IsAnswered, IsCalm};
 
 use crate::play::play;

@@ -1,4 +1,5 @@
-//! The program.
+//! All is one call over any shelf and any sinks, so that the same code runs over memory, where contracts tell the content, and
+//! over the system's files and streams. What is printed goes out in one call; where that fails, a front of it may stand there.
 ghost use Rattle.std.specs.Prelude.{◌≡◌, ◌<◌, ◌-◌, ◌^◌, ℕ, List, map, string_bytes};
 ghost use Rattle.wi_app.specs.Run.{Completes, Does, Prints};
 

@@ -1,4 +1,5 @@
-//! Files, fetched from a shelf.
+//! A file over its limit could be read, so that is a fault of the file and no failed call. The limits stand here and are given
+//! to the shelf, so that it needn't read a longer file to its end. A network's bytes are in memory until it is read.
 ghost use Rattle.std.specs.Prelude.{◌≡◌, true, ◌≤◌, ℕ, List, Ok, Some, IfOk, IfErr, vec_len, length};
 ghost use Rattle.wi_netjson.specs.File.{network_of};
 ghost use Rattle.wi_netjson.specs.Reading.{Fails};

@@ -11,4 +11,6 @@ mod verify;
 pub use app::run;
 
 #[cfg(test)]
+mod ring;
+#[cfg(test)]
 mod tests;

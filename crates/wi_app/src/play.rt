@@ -1,7 +1,9 @@
-//! Scripts, played on a network.
+//! The network is read before the script is fetched, so that its faults come first, and is let go before anything is printed.
+//! All states are in memory while their text is made.
 ghost use Rattle.std.specs.Prelude.{◌≡◌, ◌≤◌, true, Some, ℕ, List, length, IfOk, IfErr};
 ghost use Rattle.wi_words.specs.Commands.{Play};
-ghost use Rattle.wi_app.specs.Run.{FromBytes, FromCommand, FromScript, IsAnswered, IsCalm, IsPlay};
+ghost use Rattle.wi_app.specs.private.Run.{FromBytes};
+ghost use Rattle.wi_app.specs.Run.{FromCommand, FromScript, IsAnswered, IsCalm, IsPlay};
 
 use crate::answer::Printed;
 use crate::fetch::{network, script_bytes};

@@ -1,4 +1,6 @@
-//! Why the program refuses, and what it says then.
+//! Each way to end without an answer is a case here, with one text and one status, so that none can be added without both. A
+//! text that is constant is put as it stands, and takes no memory; where there is none for another, a constant one is put in
+//! its place.
 ghost use Rattle.std.specs.Prelude.{◌≡◌, ◌⊎◌, ◌++◌, ◌<◌, ◌-◌, ◌^◌, ℕ, List, codes, IfOk};
 ghost use Rattle.wi_app.specs.Texts.{status_of};
 ghost use Rattle.wi_app.specs.Edges.{Says, SaysWhy, kept};

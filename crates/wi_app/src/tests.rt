@@ -83,9 +83,14 @@ fn verified_with(alloc: Global, old: &str, new: &str, query: &str) -> Result<Str
 }
 
 // A query, and weights where there are some, with what `run` is to end with.
-type Case<'a> = (&'a str, Option<&'a str>, &'a str);
+pub(crate) type Case<'a> = (&'a str, Option<&'a str>, &'a str);
 
-fn cases_are(rt: &impl Abort, alloc: Global, network: &str, cases: &[Case]) -> Result<(), Fail> {
+pub(crate) fn cases_are(
+    rt: &impl Abort,
+    alloc: Global,
+    network: &str,
+    cases: &[Case],
+) -> Result<(), Fail> {
     for (query, weights, wanted) in cases {
         let said = weighed(alloc, network.as_bytes(), query, *weights)?;
         assert_eq!(rt; said.as_str(), *wanted, "{query}");

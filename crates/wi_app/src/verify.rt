@@ -1,6 +1,9 @@
-//! Queries, answered on a network.
+//! The query is read before the weights, and both before any search, so that of several faults the first in that order is told.
+//! A query's fault becomes its text while the network is there, since it may name a link. The network is let go before anything
+//! is printed.
 ghost use Rattle.std.specs.Prelude.{◌≡◌, ℕ, List, option_map, IfOk, IfErr};
-ghost use Rattle.wi_query.specs.Meaning.{IsQuery, IsQueryOf};
+ghost use Rattle.wi_world.specs.Moves.{AreBounds};
+ghost use Rattle.wi_query.specs.Meaning.{IsQuery};
 ghost use Rattle.wi_words.specs.Commands.{Verify};
 ghost use Rattle.wi_build.specs.Problems.{problem_of};
 ghost use Rattle.wi_app.specs.Asked.{FromDecision, FromTexts, IsAnswer, IsBadQuery, IsBadWeights, IsReported, WeighsBy, status_for};
@@ -87,7 +90,7 @@ fn reported<'a>(
     query: &Query,
     vector: &Vector,
 ) -> Result<Printed, Refusal<'a>>
-    requires { IsQueryOf net.now query.now }
+    requires { AreBounds net.now query.now.bounds }
     ensures reported { IfOk result (λ printed. IsReported (problem_of net.now query.now vector.now) printed.status printed.text) }
     ensures refused { IfErr result (λ refusal. FromDecision (problem_of net.now query.now vector.now) refusal) }
 {

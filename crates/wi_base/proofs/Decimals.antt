@@ -6,7 +6,7 @@ use Rattle.std.proofs.Common.{sym, ap, ◌∙◌, arith, append_assoc, append-ni
 use Rattle.std.proofs.lemmas.Bool.Decides.{nat_tests}
 use Rattle.std.proofs.lemmas.Fmt.{decimal_by_steps_wide, decimal_step_wide, decimal_digit}
 use Rattle.wi_base.proofs.Cases.{by_test, nothing}
-use Rattle.wi_base.specs.Decimal.{number_after, number_in}
+use Rattle.wi_base.specs.private.Decimal.{number_after, number_in}
 
 some_same : (x y : ℕ) → Some x ≡ Some y → x ≡ y
 some_same x y h = cc

@@ -9,7 +9,8 @@ use Rattle.std.proofs.lemmas.List.Sums.{fails_before_first}
 use Rattle.std.proofs.lemmas.Slice.Eq.{bytes_eq-Decides}
 use Rattle.wi_base.proofs.Cases.{by_test, nothing}
 use Rattle.wi_base.specs.declared.memory_shelf.NamedFile.{NamedFile}
-use Rattle.wi_base.specs.MemoryShelf.{file_in, with_file, file_of, files_of}
+use Rattle.wi_base.specs.MemoryShelf.{file_in, with_file}
+use Rattle.wi_base.specs.private.MemoryShelf.{file_of, files_of}
 
 -- the file has that name
 abbrev pub is_named : List ℕ → NamedFile → Bool

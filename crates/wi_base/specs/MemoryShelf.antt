@@ -1,9 +1,8 @@
 -- A shelf in memory, as its entries in order.
-use Rattle.std.specs.Prelude.{ℕ, Bool, ◌==◌, if◌then◌else◌, List, [], ◌∷◌, Option, Some, None, map, string_bytes}
+use Rattle.std.specs.Prelude.{ℕ, Bool, ◌==◌, if◌then◌else◌, List, [], ◌∷◌, Option, Some, None}
 use Rattle.std.specs.List.{list_any}
 use Rattle.std.specs.Str.{bytes_eq}
 use Rattle.wi_base.specs.declared.shelf.CallKind.{CallKind}
-use Rattle.wi_base.specs.declared.memory_shelf.NamedFile.{NamedFile}
 
 -- files with their names, the failed calls, the numbers of the calls that are to fail, and how many calls there were
 pub record Contents : Type 0 where
@@ -25,11 +24,3 @@ with_file (file ∷ files) name bytes = if bytes_eq name file.0 then (file.0, by
 -- the next call is to fail
 abbrev pub is_to_fail : List ℕ → ℕ → Bool
 is_to_fail failing call = list_any (λ n. n == call) failing
-
--- a file's name and its bytes
-abbrev pub file_of : NamedFile → List ℕ × List ℕ
-file_of file = (string_bytes file.name, file.bytes.items)
-
--- the names and the bytes of files
-abbrev pub files_of : List NamedFile → List (List ℕ × List ℕ)
-files_of files = map file_of files

@@ -1,7 +1,8 @@
-//! Decimals: `0`, or a digit 1 to 9 followed by digits; no sign.
+//! A number has one text, `0` or a digit 1 to 9 followed by digits, so that texts of numbers can be compared as bytes. Writing
+//! makes that text first and then adds it, so that nothing has changed where memory runs out; reading takes no memory.
 ghost use Rattle.std.specs.Prelude.{◌≡◌, ◌≢◌, ℕ, ◌<◌, ◌^◌, ◌++◌, None, IfSome, OnOk, OnErr};
 ghost use Rattle.std.specs.Fmt.{decimal};
-ghost use Rattle.wi_base.specs.Decimal.{number_after};
+ghost use Rattle.wi_base.specs.private.Decimal.{number_after};
 
 use crate::no_memory::NoMemory;
 

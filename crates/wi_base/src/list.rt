@@ -1,4 +1,5 @@
-//! A list inside a public struct.
+//! A `Vec` has its room and its allocator besides its elements, so two that hold the same may differ. Public structs hold this
+//! type instead: contracts see its elements alone. Turning one into the other takes no memory.
 ghost use Rattle.std.specs.Prelude.{◌≡◌};
 
 use std::marker::Model;

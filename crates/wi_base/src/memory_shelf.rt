@@ -1,11 +1,14 @@
-//! A shelf in memory.
+//! Contracts can speak of what files hold only over a shelf that tells it, and this one does. It also fails at the calls whose
+//! numbers it was given, so that tests reach each way out. A name is looked for along the list of files, and each fetch copies
+//! its file.
 ghost use Rattle.std.specs.Prelude.{◌≡◌, ◌≢◌, ◌≤◌, ◌<◌, ◌⊎◌, ◌+◌, ◌-◌, ◌^◌, ℕ, min, [], ◌∷◌, ◌++◌, length, true, false, List, None, Some, IfOk, OnOk, OnErr, IsErrOf, vec_len, string_bytes, option_map};
 ghost use Rattle.std.specs.List.{position};
 ghost use Rattle.std.specs.Str.{bytes_eq};
 ghost use Rattle.wi_base.specs.declared.shelf.CallKind.{CallKind};
 ghost use Rattle.wi_base.specs.Shelf.{after_fetch, after_store, IsLonger};
 ghost use Rattle.wi_base.specs.FailedCalls.{calls_of};
-ghost use Rattle.wi_base.specs.MemoryShelf.{file_in, with_file, is_to_fail, file_of, files_of};
+ghost use Rattle.wi_base.specs.MemoryShelf.{file_in, with_file, is_to_fail};
+ghost use Rattle.wi_base.specs.private.MemoryShelf.{file_of, files_of};
 
 use crate::failed_call::{FailedCall, room_to_note};
 use crate::no_memory::NoMemory;
@@ -32,7 +35,8 @@ pub struct MemoryShelf {
 
 impl Model for MemoryShelf {
     ghost use Rattle.wi_base.specs.FailedCalls.{calls_of};
-    ghost use Rattle.wi_base.specs.MemoryShelf.{Contents, files_of};
+    ghost use Rattle.wi_base.specs.MemoryShelf.{Contents};
+    ghost use Rattle.wi_base.specs.private.MemoryShelf.{files_of};
 
     ghost Value = { Contents };
 

@@ -1,4 +1,6 @@
-//! A sink in memory.
+//! Contracts can speak of what was written only over a sink that tells it, and this one does. It also fails at the calls whose
+//! numbers it was given, after as many bytes as was said, so that a call that fails halfway can be tried. It keeps all that was
+//! written.
 ghost use Rattle.std.specs.Prelude.{◌≡◌, ℕ, ◌+◌, ◌-◌, ◌^◌, min, [], ◌++◌, take, true, List, None, ◌⊎◌, OnOk, OnErr, IfSome, IsErrOf};
 ghost use Rattle.wi_base.specs.Sink.{Counts};
 ghost use Rattle.wi_base.specs.MemorySink.{failing_at};

@@ -1,4 +1,5 @@
-//! Want of memory.
+//! Want of memory is merged with no other cause: all others can then be exact, and this one alone is free. The two errors of
+//! std become one here, so that `?` serves for both; a value that there was no room for is let go.
 use std::alloc::{AllocError, AllocFailed};
 
 /// Memory ran out. What was lent is as before, unless the call says otherwise.

@@ -1,4 +1,5 @@
-//! A shelf: files by name, fetched and stored whole.
+//! Files go whole, so that no contract has to speak of a part of one; each takes its length in memory. A shelf notes its failed
+//! calls, since a body that always answers `Failed` would otherwise keep every contract: it costs a list of these calls.
 ghost use Rattle.std.specs.Prelude.{◌≡◌, ◌≢◌, ◌≤◌, ℕ, true, List, Some, IfOk, OnOk, IsErrOf, vec_len};
 ghost use Rattle.wi_base.specs.Shelf.{ShelfSeen, after_fetch, after_store, IsLonger};
 

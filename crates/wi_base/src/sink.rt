@@ -1,4 +1,5 @@
-//! A sink: where bytes are written in pieces.
+//! A call that fails may have written a front of its piece, since streams do. A sink counts its failed calls, since a body that
+//! always answers `Failed` would otherwise keep every contract: it costs one number, which stops at its greatest value.
 ghost use Rattle.std.specs.Prelude.{◌≡◌, ℕ, true, ◌++◌, take, OnOk, IsErrOf};
 ghost use Rattle.wi_base.specs.Sink.{Counts, SinkSeen};
 

@@ -8,16 +8,15 @@ use Rattle.wi_nfa.specs.Rows.{automaton_of}
 use Rattle.wi_nfa.proofs.Ranges.{follows_within}
 use Rattle.wi_nfa.proofs.Reading.{from_filter, into_filter}
 use Rattle.wi_nfa.proofs.Walks.{led_within, accepted}
-use Rattle.wi_query.specs.Compiled.{IsCompiled}
+use Rattle.wi_query.specs.Compiled.{Compiled, HasAutomaton}
 use Rattle.wi_query.specs.Sets.{holds}
-use Rattle.wi_query.specs.declared.expression.Expression.{Expression}
 use Rattle.wi_rules.specs.Rules.{IsAutomaton, IsTurned}
 use Rattle.wi_rules.specs.Goals.{Walks, Accepts}
 use Rattle.wi_rules.proofs.Lists.{In, contains_in, in_contains, in_range}
 use Rattle.wi_build.specs.Encodings.{after, comes_after, before, automaton}
 use Rattle.wi_build.proofs.StateLemmas.{any_in, in_any}
 
-module _ (e : Expression) (symbols : ℕ) (k : IsCompiled symbols e) where
+module _ (e : Compiled) (k : HasAutomaton e) where
   abbrev positions : nfa.Automaton
   positions = automaton_of holds e.nfa
 

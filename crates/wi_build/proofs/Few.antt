@@ -17,9 +17,8 @@ use Rattle.wi_pds.specs.declared.rule.Word2.{Word2}
 use Rattle.wi_pds.specs.declared.rule.Word2.TheVariants.{Empty, One}
 use Rattle.wi_nfa.specs.Rows.{automaton_of}
 use Rattle.wi_world.specs.declared.run.Step.{Step}
-use Rattle.wi_query.specs.Compiled.{IsCompiled}
+use Rattle.wi_query.specs.Compiled.{Compiled, HasAutomaton}
 use Rattle.wi_query.specs.Sets.{holds}
-use Rattle.wi_query.specs.declared.expression.Expression.{Expression}
 use Rattle.wi_rules.specs.declared.spot.Spot.{Spot}
 use Rattle.wi_rules.specs.declared.spot.Spot.TheVariants.{Start, Done, Build, Close, OnLink, Mid}
 use Rattle.wi_rules.specs.Rules.{Encoding, SpotRule, each_at, plain, working, pushing, is_label, written, first_written, on_way, may_build, may_use, build_rules, set_out_rules, hop_rules, entry_rules, next_op_rules, on_link_rules, rules_of}
@@ -110,14 +109,14 @@ module _ (s : Encoding) (few : IsFew s) where
       (λ p. map_length (λ (r : SpotRule). numbered s r) (rules_of s p g) (400000 * 513 + 1) (rules_few p g)) in
       omega (arith, most)
 
-module _ (e : Expression) (symbols : ℕ) (k : IsCompiled symbols e) where
+module _ (e : Compiled) (k : HasAutomaton e) where
   states_few : (automaton_of holds e.nfa).states ≤ 513
   states_few = omega (arith, k.automaton.states, k.few)
 
   after_few : (q x : ℕ) → length (after e q x) ≤ 513
   after_few q x =
       let rises = IsStrictlyIncreasing-filter (λ r. (automaton_of holds e.nfa).reads r x) ((automaton_of holds e.nfa).next q) (k.automaton.next q).rising in
-      let most = rising_length (after e q x) (automaton_of holds e.nfa).states rises (λ t h. (is_automaton e symbols k).below q t x h) in
+      let most = rising_length (after e q x) (automaton_of holds e.nfa).states rises (λ t h. (is_automaton e k).below q t x h) in
       omega (arith, most, states_few)
 
   before_few : (q x : ℕ) → length (before e q x) ≤ 513
@@ -130,10 +129,10 @@ is_few problem k = record {
   labels = omega (arith, k.network.classes, k.network.few_labels);
   links = k.network.few_links;
   members = k.network.few_members;
-  first = states_few problem.query.first _ k.query_of.first;
-  first_before = before_few problem.query.first _ k.query_of.first;
-  path = after_few problem.query.path _ k.query_of.path;
-  last = after_few problem.query.last _ k.query_of.last;
+  first = states_few problem.query.first k.automata.first;
+  first_before = before_few problem.query.first k.automata.first;
+  path = after_few problem.query.path k.automata.path;
+  last = after_few problem.query.last k.automata.last;
 }
 
 pub few : (problem : Problem) (n g : ℕ) → IsProblem problem → length (rules_at_number (encoding_of problem) n g) < 2 ^ 32

@@ -12,7 +12,7 @@ use Rattle.wi_net.specs.Net.{Net, is_link, entry, before, risk_count}
 use Rattle.wi_net.specs.Network.{IsNetwork}
 use Rattle.wi_net.proofs.KeptLists.{all_get}
 use Rattle.wi_weight.specs.Weights.{EachBelow}
-use Rattle.wi_weight.specs.Sums.{each_below_both}
+use Rattle.wi_weight.specs.lemmas.Sums.{each_below_both}
 use Rattle.wi_world.specs.declared.run.Quantity.{Quantity}
 use Rattle.wi_world.specs.declared.run.Quantity.TheVariants.{Links, Hops, Distance, Failures, Tunnels}
 use Rattle.wi_world.specs.declared.run.Step.{Step}

@@ -14,7 +14,7 @@ use Rattle.wi_rules.specs.Numbers.{Fits, layout_of, numbered, spot_of}
 use Rattle.wi_rules.proofs.Spots.{number_of_spot}
 use Rattle.wi_build.specs.declared.head.Head.{Head}
 use Rattle.wi_build.specs.Systems.{rule_at, rules_by}
-use Rattle.wi_build.specs.Rows.{rules_for}
+use Rattle.wi_build.specs.private.Rows.{rules_for}
 use Rattle.wi_build.proofs.RowLemmas.{Listing, none_made, on_ok}
 
 -- by the spot of the number

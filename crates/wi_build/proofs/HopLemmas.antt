@@ -34,9 +34,9 @@ use Rattle.wi_build.specs.declared.needs.Needs.{Needs}
 use Rattle.wi_build.specs.Problems.{Problem, IsProblem}
 use Rattle.wi_build.specs.Encodings.{encoding_of}
 use Rattle.wi_build.specs.Systems.{weight}
-use Rattle.wi_build.specs.Needs.{may_be_down, may_be_up, no_needs, with_groups, with_members}
-use Rattle.wi_build.specs.Hops.{AreNeeds, IsGroup, IsMember}
-use Rattle.wi_build.specs.Rows.{group_rules, rule_made, rules_for, spot_on, way_through}
+use Rattle.wi_build.specs.private.Needs.{may_be_down, may_be_up, no_needs, with_groups, with_members}
+use Rattle.wi_build.specs.private.Hops.{AreNeeds, IsGroup, IsMember}
+use Rattle.wi_build.specs.private.Rows.{group_rules, rule_made, rules_for, spot_on, way_through}
 use Rattle.wi_build.proofs.NeedsLemmas.{groups_more, groups_stop, needs_count, needs_mean, needs_stop}
 use Rattle.wi_build.proofs.RowLemmas.{Listing, each_row, rules_append}
 

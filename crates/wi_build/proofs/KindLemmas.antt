@@ -18,7 +18,7 @@ use Rattle.wi_rules.proofs.Lists.{In, each0_in, filter_in, flat_in, get_below, i
 use Rattle.wi_build.specs.declared.head.Arrival.{Arrival}
 use Rattle.wi_build.specs.Problems.{Problem}
 use Rattle.wi_build.specs.Encodings.{encoding_of}
-use Rattle.wi_build.specs.Rows.{group_rules}
+use Rattle.wi_build.specs.private.Rows.{group_rules}
 use Rattle.wi_build.proofs.HopLemmas.{hop_rule}
 
 -- a rule that sets out on a link

@@ -17,7 +17,8 @@ use Rattle.wi_rules.proofs.Lists.{In, get_below}
 use Rattle.wi_rules.proofs.Members.{all_count}
 use Rattle.wi_build.proofs.Sound.{sound}
 use Rattle.wi_build.specs.declared.head.Arrival.{Arrival}
-use Rattle.wi_build.specs.Tags.{IsWithin, origin_by, origin_of, tag_of, tagged}
+use Rattle.wi_build.specs.private.Tags.{IsWithin}
+use Rattle.wi_build.specs.Tags.{origin_by, origin_of, tag_of, tagged}
 use Rattle.wi_build.specs.Problems.{Problem, IsProblem}
 use Rattle.wi_build.specs.Encodings.{encoding_of}
 use Rattle.wi_build.specs.Systems.{rule_at, rules_by, weight}

@@ -16,7 +16,7 @@ use Rattle.wi_net.proofs.GroupLemmas.{any_link, groups_known, in_groups}
 use Rattle.wi_world.specs.Moves.{AreBounds}
 use Rattle.wi_rules.specs.Rules.{may_use}
 use Rattle.wi_build.specs.declared.needs.Needs.{Needs}
-use Rattle.wi_build.specs.Needs.{no_needs, with_need, with_members, with_groups, may_be_down, may_be_up}
+use Rattle.wi_build.specs.private.Needs.{no_needs, with_need, with_members, with_groups, may_be_down, may_be_up}
 
 -- the risk groups rise, those that aren't known to be down are listed besides, and it is told whether none is known to be up
 pub record AreSound (bounds : Bounds) (n : Needs) : Type 0 where

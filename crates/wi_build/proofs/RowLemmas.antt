@@ -24,7 +24,7 @@ use Rattle.wi_build.specs.Tags.{tag_of}
 use Rattle.wi_build.specs.Problems.{Problem}
 use Rattle.wi_build.specs.Encodings.{encoding_of}
 use Rattle.wi_build.specs.Systems.{weight, spot_count, spot_rules, all_rules}
-use Rattle.wi_build.specs.Rows.{rule_of, rules_for, rule_made, plain_made, spot_on}
+use Rattle.wi_build.specs.private.Rows.{rule_of, rules_for, rule_made, plain_made, spot_on}
 
 abbrev pub Listing : Type 0
 Listing = List (Rule (Pair Terms Effort))

@@ -4,7 +4,7 @@ use Rattle.std.proofs.Math.Seq.{take-append_seam}
 use Rattle.std.proofs.lemmas.List.{length-take-le}
 use Rattle.std.specs.Option.{option_map_or}
 use Rattle.wi_weight.specs.Weights.{plus}
-use Rattle.wi_weight.specs.Sums.{take_plus}
+use Rattle.wi_weight.specs.lemmas.Sums.{take_plus}
 use Rattle.wi_net.specs.declared.parts.Member.{Member}
 use Rattle.wi_net.specs.Net.{Net, risk_count, before}
 use Rattle.wi_world.specs.declared.run.Quantity.{Quantity}

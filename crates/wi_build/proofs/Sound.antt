@@ -15,10 +15,10 @@ module _ (problem : Problem) (k : IsProblem problem) where
   sound = record {
     net = k.network;
     bounds = k.bounds_of;
-    first = is_automaton problem.query.first _ k.query_of.first;
-    first_turned = is_turned problem.query.first _ k.query_of.first;
-    path = is_automaton problem.query.path _ k.query_of.path;
-    last = is_automaton problem.query.last _ k.query_of.last;
+    first = is_automaton problem.query.first k.automata.first;
+    first_turned = is_turned problem.query.first k.automata.first;
+    path = is_automaton problem.query.path k.automata.path;
+    last = is_automaton problem.query.last k.automata.last;
     first_length = λ e. five_taken _ problem.vector 0;
     step_length = λ e l step. five_added problem.net problem.vector (entry problem.net e l) step.group step.member;
   }
@@ -26,9 +26,9 @@ module _ (problem : Problem) (k : IsProblem problem) where
   -- the automata accept just the query's languages
   languages : AreOf (encoding_of problem) (asks problem)
   languages = record {
-    first = accepts_matches problem.query.first _ k.query_of.first;
-    path = accepts_matches problem.query.path _ k.query_of.path;
-    last = accepts_matches problem.query.last _ k.query_of.last;
+    first = accepts_matches problem.query.first k.automata.first;
+    path = accepts_matches problem.query.path k.automata.path;
+    last = accepts_matches problem.query.last k.automata.last;
   }
 
   pub to_match : (w : List ℕ) (run : Run) → IsAnswering problem w run → IsMatch (encoding_of problem) w run

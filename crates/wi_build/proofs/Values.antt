@@ -5,7 +5,7 @@ use Rattle.std.proofs.lemmas.Bool.{and_parts, leb-true}
 use Rattle.std.proofs.lemmas.Nat.{mul-le}
 use Rattle.std.proofs.lemmas.List.Sums.{sum_by-cons}
 use Rattle.wi_weight.specs.Weights.{EachBelow}
-use Rattle.wi_weight.specs.Sums.{each_below_both}
+use Rattle.wi_weight.specs.lemmas.Sums.{each_below_both}
 use Rattle.wi_world.specs.declared.run.Quantity.{Quantity}
 use Rattle.wi_quantity.specs.declared.vector.Part.{Part}
 use Rattle.wi_quantity.specs.Vectors.{is_part, is_term, is_vector}

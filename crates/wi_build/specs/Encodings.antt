@@ -3,23 +3,23 @@ use Rattle.std.specs.Prelude.{ℕ, Bool, ◌==◌, List, take}
 use Rattle.std.specs.List.{filter, list_any, range_with_len}
 use Rattle.wi_net.specs.Net.{entry}
 use Rattle.wi_nfa.specs.Rows.{automaton_of}
+use Rattle.wi_query.specs.Compiled.{Compiled}
 use Rattle.wi_query.specs.Sets.{holds}
-use Rattle.wi_query.specs.declared.expression.Expression.{Expression}
 use Rattle.wi_quantity.specs.Weighing.{first_weight, entry_weight}
 use Rattle.wi_rules.specs.Rules.{Automaton, Encoding}
 use Rattle.wi_build.specs.Problems.{Problem}
 
 -- the states that come after one by a symbol, in rising order, and those that come before one
-abbrev pub after : Expression → ℕ → ℕ → List ℕ
+abbrev pub after : Compiled → ℕ → ℕ → List ℕ
 after e q x = filter (λ r. (automaton_of holds e.nfa).reads r x) ((automaton_of holds e.nfa).next q)
 
-abbrev pub comes_after : Expression → ℕ → ℕ → ℕ → Bool
+abbrev pub comes_after : Compiled → ℕ → ℕ → ℕ → Bool
 comes_after e q x r = list_any (λ n. n == r) (after e q x)
 
-abbrev pub before : Expression → ℕ → ℕ → List ℕ
+abbrev pub before : Compiled → ℕ → ℕ → List ℕ
 before e q x = filter (λ p. comes_after e p x q) (range_with_len 0 (automaton_of holds e.nfa).states)
 
-abbrev pub automaton : Expression → Automaton
+abbrev pub automaton : Compiled → Automaton
 automaton e = record { states = (automaton_of holds e.nfa).states; next = after e; accepts = (automaton_of holds e.nfa).accepts }
 
 -- a weight has five terms, and then the effort, which the rules count

@@ -1,18 +1,12 @@
 -- The rules of a network and a query as those of a pushdown system (Schwoon 2002), and their list.
-use Rattle.std.specs.Prelude.{◌≡◌, refl, ℕ, suc, ◌+◌, ◌*◌, List, [], length, map, slice_index}
-use Rattle.std.specs.List.{All, flat_map, range_with_len}
-use Rattle.std.proofs.lemmas.List.Elements.{All-map, All-from_get_or}
+use Rattle.std.specs.Prelude.{ℕ, suc, ◌+◌, ◌*◌, List, length, map, slice_index}
+use Rattle.std.specs.List.{flat_map, range_with_len}
 use Rattle.wi_weight.specs.declared.kinds.Pair.{Pair}
 use Rattle.wi_weight.specs.declared.kinds.Terms.{Terms}
 use Rattle.wi_weight.specs.declared.kinds.Effort.{Effort}
-use Rattle.wi_pds.specs.declared.rule.Word2.TheVariants.{Empty}
 use Rattle.wi_pds.specs.declared.rule.Rule.{Rule}
-use Rattle.wi_pds.specs.Rules.{IsOf}
-use Rattle.wi_rules.specs.declared.spot.Origin.TheVariants.{Nothing}
 use Rattle.wi_rules.specs.Rules.{Encoding}
 use Rattle.wi_rules.specs.Numbers.{Layout, NumberedRule, layout_of, rules_at_number}
-use Rattle.wi_build.specs.Problems.{Problem, IsProblem}
-use Rattle.wi_build.specs.Encodings.{encoding_of}
 use Rattle.wi_build.specs.Tags.{tag_of}
 
 -- the weight of six components
@@ -36,12 +30,6 @@ rule_at n g r = record { from = n; top = g; to = r.to; word = r.word; weight = w
 abbrev pub rules_by : Encoding → ℕ → ℕ → List (Rule (Pair Terms Effort))
 rules_by s n g = map (λ r. rule_at n g r) (rules_at_number s n g)
 
--- each of them names the head
-pub rules_name_heads : (s : Encoding) (n g : ℕ) → All (IsOf n g) (rules_by s n g)
-rules_name_heads s n g =
-    All-map (IsOf n g) (λ r. rule_at n g r) (rules_at_number s n g)
-    (All-from_get_or (λ r. IsOf n g (rule_at n g r)) (rules_at_number s n g) (record { to = 0; word = Empty; weight = []; origin = Nothing }) (λ i low. (refl, refl)))
-
 -- how many numbers of spots there are
 abbrev pub spot_count : Layout → ℕ
 spot_count y = suc (suc (y.first + (y.last + (y.links * y.path + y.members * 7 * y.path))))
@@ -52,8 +40,3 @@ spot_rules s n = flat_map (rules_by s n) (range_with_len 0 (suc (length s.net.cl
 
 abbrev pub all_rules : Encoding → List (Rule (Pair Terms Effort))
 all_rules s = flat_map (spot_rules s) (range_with_len 0 (spot_count (layout_of s)))
-
--- what a system on demand keeps: its layout is that of what it was given
-pub record IsLazy (problem : Problem) (layout : Layout) : Type 0 where
-  pub is_problem : IsProblem problem
-  pub layout_is : layout ≡ layout_of (encoding_of problem)

@@ -1,5 +1,5 @@
 -- What a rule's tag says of what the rule stands for: a kind, and up to two numbers below 2^30.
-use Rattle.std.specs.Prelude.{ℕ, zero, suc, ◌+◌, ◌*◌, ◌/◌, ◌%◌, ◌<◌}
+use Rattle.std.specs.Prelude.{ℕ, zero, suc, ◌+◌, ◌*◌, ◌/◌, ◌%◌}
 use Rattle.wi_rules.specs.declared.spot.Origin.{Origin}
 use Rattle.wi_rules.specs.declared.spot.Origin.TheVariants.{Pushed, SetOut, Hop, Operation, Nothing}
 
@@ -23,11 +23,3 @@ origin_by _ a b = Nothing
 
 abbrev pub origin_of : ℕ → Origin
 origin_of tag = origin_by (tag % 8) (tag / 8 / 1073741824) (tag / 8 % 1073741824)
-
--- the numbers have room in a tag
-abbrev pub IsWithin : Origin → Type 0
-IsWithin Nothing = Unit {0}
-IsWithin (Pushed l) = l.0 < 1073741824
-IsWithin (SetOut e) = e.0 < 1073741824
-IsWithin (Hop step) = (step.group < 1073741824) × (step.member < 1073741824)
-IsWithin (Operation m i) = (m < 1073741824) × (i < 1073741824)

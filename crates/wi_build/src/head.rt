@@ -1,6 +1,7 @@
-//! Heads, and rules before their numbers.
+//! Rules of one step differ in the next state of an automaton alone, so what they write, weigh and stand for is made once, and
+//! pushed for each state. All is `Copy`, and takes no memory.
 ghost use Rattle.std.specs.Prelude.{◌≡◌, slice_get};
-ghost use Rattle.wi_build.specs.Rows.{plain_made, spot_on, way_through};
+ghost use Rattle.wi_build.specs.private.Rows.{plain_made, spot_on, way_through};
 
 use crate::weights::effort;
 use wi_labels::{Label, Op};

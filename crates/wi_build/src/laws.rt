@@ -1,4 +1,5 @@
-//! Laws: a problem has an encoding, the rules are that encoding's, and their goal runs answer the problem. Each runs no code.
+//! `wi_rules` speaks of any automata and weights, and of no code. These laws say that a problem has such, that the rules made
+//! here are theirs, and so that goal runs answer the problem, whoever searches for them. Each runs no code.
 ghost use Rattle.std.specs.Prelude.{◌≡◌, ◌<◌, ◌^◌, ℕ, List, true, length, Contains};
 ghost use Rattle.wi_weight.specs.Weights.{EachBelow};
 ghost use Rattle.wi_weight.specs.Kinds.{pair_scale, terms_scale, effort_scale};

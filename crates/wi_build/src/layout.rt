@@ -1,7 +1,7 @@
-//! Numbers of spots.
+//! The number of a spot is computed from its parts, and they from it, so that no table of spots is needed: five counts are
+//! enough. Each member has seven numbers for each state of the path's automaton, whether it has so many operations or not.
 ghost use Rattle.std.specs.Prelude.{◌≡◌, ◌<◌, ◌^◌, List};
 ghost use Rattle.wi_net.specs.declared.bounds.Bounds.{Bounds};
-ghost use Rattle.wi_query.specs.Meaning.{IsQueryOf};
 ghost use Rattle.wi_quantity.specs.declared.vector.Part.{Part};
 ghost use Rattle.wi_rules.specs.declared.spot.Spot.{Spot};
 ghost use Rattle.wi_rules.specs.Numbers.{layout_of, number, spot_of, building, closing, on_links, amid};
@@ -30,7 +30,7 @@ pub struct Layout {
 
 impl Model for Layout {
     ghost use Rattle.wi_rules.specs.Numbers.{Layout};
-    ghost use Rattle.wi_build.specs.Small.{IsSmall};
+    ghost use Rattle.wi_build.specs.private.Small.{IsSmall};
 
     ghost Value = { Layout };
 
@@ -42,15 +42,15 @@ impl Model for Layout {
 impl Layout {
     /// The layout of a network and a query. It takes no memory.
     pub fn of(net: &Network, query: &Query) -> Layout
-        requires { IsQueryOf net.now query.now }
         ensures { (vector : List (List Part)) (bounds : Bounds) → result ≡ layout_of (encoding_of (record { net = net.now; query = query.now; vector = vector; bounds = bounds })) }
     {
         net.keeps();
+        query.keeps();
         let counts = net.counts();
         Layout {
-            first: query.first.nfa.states() as u32,
-            last: query.last.nfa.states() as u32,
-            path: query.path.nfa.states() as u32,
+            first: query.first.nfa().states() as u32,
+            last: query.last.nfa().states() as u32,
+            path: query.path.nfa().states() as u32,
             links: counts.links,
             members: counts.members,
         }

@@ -1,14 +1,14 @@
-//! Rules on demand: what each head's rules are is answered here, by the methods of one type. First come what the rules are made
-//! of, then the rules that make the first header from the bottom up, set out on the first link and read the last header from
-//! the top down, then those of the packet's travel, and last which of these a head has.
+//! A query may reach few of the states that there are, so the rules of a head are made when they are asked for, in one walk over
+//! what they are of, and aren't kept: whoever asks again has them made again. What must have failed is carried along from group
+//! to group, and the walk over a row ends where not all of it may be down.
 ghost use Rattle.std.specs.List.{list_all, flat_map, range_with_len};
 ghost use Rattle.std.specs.Prelude.{◌≡◌, suc, ◌∷◌, [], ◌++◌, ◌<◌, length, map, IfOk, OnOk, ◌^◌, Some, true, slice_get, take, IfSome, not, if◌then◌else◌};
 ghost use Rattle.wi_build.specs.Encodings.{encoding_of};
-ghost use Rattle.wi_build.specs.Hops.{IsArrival, AreNeeds, IsGroup, IsMember};
+ghost use Rattle.wi_build.specs.private.Hops.{IsArrival, AreNeeds, IsGroup, IsMember};
 ghost use Rattle.wi_build.specs.Problems.{IsProblem};
-ghost use Rattle.wi_build.specs.Rows.{rule_made, head_rules, spot_on, rules_for, group_rules};
+ghost use Rattle.wi_build.specs.private.Rows.{rule_made, head_rules, spot_on, rules_for, group_rules};
 ghost use Rattle.wi_build.specs.Systems.{rules_by, spot_count, weight};
-ghost use Rattle.wi_build.specs.Tags.{IsWithin};
+ghost use Rattle.wi_build.specs.private.Tags.{IsWithin};
 ghost use Rattle.wi_net.specs.LinkSet.{has};
 ghost use Rattle.wi_net.specs.Net.{links_where};
 ghost use Rattle.wi_net.specs.Network.{op_known};
@@ -16,7 +16,6 @@ ghost use Rattle.wi_net.specs.Tables.{all_members, row_members};
 ghost use Rattle.wi_nfa.specs.Left.{states_left};
 ghost use Rattle.wi_pds.specs.declared.rule.Word2.{Word2};
 ghost use Rattle.wi_quantity.specs.Weighing.{hop_weight, is_way_out};
-ghost use Rattle.wi_query.specs.Meaning.{IsQueryOf};
 ghost use Rattle.wi_query.specs.Sets.{holds};
 ghost use Rattle.wi_rules.specs.Numbers.{Fits, layout_of, spot_of};
 ghost use Rattle.wi_rules.specs.Rules.{may_build, written, first_written, plain, build_rules, set_out_rules, hop_rules, entry_rules, on_link_rules};
@@ -57,7 +56,7 @@ impl<'a> Model for LazySystem<'a> {
     ghost use Rattle.wi_regex.specs.contracts.regex.Regex as regex;
     ghost use Rattle.wi_query.specs.contracts.symbols.SymbolSet as set;
     ghost use Rattle.wi_build.specs.Problems.{Problem};
-    ghost use Rattle.wi_build.specs.Systems.{IsLazy};
+    ghost use Rattle.wi_build.specs.private.Systems.{IsLazy};
 
     ghost Value = { Problem };
 
@@ -77,11 +76,11 @@ impl<'a> LazySystem<'a> {
         vector: &'a Vector,
         bounds: &'a Bounds,
     ) -> Result<LazySystem<'a>, NoMemory>
-        requires query { IsQueryOf net.now query.now }
-        requires bounds { AreBounds net.now bounds.now }
+        requires { AreBounds net.now bounds.now }
         ensures { IfOk result (λ system. system ≡ record { net = net.now; query = query.now; vector = vector.now; bounds = bounds.now }) }
     {
         net.keeps();
+        query.keeps();
         Ok(LazySystem {
             net,
             query,
@@ -189,25 +188,25 @@ impl<'a> LazySystem<'a> {
     pub(crate) fn first_states(&self) -> u32
         ensures { result ≡ (encoding_of self.now).first.states }
     {
-        self.query.first.nfa.states() as u32
+        self.query.first.nfa().states() as u32
     }
 
     pub(crate) fn first_accepts(&self, state: u32) -> bool
         ensures { result ≡ (encoding_of self.now).first.accepts state }
     {
-        self.query.first.nfa.accepts(state)
+        self.query.first.nfa().accepts(state)
     }
 
     pub(crate) fn path_accepts(&self, state: u32) -> bool
         ensures { result ≡ (encoding_of self.now).path.accepts state }
     {
-        self.query.path.nfa.accepts(state)
+        self.query.path.nfa().accepts(state)
     }
 
     pub(crate) fn last_accepts(&self, state: u32) -> bool
         ensures { result ≡ (encoding_of self.now).last.accepts state }
     {
-        self.query.last.nfa.accepts(state)
+        self.query.last.nfa().accepts(state)
     }
 
     /// The states of the first header's automaton before one by a label.
@@ -680,7 +679,8 @@ impl<'a> LazySystem<'a> {
 
 impl<'a> System<Weight> for LazySystem<'a> {
     ghost use Rattle.wi_build.specs.Encodings.{encoding_of};
-    ghost use Rattle.wi_build.specs.Systems.{rules_by, rules_name_heads};
+    ghost use Rattle.wi_build.specs.Systems.{rules_by};
+    ghost use Rattle.wi_build.specs.lemmas.Systems.{rules_name_heads};
 
     ghost start_head = { λ s. (0, 0) };
 

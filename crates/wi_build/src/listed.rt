@@ -1,6 +1,6 @@
-//! All rules in a list.
+//! All rules are made head by head, by the calls that make them on demand, so that both are the same. It goes over each spot
+//! with each symbol, and a query mostly reaches far fewer: the program doesn't call it.
 ghost use Rattle.std.specs.Prelude.{◌≡◌, ◌++◌, IfOk, OnOk};
-ghost use Rattle.wi_query.specs.Meaning.{IsQueryOf};
 ghost use Rattle.wi_world.specs.Moves.{AreBounds};
 ghost use Rattle.wi_build.specs.Encodings.{encoding_of};
 ghost use Rattle.wi_build.specs.Systems.{spot_rules, all_rules};
@@ -40,8 +40,7 @@ pub fn build(
     vector: &Vector,
     bounds: &Bounds,
 ) -> Result<RuleList<Weight>, NoMemory>
-    requires query { IsQueryOf net.now query.now }
-    requires bounds { AreBounds net.now bounds.now }
+    requires { AreBounds net.now bounds.now }
     ensures start { IfOk result (λ list. list.start ≡ (0, 0)) }
     ensures rules { IfOk result (λ list. list.rules ≡ all_rules (encoding_of (record { net = net.now; query = query.now; vector = vector.now; bounds = bounds.now }))) }
 {

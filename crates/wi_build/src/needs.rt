@@ -1,6 +1,8 @@
-//! What must have failed for a group of an entry to be used.
+//! What must have failed grows from group to group, so it is kept as risk groups, by their least links, and added to: nothing
+//! is widened to links, or counted anew for each member. It takes up to two numbers for each risk group that the groups before
+//! have.
 ghost use Rattle.std.specs.Prelude.{◌≡◌, OnOk};
-ghost use Rattle.wi_build.specs.Needs.{no_needs, with_need, with_members, may_be_down, may_be_up};
+ghost use Rattle.wi_build.specs.private.Needs.{no_needs, with_need, with_members, may_be_down, may_be_up};
 
 use std::alloc::Global;
 use wi_base::NoMemory;

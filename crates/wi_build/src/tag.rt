@@ -1,6 +1,8 @@
-//! What a rule's tag says of what the rule stands for.
+//! A rule has room for one number of its maker's, so what it stands for is packed into that, as a kind and up to two numbers
+//! below 2^30. So a rule tells it alone, without a table beside the rules.
 ghost use Rattle.std.specs.Prelude.{◌≡◌, ◌<◌};
-ghost use Rattle.wi_build.specs.Tags.{tagged, tag_of, origin_of, IsWithin};
+ghost use Rattle.wi_build.specs.Tags.{tagged, tag_of, origin_of};
+ghost use Rattle.wi_build.specs.private.Tags.{IsWithin};
 
 use wi_labels::Label;
 use wi_net::LinkId;

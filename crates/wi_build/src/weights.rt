@@ -1,4 +1,5 @@
-//! What rules weigh.
+//! Each rule has effort 1, whatever else it weighs: so the effort of a run is the number of its rules, and of runs that weigh
+//! the same otherwise one with the fewest rules is least.
 ghost use Rattle.std.specs.Prelude.{◌≡◌, ◌++◌, ◌∷◌, [], replicate, take};
 ghost use Rattle.wi_quantity.specs.Weighing.{components};
 ghost use Rattle.wi_build.specs.Systems.{weight};

@@ -1,4 +1,5 @@
-//! The files of the system, as a shelf.
+//! Files of the system are touched here alone. No contract can say what they hold, so this shelf tells nothing, and notes what
+//! fails; room for a note is made first, and where there is none, no file is touched.
 ghost use Rattle.std.specs.Prelude.{◌≡◌, ◌≤◌, [], None, false, IfOk, vec_len};
 
 use crate::transfer::{read_within, write_whole};

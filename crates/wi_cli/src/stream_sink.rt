@@ -1,4 +1,5 @@
-//! A standard stream, as a sink.
+//! No contract can say what a stream took, so this sink tells nothing, and counts the calls that failed. A piece is written
+//! whole in its own call, and nothing of it is kept.
 ghost use Rattle.std.specs.Prelude.{◌≡◌, ℕ, [], false};
 
 use crate::transfer::write_whole;

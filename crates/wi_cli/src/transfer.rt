@@ -1,4 +1,6 @@
-//! Whole files and whole pieces, by reads and writes that may each take only a part.
+//! std's own loops over reads and writes say little of what stands after a failure, so these two are ours, and each turn takes
+//! a byte at least, or ends. A file is too big as soon as more bytes than its limit have come, so one without an end is, too. A
+//! read takes a piece of 65,536 bytes beside what was read.
 ghost use Rattle.std.specs.Prelude.{◌≤◌, ◌<◌, ◌≡◌, IfOk, IfSome, IsErrOf, OnOk, length, vec_len};
 ghost use Rattle.std.specs.Io.KnownBytes.{Appends};
 

@@ -11,12 +11,14 @@ use Rattle.wi_net.specs.Network.{IsNetwork}
 use Rattle.wi_world.specs.declared.run.Run.{Run}
 use Rattle.wi_world.specs.declared.run.Quantity.{Quantity}
 use Rattle.wi_world.specs.declared.answer.Verdict.{Verdict}
+use Rattle.wi_world.specs.Moves.{AreBounds}
 use Rattle.wi_world.specs.Moving.{IsMovingRun}
 use Rattle.wi_world.specs.Runs.{effort_of, quantity_of, verdict_of}
-use Rattle.wi_world.specs.Holds.{Holds, IsNo, Matches, NoneMovingLess, word_for}
+use Rattle.wi_world.specs.Holds.{Holds, IsNo, Matches, NoneMovingLess}
+use Rattle.wi_world.specs.private.Holds.{word_for}
 use Rattle.wi_world.proofs.HoldsLaws.{no_from_moving, answer_by_verdict}
 use Rattle.wi_query.specs.declared.query.Query.{Query}
-use Rattle.wi_query.specs.Meaning.{IsQueryOf, question_of}
+use Rattle.wi_query.specs.Meaning.{question_of}
 use Rattle.wi_quantity.specs.declared.vector.Part.{Part}
 use Rattle.wi_quantity.specs.Weighing.{components, term_value, term_values, weight_of}
 use Rattle.wi_pds.specs.declared.rule.Rule.{Rule}
@@ -34,7 +36,7 @@ use Rattle.wi_build.specs.Systems.{rules_by}
 use Rattle.wi_decide.specs.Spelled.{AreRulesFor, scale}
 use Rattle.wi_decide.specs.declared.refused.DecideRefused.{DecideRefused}
 use Rattle.wi_decide.specs.declared.refused.DecideRefused.TheVariants.{Overflow, TooLong, Memory}
-use Rattle.wi_decide.specs.Tables.{HasTable, IsLeastRun, IsNotShown}
+use Rattle.wi_decide.specs.private.Tables.{HasTable, IsLeastRun, IsNotShown}
 use Rattle.wi_decide.specs.Refusals.{AllFit, IsTooLong, IsUndecided}
 use Rattle.wi_decide.proofs.OrderLemmas.{not_less}
 use Rattle.wi_decide.proofs.RuleLemmas.{answers_pop, pops_answer}
@@ -57,23 +59,20 @@ effort_at net vector run =
     let values = five_values (λ q. quantity_of q net run) vector in
     ap (λ (n : ℕ). slice_index_or (weight_of net vector run) n 0) (sym values) ∙ last_at (term_values (λ q. quantity_of q net run) vector) (effort_of net run)
 
-pub given_is : (net : Net) (query : Query) (vector : List (List Part)) → IsNetwork net → IsQueryOf net query → IsProblem (problem_of net query vector)
-given_is net query vector k q = record { network = k; query_of = q; bounds_of = q.bounds }
-
 -- a system that is asked so has its table, and its rules
 pub asked_table : (net : Net) (query : Query) (vector : List (List Part)) (system : Problem) (table : TableView (Pair Terms Effort)) → system ≡ problem_of net query vector → HasTable system table → HasTable (problem_of net query vector) table
 asked_table net query vector system table is has = let P : Problem → Type 0 = λ s. HasTable s table in subst P is has
 
-pub rules_for : (net : Net) (query : Query) (vector : List (List Part)) (system : Problem) (layout : Layout) → IsNetwork net → IsQueryOf net query → system ≡ problem_of net query vector
+pub rules_for : (net : Net) (query : Query) (vector : List (List Part)) (system : Problem) (layout : Layout) → IsProblem (problem_of net query vector) → system ≡ problem_of net query vector
     → layout ≡ layout_of (encoding_of (problem_of net query vector)) → AreRulesFor (problem_of net query vector) net layout (rules_by (encoding_of system))
-rules_for net query vector system layout k q is layout_is = record {
-  is_problem = given_is net query vector k q;
+rules_for net query vector system layout k is layout_is = record {
+  is_problem = k;
   net_is = refl;
   layout_is = layout_is;
   rules_are = ap (λ (s : Problem). rules_by (encoding_of s)) is;
 }
 
-module _ (net : Net) (query : Query) (vector : List (List Part)) (k : IsNetwork net) (q : IsQueryOf net query) where
+module _ (net : Net) (query : Query) (vector : List (List Part)) (k : IsProblem (problem_of net query vector)) where
   -- a moving run that matches is that of a goal run of its weight
   answering : (run : Run) → IsMovingRun net query.bounds run → Matches net (question_of query) run → IsAnswering (problem_of net query vector) (weight_of net vector run) run
   answering run moving matches = record { moving = moving; matches = matches; weight = refl }
@@ -82,7 +81,7 @@ module _ (net : Net) (query : Query) (vector : List (List Part)) (k : IsNetwork 
   none_less : (w : List ℕ) → length w ≡ 6 → Least scale components (rules_by (encoding_of (problem_of net query vector))) 0 0 1 w → NoneMovingLess net (question_of query) (weight_of net vector) w
   none_less w six least run moving matches =
       not_less w (weight_of net vector run) (six ∙ sym (six_components net vector run))
-      (least.1 (weight_of net vector run) (answers_pop (problem_of net query vector) (given_is net query vector k q) (weight_of net vector run) run (answering run moving matches)))
+      (least.1 (weight_of net vector run) (answers_pop (problem_of net query vector) k (weight_of net vector run) run (answering run moving matches)))
 
   module _ (table : TableView (Pair Terms Effort)) (has : HasTable (problem_of net query vector) table) where
     -- each summary that comes before every run fits, whichever least closed heads it is of
@@ -106,8 +105,8 @@ module _ (net : Net) (query : Query) (vector : List (List Part)) (k : IsNetwork 
 
     pub is_no : table.best ≡ None → IsNo net (question_of query)
     is_no none =
-        no_from_moving net (question_of query) k q.bounds
-        (λ run moving matches. no_goal none (weight_of net vector run) (answers_pop (problem_of net query vector) (given_is net query vector k q) (weight_of net vector run) run (answering run moving matches)))
+        no_from_moving net (question_of query) k.network k.bounds_of
+        (λ run moving matches. no_goal none (weight_of net vector run) (answers_pop (problem_of net query vector) k (weight_of net vector run) run (answering run moving matches)))
 
     module _ (b : Pair Terms Effort) (some : table.best ≡ Some b) where
       goal_least : Least scale components (rules_by (encoding_of (problem_of net query vector))) 0 0 1 (components b)
@@ -128,7 +127,7 @@ module _ (net : Net) (query : Query) (vector : List (List Part)) (k : IsNetwork 
       -- some run's effort is the goal's
       pub too_long : 4096 < b.second.count → IsTooLong (problem_of net query vector) b.second.count
       too_long long =
-          let m = pops_answer (problem_of net query vector) (given_is net query vector k q) (components b) goal_least.0 in
+          let m = pops_answer (problem_of net query vector) k (components b) goal_least.0 in
           record {
             run = m.0;
             moving = m.1.moving;
@@ -180,10 +179,10 @@ long_fits problem table limit shown has reached long = go table.best refl reache
     go (Some b) e some h = let fits = effort_fits problem table b has e in let same : shown ≡ b.second.count = h.1 in omega (arith, fits, same)
 
 -- a least run gives the answer, by its verdict
-pub answer_holds : (net : Net) (query : Query) (vector : List (List Part)) (w : List ℕ) (run : Run) (v : Verdict) → IsNetwork net → IsQueryOf net query → IsLeastRun (problem_of net query vector) w run
+pub answer_holds : (net : Net) (query : Query) (vector : List (List Part)) (w : List ℕ) (run : Run) (v : Verdict) → IsNetwork net → AreBounds net query.bounds → IsLeastRun (problem_of net query vector) w run
     → v ≡ verdict_of net query.bounds run → Holds net (question_of query) (weight_of net vector) (word_for v) (Some w) (Some run) (Some v)
-answer_holds net query vector w run v k q least is =
+answer_holds net query vector w run v k b least is =
     let P : List ℕ → Type 0 = λ x. NoneMovingLess net (question_of query) (weight_of net vector) x in
     let Q : List ℕ → Type 0 = λ x. Holds net (question_of query) (weight_of net vector) (word_for v) (Some x) (Some run) (Some v) in
     subst Q least.answers.weight
-    (answer_by_verdict net (question_of query) k q.bounds (weight_of net vector) run v least.answers.moving least.answers.matches (sym is) (subst P (sym least.answers.weight) least.least))
+    (answer_by_verdict net (question_of query) k b (weight_of net vector) run v least.answers.moving least.answers.matches (sym is) (subst P (sym least.answers.weight) least.least))

@@ -7,7 +7,7 @@ use Rattle.std.specs.declared.cmp.Ordering.TheVariants.{Less, Equal, Greater}
 use Rattle.std.proofs.lemmas.Bool.{and_parts, eqb-true, ltb-true, false_from_ne_true}
 use Rattle.std.proofs.lemmas.Bool.Decides.{nat_tests}
 use Rattle.wi_weight.specs.Weights.{AtMost}
-use Rattle.wi_weight.specs.Then.{then_tied}
+use Rattle.wi_weight.specs.lemmas.Then.{then_tied}
 use Rattle.wi_world.specs.Runs.{is_less}
 use Rattle.wi_decide.specs.Spelled.{scale}
 

@@ -9,7 +9,7 @@ use Rattle.wi_net.specs.declared.parts.Member.{Member}
 use Rattle.wi_net.specs.Net.{Net, entry, risk_count, before}
 use Rattle.wi_net.specs.Network.{IsNetwork}
 use Rattle.wi_weight.specs.Weights.{EachBelow}
-use Rattle.wi_weight.specs.Sums.{plus_at}
+use Rattle.wi_weight.specs.lemmas.Sums.{plus_at}
 use Rattle.wi_weight.specs.declared.kinds.Pair.{Pair}
 use Rattle.wi_weight.specs.declared.kinds.Terms.{Terms}
 use Rattle.wi_weight.specs.declared.kinds.Effort.{Effort}
@@ -17,7 +17,6 @@ use Rattle.wi_world.specs.declared.run.Quantity.{Quantity}
 use Rattle.wi_world.specs.declared.run.Step.{Step}
 use Rattle.wi_world.specs.Runs.{link_share}
 use Rattle.wi_query.specs.declared.query.Query.{Query}
-use Rattle.wi_query.specs.Meaning.{IsQueryOf}
 use Rattle.wi_quantity.specs.declared.vector.Part.{Part}
 use Rattle.wi_quantity.specs.Weighing.{components, term_value, term_values, member_share, hop_weight, member_in, entry_weight, first_weight}
 use Rattle.wi_pds.specs.declared.rule.Rule.{Rule}

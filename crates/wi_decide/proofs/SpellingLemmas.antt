@@ -29,7 +29,8 @@ use Rattle.wi_rules.proofs.Ops.{class_known}
 use Rattle.wi_build.specs.Problems.{IsAnswering, Problem, IsProblem}
 use Rattle.wi_build.specs.Encodings.{encoding_of}
 use Rattle.wi_build.specs.Systems.{rules_by}
-use Rattle.wi_decide.specs.Spelled.{AreRulesFor, IsSpelledRun, Spelled, classed, is_named, is_origin_of, named, origin, scale, unspelled, with_origin, with_rules}
+use Rattle.wi_decide.specs.Spelled.{AreRulesFor, origin, scale}
+use Rattle.wi_decide.specs.private.Spelled.{IsSpelledRun, Spelled, classed, is_named, is_origin_of, named, unspelled, with_origin, with_rules}
 use Rattle.wi_decide.proofs.RuleLemmas.{rules_tell}
 
 -- what is told of a whole run

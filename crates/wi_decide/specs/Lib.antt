@@ -1,4 +1,4 @@
 pub mod Spelled
-pub mod Tables
 pub mod Decided
 pub mod Refusals
+pub mod private

@@ -1,7 +1,9 @@
-//! Decisions.
+//! What can come up at all is found first, so that least summaries are looked for there alone; the rules are made for both, and
+//! so twice. A least run may be far longer than all that it was found by, so one of more than 4,096 rules is refused before it
+//! is unfolded.
 ghost use Rattle.std.specs.Prelude.{◌≡◌, ◌<◌, ◌≤◌, ℕ, List, true, Some, IsSome, IfSome, IfOk, IfErr, OnOk};
-ghost use Rattle.wi_world.specs.Holds.{word_for};
-ghost use Rattle.wi_query.specs.Meaning.{IsQueryOf};
+ghost use Rattle.wi_world.specs.private.Holds.{word_for};
+ghost use Rattle.wi_world.specs.Moves.{AreBounds};
 ghost use Rattle.wi_quantity.specs.declared.vector.Part.{Part};
 ghost use Rattle.wi_quantity.specs.Vectors.{is_vector};
 ghost use Rattle.wi_quantity.specs.Weighing.{components};
@@ -11,7 +13,7 @@ ghost use Rattle.wi_build.specs.Problems.{Problem, IsProblem, problem_of};
 ghost use Rattle.wi_build.specs.Encodings.{encoding_of};
 ghost use Rattle.wi_build.specs.Systems.{rules_by};
 ghost use Rattle.wi_decide.specs.Spelled.{scale};
-ghost use Rattle.wi_decide.specs.Tables.{IsTable, HasTable, IsNoTable, IsNotShown, IsLeastRun};
+ghost use Rattle.wi_decide.specs.private.Tables.{IsTable, HasTable, IsNoTable, IsNotShown, IsLeastRun};
 ghost use Rattle.wi_decide.specs.Decided.{IsDecided};
 ghost use Rattle.wi_decide.specs.Refusals.{IsUndecided, IsUnrefused};
 
@@ -42,12 +44,13 @@ pub fn decide(
     query: &Query,
     vector: &Vector,
 ) -> Result<Answer, DecideRefused>
-    requires { IsQueryOf net.now query.now }
+    requires { AreBounds net.now query.now.bounds }
     ensures decided { IfOk result (λ answer. IsDecided (problem_of net.now query.now vector.now) answer) }
     ensures refused { IfErr result (λ refused. IsUndecided (problem_of net.now query.now vector.now) refused) }
     ensures unrefused { IfOk result (λ answer. IsUnrefused (problem_of net.now query.now vector.now) answer) }
 {
     net.keeps();
+    query.keeps();
     vector.keeps();
     let system = LazySystem::new(alloc, net, query, vector, &query.bounds)?;
     let heads = reach(alloc, &system)?;
@@ -101,14 +104,13 @@ fn answer_of(
     system: &LazySystem<'_>,
     table: &Table<Weight>,
 ) -> Result<Answer, DecideRefused>
-    requires query { IsQueryOf net.now query.now }
+    requires problem { IsProblem (problem_of net.now query.now system.now.vector) }
     requires system { system.now ≡ problem_of net.now query.now system.now.vector }
     requires table { HasTable system.now table.now }
     ensures decided { IfOk result (λ answer. IsDecided (problem_of net.now query.now system.now.vector) answer) }
     ensures refused { IfErr result (λ refused. IsUndecided (problem_of net.now query.now system.now.vector) refused) }
     ensures unrefused { IfOk result (λ answer. IsUnrefused (problem_of net.now query.now system.now.vector) answer) }
 {
-    net.keeps();
     let Some(weight) = table.best() else {
         return Ok(Answer {
             word: Word::No,
@@ -129,7 +131,7 @@ fn least_run(
     system: &LazySystem<'_>,
     table: &Table<Weight>,
 ) -> Result<Run, DecideRefused>
-    requires query { IsQueryOf net.now query.now }
+    requires problem { IsProblem (problem_of net.now query.now system.now.vector) }
     requires system { system.now ≡ problem_of net.now query.now system.now.vector }
     requires table { HasTable system.now table.now }
     requires reached { IsSome table.now.best }
@@ -137,7 +139,6 @@ fn least_run(
     ensures short { OnOk result (IfSome table.now.best (λ w. w.second.count ≤ 4096)) }
     ensures refused { IfErr result (λ refused. IfSome table.now.best (λ w. IsNotShown w.second.count refused)) }
 {
-    net.keeps();
     let ids = goal_run(alloc, table)?;
     let layout = Layout::of(net, query);
     Ok(run_of(alloc, net, &layout, system, ids.as_slice())?)
@@ -166,7 +167,7 @@ fn judged(
     weight: Weight,
     run: Run,
 ) -> Result<Answer, NoMemory>
-    requires { IsQueryOf net.now query.now }
+    requires { AreBounds net.now query.now.bounds }
     ensures run { IfOk result (λ answer. answer.run ≡ Some run) }
     ensures decided { IfOk result (λ answer. (vector : List (List Part)) → IsLeastRun (problem_of net.now query.now vector) (components weight) run → IsDecided (problem_of net.now query.now vector) answer) }
 {

@@ -1,4 +1,5 @@
-//! What holds of decisions.
+//! Of an overflow the terms that were asked for and the effort are printed, so one of these has to be too large. The law says
+//! so. It runs no code.
 ghost use Rattle.std.specs.Prelude.{◌≡◌, ◌^◌, ◌++◌, ◌∷◌, [], ℕ, List, length, take};
 ghost use Rattle.wi_weight.specs.Weights.{EachBelow};
 ghost use Rattle.wi_weight.specs.declared.kinds.Pair.{Pair};

@@ -1,4 +1,5 @@
-//! Why a query isn't decided.
+//! Where a weight doesn't fit, nothing is known of the least run, so an overflow is told before a run that is too long. A
+//! refusal is `Copy` and takes no memory.
 use wi_base::NoMemory;
 use wi_quantity::Weight;
 

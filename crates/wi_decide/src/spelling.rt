@@ -1,4 +1,6 @@
-//! The run that a goal run of the rules spells.
+//! The run is read off what the rules stand for, one after the other: the labels of the first header from the bottom up, the
+//! first link, and the steps. A goal run has its rules by name, so that for each of them the rules of its head are made once
+//! more.
 ghost use Rattle.std.specs.Prelude.{◌≡◌, ◌∷◌, [], ℕ, List, true, Some, IsSome, IfOk, OnOk};
 ghost use Rattle.std.specs.List.{list_all, All};
 ghost use Rattle.wi_witness.specs.GoalRuns.{IsNamedRun};
@@ -6,7 +8,8 @@ ghost use Rattle.wi_quantity.specs.Weighing.{components};
 ghost use Rattle.wi_rules.specs.Goals.{origins_for};
 ghost use Rattle.wi_rules.specs.Numbers.{origins_by};
 ghost use Rattle.wi_build.specs.Problems.{IsAnswering, Problem};
-ghost use Rattle.wi_decide.specs.Spelled.{scale, origin, AreRulesFor, unspelled, with_origin, named, with_rules, is_origin_of, is_named, IsSpelledRun};
+ghost use Rattle.wi_decide.specs.Spelled.{scale, origin, AreRulesFor};
+ghost use Rattle.wi_decide.specs.private.Spelled.{unspelled, with_origin, named, with_rules, is_origin_of, is_named, IsSpelledRun};
 
 use std::alloc::Global;
 use std::marker::Model;
@@ -29,7 +32,7 @@ struct Spelling {
 }
 
 impl Model for Spelling {
-    ghost use Rattle.wi_decide.specs.Spelled.{Spelled};
+    ghost use Rattle.wi_decide.specs.private.Spelled.{Spelled};
 
     ghost Value = { Spelled };
 

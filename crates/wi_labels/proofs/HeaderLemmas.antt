@@ -4,7 +4,8 @@ use Rattle.wi_labels.specs.declared.label.Label.{Label}
 use Rattle.wi_labels.specs.declared.label.Class.TheVariants.{Mpls, Smpls, Ip}
 use Rattle.wi_labels.specs.declared.ops.Op.{Op}
 use Rattle.wi_labels.specs.declared.ops.Op.TheVariants.{Swap, Push, Pop}
-use Rattle.wi_labels.specs.Header.{Entry, is_tunnel, is_valid_header, is_ip, outcome, after_op, after_ops, allowed, effect}
+use Rattle.wi_labels.specs.Header.{Entry, is_tunnel, is_valid_header, outcome, after_op, after_ops, allowed, effect}
+use Rattle.wi_labels.specs.private.Header.{is_ip}
 
 -- what is left from a place on, where an element stands there
 pub drop_at : {X : Type 0} (xs : List X) (i : ℕ) (x : X) → slice_get xs i ≡ Some x → drop i xs ≡ x ∷ drop (i + 1) xs

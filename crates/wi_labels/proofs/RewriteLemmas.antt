@@ -3,7 +3,7 @@ use Rattle.std.proofs.Common.{◌≡◌, ℕ, ◌+◌, List, [], ◌∷◌, ◌+
 use Rattle.std.proofs.Math.Seq.{drop-append_seam}
 use Rattle.std.proofs.lemmas.List.{reverse-append, length-reverse, take-append-drop, drop-drop}
 use Rattle.wi_labels.specs.Header.{Entry}
-use Rattle.wi_labels.specs.Rewrite.{rewritten}
+use Rattle.wi_labels.specs.private.Rewrite.{rewritten}
 
 -- the first labels of a stack that is listed from the bottom are the last ones from the top
 reverse-take : (xs : List Entry) (kept gone : ℕ) → kept + gone ≡ length xs → reverse (take kept xs) ≡ drop gone (reverse xs)

@@ -1,13 +1,11 @@
 -- Headers, and what operations do to them (RFC 3031, sections 3.9 to 3.11).
-use Rattle.std.specs.Prelude.{◌≡◌, ℕ, ◌+◌, Bool, true, false, if◌then◌else◌, List, [], ◌∷◌, Option, Some, None, Result, Ok, Err}
+use Rattle.std.specs.Prelude.{ℕ, ◌+◌, Bool, true, false, if◌then◌else◌, List, [], ◌∷◌, Option, Some, None, Result, Ok, Err}
 use Rattle.std.specs.Result.{result_ok}
 use Rattle.wi_labels.specs.declared.label.Label.{Label}
 use Rattle.wi_labels.specs.declared.label.Class.{Class}
 use Rattle.wi_labels.specs.declared.label.Class.TheVariants.{Mpls, Smpls, Ip}
 use Rattle.wi_labels.specs.declared.ops.Op.{Op}
 use Rattle.wi_labels.specs.declared.ops.Op.TheVariants.{Swap, Push, Pop}
-use Rattle.wi_labels.specs.declared.header.Applied.{Applied}
-use Rattle.wi_labels.specs.declared.header.Applied.TheVariants.{Done, Undefined}
 
 -- a label of a header, with its class
 abbrev pub Entry : Type 0
@@ -23,11 +21,6 @@ is_tunnel _ = false
 abbrev pub is_valid_header : List Entry → Bool
 is_valid_header ((l, Ip) ∷ []) = true
 is_valid_header h = is_tunnel h
-
--- there is a label, and it is an ip label
-abbrev pub is_ip : Option Entry → Bool
-is_ip (Some (l, Ip)) = true
-is_ip _ = false
 
 abbrev pub same_class : Class → Class → Bool
 same_class Mpls Mpls = true
@@ -66,8 +59,3 @@ outcome at (op ∷ ops) h = elim (after_op op h) [ Some next ↦ outcome (at + 1
 -- the header after a list of operations, where each of them is defined
 abbrev pub after_ops : List Op → List Entry → Option (List Entry)
 after_ops ops h = result_ok (outcome 0 ops h)
-
--- what the operations make of a header, and what is answered
-abbrev pub Applies : List Op → List Entry → Applied → List Entry → Type 0
-Applies ops old Done new = outcome 0 ops old ≡ Ok new
-Applies ops old (Undefined i) new = (outcome 0 ops old ≡ Err i) × (new ≡ old)

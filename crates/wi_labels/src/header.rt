@@ -1,7 +1,8 @@
 //! Headers, kept bottom first: operations then work at the end of a list, and cost in their own number, not in the height of
 //! the header. Contracts see a header top first.
 ghost use Rattle.std.specs.Prelude.{◌≡◌, ◌≤◌, ◌++◌, List, length, drop, reverse, slice_get, true, Some, IfOk, OnOk, OnErr};
-ghost use Rattle.wi_labels.specs.Header.{Entry, Applies, after_op, after_ops, is_ip, is_tunnel, is_valid_header};
+ghost use Rattle.wi_labels.specs.Header.{Entry, after_op, after_ops, is_tunnel, is_valid_header};
+ghost use Rattle.wi_labels.specs.private.Header.{Applies, is_ip};
 ghost use Rattle.wi_labels.specs.declared.ops.Op.{Op};
 
 use crate::label::{Class, Label};

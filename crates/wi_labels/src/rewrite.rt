@@ -2,7 +2,7 @@
 //! in its own length, and the header below is never copied.
 ghost use Rattle.std.specs.Prelude.{◌≡◌, ◌<◌, ◌≤◌, [], drop, length, slice_get, Ok, Some, None, true, false};
 ghost use Rattle.wi_labels.specs.Header.{after_op};
-ghost use Rattle.wi_labels.specs.Rewrite.{rewritten};
+ghost use Rattle.wi_labels.specs.private.Rewrite.{rewritten};
 
 use crate::header::Header;
 use crate::label::{Class, Label};

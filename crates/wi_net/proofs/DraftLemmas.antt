@@ -9,7 +9,8 @@ use Rattle.wi_net.specs.declared.parts.Link.{Link}
 use Rattle.wi_net.specs.Names.{is_name, place, number_of, with_name}
 use Rattle.wi_net.specs.Ends.{is_out, is_in}
 use Rattle.wi_net.specs.Network.{is_no_later}
-use Rattle.wi_net.specs.Builder.{Draft, IsDraft, link_ends, named_with, firsts_with, first_in}
+use Rattle.wi_net.specs.Builder.{Draft, link_ends, named_with, firsts_with, first_in}
+use Rattle.wi_net.specs.private.Builder.{IsDraft}
 use Rattle.wi_net.proofs.KeptLemmas.{router_kept, label_kept, link_kept, free_ends}
 
 -- what isn't there is nothing

@@ -14,7 +14,8 @@ use Rattle.wi_net.specs.Net.{Net}
 use Rattle.wi_net.specs.LinkSet.{has}
 use Rattle.wi_net.specs.Net.{is_link, same_risk, widened, is_active, first_active, before, entry}
 use Rattle.wi_net.specs.Tables.{is_row, groups_in}
-use Rattle.wi_net.specs.Network.{leaves, op_known, is_member_of, are_groups_of, is_member_at, is_group_at, is_row_of, IsNetwork}
+use Rattle.wi_net.specs.Network.{leaves, op_known, is_member_at, is_group_at, is_row_of, IsNetwork}
+use Rattle.wi_net.specs.private.Network.{is_member_of, are_groups_of}
 use Rattle.wi_net.proofs.SetLemmas.{where_has, has_where, union_has, same_risk_self}
 
 -- a link of one of the groups passes a test

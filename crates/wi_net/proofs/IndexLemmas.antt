@@ -6,9 +6,11 @@ use Rattle.std.specs.List.{filter, list_any, list_all, range_with_len}
 use Rattle.std.specs.Option.{option_map_or}
 use Rattle.wi_net.specs.declared.parts.LinkId.{LinkId}
 use Rattle.wi_net.specs.declared.parts.Link.{Link}
-use Rattle.wi_net.specs.LinkSet.{has, is_rising, with_link, links_from, numbers_where, risk_in, sharing}
-use Rattle.wi_net.specs.RiskGroups.{union, named_by, gathered}
-use Rattle.wi_net.specs.Network.{groups_of}
+use Rattle.wi_net.specs.LinkSet.{has, is_rising, with_link, links_from, numbers_where, risk_in}
+use Rattle.wi_net.specs.private.LinkSet.{sharing}
+use Rattle.wi_net.specs.RiskGroups.{union}
+use Rattle.wi_net.specs.private.RiskGroups.{named_by, gathered}
+use Rattle.wi_net.specs.private.Network.{groups_of}
 use Rattle.wi_net.proofs.SetLemmas.{has-filter, has-links_from, lt_zero_plus, same_link, all_from}
 use Rattle.wi_net.proofs.RisingLemmas.{rising_same, filter_rising}
 use Rattle.wi_net.proofs.WidenLemmas.{filter_yes, filter_no, links_rising, has-union, union_keeps_rising}

@@ -18,7 +18,8 @@ use Rattle.wi_net.specs.Tables.{is_row, group_members, row_members}
 use Rattle.wi_net.specs.Net.{Net}
 use Rattle.wi_net.specs.Finding.{find_router, out_place, in_place}
 use Rattle.wi_net.specs.Network.{IsNetwork, is_no_later, are_in_order, is_link_of, is_group_at, is_row_of}
-use Rattle.wi_net.specs.Builder.{Draft, IsDraft, empty, is_first, with_router, with_label, with_new_link, with_row, next_link, first_in, firsts_with, is_group_name, link_ends, add_table, groups_rules}
+use Rattle.wi_net.specs.Builder.{Draft, empty, with_router, with_label, with_new_link, with_row, next_link, first_in, firsts_with, is_group_name, link_ends, add_table, groups_rules}
+use Rattle.wi_net.specs.private.Builder.{IsDraft, is_first}
 use Rattle.wi_net.proofs.GroupLemmas.{all_weaken}
 use Rattle.wi_net.proofs.KeptLists.{nothing_is, all_push, all_get, get_before, place_before, there_from, rule_held, found_held, step_held, given_is}
 use Rattle.wi_net.proofs.KeptNames.{names_push, names_with, names_longer, number_within}

@@ -13,7 +13,7 @@ use Rattle.wi_net.specs.Ends.{is_out, is_in, are_ends_apart}
 use Rattle.wi_net.specs.LinkSet.{has}
 use Rattle.wi_net.specs.Net.{Net, is_link, all_links, risk_of}
 use Rattle.wi_net.specs.Network.{is_link_of, is_risk_named, named_next, named_after}
-use Rattle.wi_net.specs.Builder.{is_first}
+use Rattle.wi_net.specs.private.Builder.{is_first}
 use Rattle.wi_net.proofs.SetLemmas.{all_at, all_from, has-all_links}
 use Rattle.wi_net.proofs.KeptLists.{nothing_is, is_nothing, none_push, none_parts, none_by, all_places, get_before, get_there, get_last, same_flip}
 use Rattle.wi_net.proofs.KeptNames.{number_kept, number_past, number_next}

@@ -9,7 +9,8 @@ use Rattle.wi_labels.specs.declared.label.Label.{Label}
 use Rattle.wi_net.specs.declared.parts.LinkId.{LinkId}
 use Rattle.wi_net.specs.declared.parts.Member.{Member}
 use Rattle.wi_net.specs.declared.parts.TableRow.{TableRow}
-use Rattle.wi_net.specs.Tables.{is_row, groups_in, members_of, all_members, group_members, row_members, members_before, starts_from, begun}
+use Rattle.wi_net.specs.Tables.{is_row, groups_in, members_of, all_members, group_members, row_members, members_before}
+use Rattle.wi_net.specs.private.Tables.{starts_from, begun}
 
 -- the first place that passes
 pub position_found : {X : Type 0} (p : X → Bool) (xs : List X) (i : ℕ) → position p xs ≡ Some i → (i ≡ prefix_len (λ x. not (p x)) xs) × (i < length xs)

@@ -5,7 +5,8 @@ use Rattle.std.specs.List.{filter, list_all, prefix_len, insert, remove, AllWith
 use Rattle.std.specs.List.Sorted.{IsPartitionedBy}
 use Rattle.std.specs.Option.{option_map_or}
 use Rattle.wi_net.specs.declared.parts.LinkId.{LinkId}
-use Rattle.wi_net.specs.LinkSet.{has, is_rising, with_link, without, place_in}
+use Rattle.wi_net.specs.LinkSet.{has, is_rising, with_link, without}
+use Rattle.wi_net.specs.private.LinkSet.{place_in}
 use Rattle.wi_net.proofs.SetLemmas.{same_link, all_at, all_from}
 
 abbrev below : LinkId → LinkId → Bool

@@ -6,7 +6,8 @@ use Rattle.wi_net.specs.declared.refused.BuildRefused.{BuildRefused}
 use Rattle.wi_net.specs.declared.parts.RouterId.{RouterId}
 use Rattle.wi_net.specs.declared.parts.Member.{Member}
 use Rattle.wi_net.specs.declared.parts.TableRow.{TableRow}
-use Rattle.wi_net.specs.Tables.{row_key, group_members, row_members, starts_from, AreTables}
+use Rattle.wi_net.specs.private.Tables.{row_key, starts_from, AreTables}
+use Rattle.wi_net.specs.Tables.{group_members, row_members}
 use Rattle.wi_net.specs.Net.{Net}
 use Rattle.wi_net.specs.Builder.{group_rules, groups_rules}
 

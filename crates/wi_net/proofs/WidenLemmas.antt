@@ -7,7 +7,8 @@ use Rattle.wi_net.specs.declared.parts.LinkId.{LinkId}
 use Rattle.wi_net.specs.declared.parts.Link.{Link}
 use Rattle.wi_net.specs.declared.parts.Member.{Member}
 use Rattle.wi_net.specs.LinkSet.{links_from, has, is_rising, with_link, risk_in, same_risk_in, numbers_where}
-use Rattle.wi_net.specs.RiskGroups.{union, with_risks, with_group_risks}
+use Rattle.wi_net.specs.RiskGroups.{union}
+use Rattle.wi_net.specs.private.RiskGroups.{with_risks, with_group_risks}
 use Rattle.wi_net.proofs.SetLemmas.{all_from, has-links_from, same_link}
 use Rattle.wi_net.proofs.CountLemmas.{filter_same}
 use Rattle.wi_net.proofs.RisingLemmas.{filter_rising, with_rising}

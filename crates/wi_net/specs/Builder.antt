@@ -1,5 +1,5 @@
 -- What each call of the builder makes of a network that is being built, or the first rule that it breaks.
-use Rattle.std.specs.Prelude.{◌≡◌, ℕ, ◌+◌, ◌&&◌, ◌==◌, Bool, true, nat_lt, nat_le, if◌then◌else◌, List, [], ◌∷◌, ◌++◌, length, position, is_some, is_none, slice_get, unwrap_or, option_and_then, Option, Some, None, Result, Ok, Err}
+use Rattle.std.specs.Prelude.{◌≡◌, ℕ, ◌+◌, Bool, true, nat_lt, nat_le, if◌then◌else◌, List, [], ◌∷◌, ◌++◌, length, position, is_some, is_none, slice_get, unwrap_or, option_and_then, Option, Some, None, Result, Ok, Err}
 use Rattle.std.specs.List.{list_all}
 use Rattle.wi_labels.specs.declared.label.Class.{Class}
 use Rattle.wi_labels.specs.declared.label.Label.{Label}
@@ -13,9 +13,9 @@ use Rattle.wi_net.specs.declared.parts.Member.{Member}
 use Rattle.wi_net.specs.declared.parts.TableRow.{TableRow}
 use Rattle.wi_net.specs.Names.{is_name, place, with_name, number_of}
 use Rattle.wi_net.specs.Tables.{is_row, row_members}
-use Rattle.wi_net.specs.Net.{Net, is_link, risk_of}
+use Rattle.wi_net.specs.Net.{Net}
 use Rattle.wi_net.specs.Finding.{find_router, out_place, in_place}
-use Rattle.wi_net.specs.Network.{IsNetwork, leaves, op_known}
+use Rattle.wi_net.specs.Network.{leaves, op_known}
 
 -- a network that is being built: the names of the risk groups that have names, with the first link of each
 pub record Draft : Type 0 where
@@ -28,15 +28,6 @@ empty_net = record { routers = []; labels = []; classes = []; interfaces = []; l
 
 abbrev pub empty : Draft
 empty = record { net = empty_net; named = []; firsts = [] }
-
--- a link that names its own risk group
-abbrev pub is_first : Net → LinkId → Bool
-is_first net e = is_link net e && ((risk_of net e).0 == e.0)
-
--- what is kept while a network is being built
-pub record IsDraft (draft : Draft) : Type 0 where
-  pub net : IsNetwork draft.net
-  pub firsts : list_all (is_first draft.net) draft.firsts ≡ true
 
 infixl 10 ◌>>=◌
 abbrev pub ◌>>=◌ : {A B E : Type 0} → Result A E → (A → Result B E) → Result B E

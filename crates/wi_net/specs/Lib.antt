@@ -7,3 +7,4 @@ pub mod Net
 pub mod Finding
 pub mod Network
 pub mod Builder
+pub mod private

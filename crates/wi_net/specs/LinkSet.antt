@@ -1,7 +1,7 @@
 -- Sets of links as strictly rising lists, and risk groups.
 use Rattle.std.specs.Prelude.{ℕ, Bool, true, not, ◌&&◌, ◌==◌, nat_lt, if◌then◌else◌, List, [], ◌∷◌, length, slice_get, map}
 use Rattle.std.specs.Option.{option_map_or}
-use Rattle.std.specs.List.{filter, list_any, list_all, prefix_len, range_with_len}
+use Rattle.std.specs.List.{filter, list_any, list_all, range_with_len}
 use Rattle.wi_net.specs.declared.parts.LinkId.{LinkId}
 use Rattle.wi_net.specs.declared.parts.Link.{Link}
 
@@ -37,10 +37,6 @@ is_apart s t = list_all (λ e. not (has t e)) s
 abbrev pub outside : List LinkId → List LinkId → List LinkId
 outside s t = filter (λ e. not (has t e)) s
 
--- how many links of a rising list stand before a link's place
-abbrev pub place_in : List LinkId → LinkId → ℕ
-place_in s e = prefix_len (λ x. nat_lt x.0 e.0) s
-
 -- the links with these numbers: so many, from one on
 abbrev pub links_from : ℕ → ℕ → List LinkId
 links_from at n = map (λ i. record { 0 = i }) (range_with_len at n)
@@ -55,7 +51,3 @@ risk_in links e = option_map_or (λ l. l.risk) (slice_get links e.0) e
 
 abbrev pub same_risk_in : List Link → LinkId → LinkId → Bool
 same_risk_in links d e = (risk_in links d).0 == (risk_in links e).0
-
--- the links whose risk group has a link that passes a test
-abbrev pub sharing : List Link → LinkId → List LinkId
-sharing links r = numbers_where links (λ e. (risk_in links e).0 == r.0)

@@ -1,5 +1,5 @@
 -- What each network keeps.
-use Rattle.std.specs.Prelude.{◌≡◌, ℕ, ◌+◌, ◌*◌, ◌^◌, ◌≤◌, ◌<◌, ◌&&◌, ◌==◌, Bool, true, false, nat_lt, nat_le, if◌then◌else◌, Option, Some, None, List, [], ◌∷◌, length, map, slice_get}
+use Rattle.std.specs.Prelude.{◌≡◌, ℕ, ◌+◌, ◌*◌, ◌^◌, ◌≤◌, ◌<◌, ◌&&◌, ◌==◌, Bool, true, false, nat_lt, nat_le, if◌then◌else◌, Option, Some, None, List, [], ◌∷◌, length, slice_get}
 use Rattle.std.specs.List.{list_all}
 use Rattle.std.specs.Option.{option_map_or}
 use Rattle.wi_labels.specs.declared.label.Class.{Class}
@@ -11,11 +11,10 @@ use Rattle.wi_net.specs.declared.parts.LinkId.{LinkId}
 use Rattle.wi_net.specs.declared.parts.Link.{Link}
 use Rattle.wi_net.specs.declared.parts.Member.{Member}
 use Rattle.wi_net.specs.declared.parts.TableRow.{TableRow}
-use Rattle.wi_net.specs.LinkSet.{links_from, sharing}
 use Rattle.wi_net.specs.Names.{are_names}
 use Rattle.wi_net.specs.Ends.{are_ends_apart}
 use Rattle.wi_net.specs.Tables.{are_rows_apart, row_members}
-use Rattle.wi_net.specs.Net.{Net, is_link, all_links, risk_of, label_known}
+use Rattle.wi_net.specs.Net.{Net, all_links, risk_of, label_known}
 
 -- a class isn't after another in the order mpls, smpls, ip
 abbrev pub is_no_later : Class → Class → Bool
@@ -39,13 +38,6 @@ op_known net Pop = true
 -- a link leaves a router
 abbrev pub leaves : Net → RouterId → LinkId → Bool
 leaves net router e = option_map_or (λ l. l.from.0 == router.0) (slice_get net.links e.0) false
-
--- a member whose link and labels are the network's, and groups of such
-abbrev pub is_member_of : Net → Member → Bool
-is_member_of net m = is_link net m.link && list_all (op_known net) m.ops
-
-abbrev pub are_groups_of : Net → List (List Member) → Bool
-are_groups_of net gs = list_all (λ g. list_all (is_member_of net) g) gs
 
 -- a member that a table of a router may have
 abbrev pub is_member_at : Net → RouterId → Member → Bool
@@ -124,12 +116,3 @@ pub record IsNetwork (net : Net) : Type 0 where
   pub few_rows : length net.rows ≤ 200000
   -- a member's number over all rows fits in 32 bits
   pub few_members : row_members net.rows ≤ 400000
-
--- for each link the links of the risk group that it names
-abbrev pub groups_of : List Link → List (List LinkId)
-groups_of links = map (λ r. sharing links r) (links_from 0 (length links))
-
--- a network with the index from a risk group to its links
-pub record IsIndexed (net : Net) (index : List (List LinkId)) : Type 0 where
-  pub network : IsNetwork net
-  pub groups : index ≡ groups_of net.links

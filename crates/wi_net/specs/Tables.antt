@@ -1,6 +1,5 @@
 -- Rows of tables, and the members in them.
-use Rattle.std.specs.Prelude.{◌≡◌, ℕ, ◌+◌, ◌&&◌, ◌==◌, Bool, true, List, [], ◌∷◌, ◌++◌, length, map, position, is_none, nat_le, if◌then◌else◌}
-use Rattle.std.specs.List.{prefix_len}
+use Rattle.std.specs.Prelude.{ℕ, ◌+◌, ◌&&◌, ◌==◌, Bool, true, List, [], ◌∷◌, ◌++◌, length, position, is_none, if◌then◌else◌}
 use Rattle.wi_labels.specs.declared.label.Label.{Label}
 use Rattle.wi_net.specs.declared.parts.TableRow.{TableRow}
 use Rattle.wi_net.specs.declared.parts.Member.{Member}
@@ -9,9 +8,6 @@ use Rattle.wi_net.specs.declared.parts.LinkId.{LinkId}
 -- a row is that of a link and a label
 abbrev pub is_row : LinkId → Label → TableRow → Bool
 is_row e l row = (e.0 == row.link.0) && (l.0 == row.label.0)
-
-abbrev pub row_key : TableRow → ℕ × ℕ
-row_key row = (row.link.0, row.label.0)
 
 -- no two rows are of one link and one label
 abbrev pub are_rows_apart : List TableRow → Bool
@@ -45,18 +41,3 @@ row_members (row ∷ rows) = group_members row.groups + row_members rows
 abbrev pub members_before : List TableRow → LinkId → Label → ℕ
 members_before [] e l = 0
 members_before (row ∷ rows) e l = if is_row e l row then 0 else group_members row.groups + members_before rows e l
-
--- the number of the first member of each row, where so many stand before
-abbrev pub starts_from : ℕ → List TableRow → List ℕ
-starts_from n [] = []
-starts_from n (row ∷ rows) = n ∷ starts_from (n + group_members row.groups) rows
-
--- how many rows begin with a member of no higher number
-abbrev pub begun : ℕ → List ℕ → ℕ
-begun number starts = prefix_len (λ start. nat_le start number) starts
-
--- the index has the rows' links and labels; the number of each row's first member is known, and how many members there are
-pub record AreTables (rows : List TableRow) (keys : List (ℕ × ℕ)) (starts : List ℕ) (members : ℕ) : Type 0 where
-  pub keys_are : keys ≡ map row_key rows
-  pub starts_are : starts ≡ starts_from 0 rows
-  pub members_are : members ≡ row_members rows

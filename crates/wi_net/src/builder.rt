@@ -6,19 +6,22 @@ ghost use Rattle.std.specs.List.{list_all};
 ghost use Rattle.wi_net.specs.Names.{is_name, is_name_byte};
 ghost use Rattle.wi_net.specs.Tables.{is_row, row_members, group_members};
 ghost use Rattle.wi_net.specs.Finding.{find_router, find_label, out_place, in_place, find_out, find_in};
-ghost use Rattle.wi_net.specs.Network.{IsNetwork, is_no_later, groups_of};
-ghost use Rattle.wi_net.specs.Builder.{empty, add_router, add_label, link_ends, add_link, add_table, first_in, named_with, firsts_with, with_row, is_group_name, IsDraft, Gives};
+ghost use Rattle.wi_net.specs.Network.{IsNetwork, is_no_later};
+ghost use Rattle.wi_net.specs.private.Network.{groups_of};
+ghost use Rattle.wi_net.specs.Builder.{empty, add_router, add_label, link_ends, add_link, add_table, first_in, named_with, firsts_with, with_row, is_group_name, Gives};
+ghost use Rattle.wi_net.specs.private.Builder.{IsDraft};
 
 use crate::links::Links;
 use crate::names::Names;
 use crate::network::Network;
-use crate::parts::{Link, LinkId, NameId, RouterId, TableRow};
+use crate::parts::{Group, Link, LinkId, NameId, RouterId, TableRow};
 use crate::refused::{BuildRefused, Limited, Part};
 use crate::risk_groups::RiskGroups;
+use crate::table::groups_total;
 use crate::tables::Tables;
 use std::alloc::Global;
 use std::marker::Model;
-use wi_base::NoMemory;
+use wi_base::{Listed, NoMemory};
 use wi_labels::{Class, Label};
 
 /// A network that is being built, part by part. A call that is refused changes nothing.
@@ -35,7 +38,8 @@ pub struct NetworkBuilder {
 }
 
 impl Model for NetworkBuilder {
-    ghost use Rattle.wi_net.specs.Builder.{Draft, IsDraft};
+    ghost use Rattle.wi_net.specs.Builder.{Draft};
+    ghost use Rattle.wi_net.specs.private.Builder.{IsDraft};
 
     ghost Value = { Draft };
 
@@ -231,6 +235,42 @@ impl NetworkBuilder {
             risk,
         });
         Ok(number)
+    }
+
+    /// Adds what the tables say of an arrival link and a top label. It may be refused by `Limit` of rows, by `Unknown` of the
+    /// link (`In`) or the label (`Name`), by `Repeated`; then group by group by `EmptyGroup`, and member by member by `Limit`
+    /// of members, by `Unknown` of its link (`Out`), by `Limit` of operations, by `Unknown` of a label or its class (`Name`):
+    /// the first in this order.
+    #[tactic(auto, unfolding(crate::specs::Builder::add_table))]
+    pub fn table(
+        &mut self,
+        link: LinkId,
+        label: Label,
+        groups: Vec<Group>,
+    ) -> Result<(), BuildRefused>
+        ensures answer { Gives (λ _. self.new) result (add_table self.old link label groups.items) }
+        ensures err { OnErr result (self.new ≡ self.old) }
+    {
+        if self.row_count() >= 200000 {
+            return Err(BuildRefused::Limit(Limited::Rows, 200000));
+        }
+        let Some(found) = self.link_at(link) else {
+            return Err(BuildRefused::Unknown(Part::In));
+        };
+        if label.0 as usize >= self.label_count() {
+            return Err(BuildRefused::Unknown(Part::Name));
+        }
+        if self.has_row(link, label) {
+            return Err(BuildRefused::Repeated);
+        }
+        let members = groups_total(self, found.to, self.member_count(), groups.as_slice())?;
+        let row = TableRow {
+            link,
+            label,
+            groups: Listed::of(groups),
+        };
+        self.row(row, members)?;
+        Ok(())
     }
 
     /// Adds a row whose rules the caller has checked, as `table` does; there are then so many members.

@@ -1,7 +1,8 @@
 //! Sets of links are rising lists, so that equal sets are equal lists, and are small where few links fail. To look a link up
 //! takes halvings; to add or to take out one moves those behind it.
 ghost use Rattle.std.specs.Prelude.{◌≡◌, ◌≤◌, [], true, length, slice_get, not, IfOk, OnOk, OnErr};
-ghost use Rattle.wi_net.specs.LinkSet.{has, with_link, without, is_rising, place_in};
+ghost use Rattle.wi_net.specs.LinkSet.{has, with_link, without, is_rising};
+ghost use Rattle.wi_net.specs.private.LinkSet.{place_in};
 
 use crate::parts::LinkId;
 use std::alloc::{AllocError, Global};

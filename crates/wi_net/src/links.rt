@@ -20,7 +20,7 @@ pub struct Links {
 impl Model for Links {
     ghost use Rattle.std.specs.Prelude.{List};
     ghost use Rattle.wi_net.specs.declared.parts.Link.{Link};
-    ghost use Rattle.wi_net.specs.Ends.{AreKeyed};
+    ghost use Rattle.wi_net.specs.private.Ends.{AreKeyed};
     ghost use Rattle.std.specs.Prelude.{ℕ, ◌-◌, min, vec_len, vec_capacity};
     ghost use Rattle.indexmap.specs.IndexSet.{spare};
 

@@ -43,7 +43,8 @@ pub struct Network {
 impl Model for Network {
     ghost use Rattle.std.specs.Prelude.{◌≡◌};
     ghost use Rattle.wi_net.specs.Net.{Net};
-    ghost use Rattle.wi_net.specs.Network.{IsNetwork, groups_of, IsIndexed};
+    ghost use Rattle.wi_net.specs.Network.{IsNetwork};
+    ghost use Rattle.wi_net.specs.private.Network.{groups_of, IsIndexed};
 
     ghost Value = { Net };
 

@@ -3,8 +3,9 @@
 ghost use Rattle.std.specs.Prelude.{◌≡◌, ◌<◌, ◌^◌, ◌==◌, [], true, nat_lt, length, slice_get, slice_set, map, take, IfOk, OnOk};
 ghost use Rattle.std.specs.List.{filter, list_all, list_any, range_with_len};
 ghost use Rattle.wi_net.specs.LinkSet.{has, with_link, numbers_where, risk_in, same_risk_in};
-ghost use Rattle.wi_net.specs.RiskGroups.{union, with_risks, with_group_risks, named_by, gathered};
-ghost use Rattle.wi_net.specs.Network.{groups_of};
+ghost use Rattle.wi_net.specs.RiskGroups.{union};
+ghost use Rattle.wi_net.specs.private.RiskGroups.{with_risks, with_group_risks, named_by, gathered};
+ghost use Rattle.wi_net.specs.private.Network.{groups_of};
 
 use crate::fails::FailSet;
 use crate::parts::{Group, Link, LinkId, Member};

@@ -1,59 +1,20 @@
 //! The rules of a table are checked before the table is added, in the order in which the builder's refusals are told. It
 //! goes over the members once.
-ghost use Rattle.std.specs.Prelude.{◌≡◌, ◌+◌, ◌≤◌, length, IfOk, OnErr};
+ghost use Rattle.std.specs.Prelude.{◌≡◌, ◌+◌, ◌≤◌, length, IfOk};
 ghost use Rattle.std.specs.List.{list_all};
 ghost use Rattle.wi_labels.specs.Header.{same_class};
-ghost use Rattle.wi_net.specs.Tables.{row_members, group_members};
+ghost use Rattle.wi_net.specs.Tables.{group_members};
 ghost use Rattle.wi_net.specs.Net.{label_known};
 ghost use Rattle.wi_net.specs.Network.{op_known, leaves};
-ghost use Rattle.wi_net.specs.Builder.{add_table, member_rules, members_rules, group_rules, groups_rules, Gives};
+ghost use Rattle.wi_net.specs.Builder.{member_rules, members_rules, group_rules, groups_rules, Gives};
 
 use crate::builder::NetworkBuilder;
-use crate::parts::{Group, LinkId, Member, RouterId, TableRow};
+use crate::parts::{Group, LinkId, Member, RouterId};
 use crate::refused::{BuildRefused, Limited, Part};
-use wi_base::Listed;
 use wi_labels::{Class, Label, Op};
 
-impl NetworkBuilder {
-    /// Adds what the tables say of an arrival link and a top label. It may be refused by `Limit` of rows, by `Unknown` of the
-    /// link (`In`) or the label (`Name`), by `Repeated`; then group by group by `EmptyGroup`, and member by member by `Limit`
-    /// of members, by `Unknown` of its link (`Out`), by `Limit` of operations, by `Unknown` of a label or its class (`Name`):
-    /// the first in this order.
-    #[tactic(auto, unfolding(crate::specs::Builder::add_table))]
-    pub fn table(
-        &mut self,
-        link: LinkId,
-        label: Label,
-        groups: Vec<Group>,
-    ) -> Result<(), BuildRefused>
-        ensures answer { Gives (λ _. self.new) result (add_table self.old link label groups.items) }
-        ensures err { OnErr result (self.new ≡ self.old) }
-    {
-        if self.row_count() >= 200000 {
-            return Err(BuildRefused::Limit(Limited::Rows, 200000));
-        }
-        let Some(found) = self.link_at(link) else {
-            return Err(BuildRefused::Unknown(Part::In));
-        };
-        if label.0 as usize >= self.label_count() {
-            return Err(BuildRefused::Unknown(Part::Name));
-        }
-        if self.has_row(link, label) {
-            return Err(BuildRefused::Repeated);
-        }
-        let members = groups_total(self, found.to, self.member_count(), groups.as_slice())?;
-        let row = TableRow {
-            link,
-            label,
-            groups: Listed::of(groups),
-        };
-        self.row(row, members)?;
-        Ok(())
-    }
-}
-
-// How many members there are with those of groups, or the first rule that they break.
-fn groups_total(
+/// How many members there are with those of groups, or the first rule that they break.
+pub(crate) fn groups_total(
     builder: &NetworkBuilder,
     router: RouterId,
     so_far: usize,

@@ -1,7 +1,8 @@
 //! A row is found by its link and label in one look-up, and a member by its number over all rows in halvings, since a search
 //! names a choice by one number. That takes a pair and a number for each row beside the row itself.
 ghost use Rattle.std.specs.Prelude.{◌≡◌, nat_le, ◌<◌, ◌≤◌, ◌+◌, ◌++◌, ◌∷◌, [], None, Some, length, position, slice_get, option_map, IfSome, OnOk, OnErr};
-ghost use Rattle.wi_net.specs.Tables.{is_row, groups_in, members_of, all_members, row_members, group_members, starts_from, members_before, begun};
+ghost use Rattle.wi_net.specs.Tables.{is_row, groups_in, members_of, all_members, row_members, group_members, members_before};
+ghost use Rattle.wi_net.specs.private.Tables.{starts_from, begun};
 ghost use Rattle.std.specs.List.Sorted.{IsPartitionedBy};
 
 use crate::parts::{Group, LinkId, Member, TableRow};
@@ -24,7 +25,7 @@ pub struct Tables {
 impl Model for Tables {
     ghost use Rattle.std.specs.Prelude.{List};
     ghost use Rattle.wi_net.specs.declared.parts.TableRow.{TableRow};
-    ghost use Rattle.wi_net.specs.Tables.{AreTables};
+    ghost use Rattle.wi_net.specs.private.Tables.{AreTables};
 
     ghost Value = { List TableRow };
 

@@ -12,7 +12,7 @@ use Rattle.wi_net.proofs.KeptLists.{step_held, given_is}
 use Rattle.wi_netjson.specs.declared.fault.NetFault.{NetFault}
 use Rattle.wi_netjson.specs.declared.fault.NetFault.TheVariants as fault
 use Rattle.wi_netjson.specs.Reading.{Fails}
-use Rattle.wi_netjson.specs.Refusals.{link_fault}
+use Rattle.wi_netjson.specs.private.Refusals.{link_fault}
 use Rattle.wi_netjson.specs.Links.{link_rules}
 
 -- a broken rule of the network, as a fault of the file

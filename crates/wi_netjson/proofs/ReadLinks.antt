@@ -23,7 +23,8 @@ use Rattle.wi_net.proofs.MemberLemmas.{position_found, position_missing}
 use Rattle.wi_netjson.specs.declared.fault.NetFault.{NetFault}
 use Rattle.wi_netjson.specs.Reading.{each}
 use Rattle.wi_netjson.specs.Links.{link_at, link_rules}
-use Rattle.wi_netjson.specs.Written.{name_at, is_larger, has_larger, link_data, has_small_distance}
+use Rattle.wi_netjson.specs.Written.{name_at, is_larger, has_larger, link_data}
+use Rattle.wi_netjson.specs.private.Written.{has_small_distance}
 use Rattle.wi_netjson.proofs.PlaceLemmas.{IsApart, before, split_at, found_at, found_in_take, none_in_take}
 use Rattle.wi_netjson.proofs.ReadNames.{names_apart, name_in}
 use Rattle.wi_netjson.proofs.ReadGroups.{group_of, group_named, GroupsAre, GroupsStep, RiskFits, groups_step, link_of}

@@ -1,5 +1,4 @@
 pub mod Reading
-pub mod Refusals
 pub mod Routers
 pub mod Labels
 pub mod Links
@@ -7,3 +6,4 @@ pub mod Operations
 pub mod Tables
 pub mod File
 pub mod Written
+pub mod private

@@ -1,5 +1,5 @@
 -- The canonical text of a network.
-use Rattle.std.specs.Prelude.{◌≡◌, ℕ, ◌+◌, ◌==◌, Bool, false, List, [], ◌∷◌, ◌++◌, map, drop, slice_get, slice_index_or, unwrap_or, option_map, codes, decimal, nat_le, if◌then◌else◌}
+use Rattle.std.specs.Prelude.{ℕ, ◌+◌, ◌==◌, Bool, List, [], ◌∷◌, ◌++◌, map, drop, slice_get, slice_index_or, unwrap_or, option_map, codes, decimal, if◌then◌else◌}
 use Rattle.std.specs.List.{list_any}
 use Rattle.serde_json.specs.Data.{Data, number, unsigned, string, array, object, Members, member, no_members}
 use Rattle.serde_json.specs.View.{items_of}
@@ -39,17 +39,9 @@ labels_data net =
 abbrev pub is_larger : List Link → ℕ → Bool
 is_larger links r = list_any (λ (l : Link). l.risk.0 == r) (drop (r + 1) links)
 
--- a list has, at each place, whether the risk group of that number is larger
-abbrev pub AreLarger : List Link → List Bool → Type 0
-AreLarger links larger = (r : ℕ) → slice_index_or larger r false ≡ is_larger links r
-
 -- the name of a larger risk group
 abbrev pub group_member : List Link → ℕ → Members → Members
 group_member links r rest = if is_larger links r then member (codes "group") (string (codes "g" ++ decimal r)) rest else rest
-
--- as every link's
-abbrev pub has_small_distance : Link → Bool
-has_small_distance l = nat_le l.distance 4294967295
 
 -- a link: its members in the order of their names
 abbrev pub link_data : Net → Link → Data

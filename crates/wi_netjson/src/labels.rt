@@ -5,7 +5,7 @@ ghost use Rattle.std.specs.List.{list_all};
 ghost use Rattle.serde_json.specs.View.{view, items_view};
 ghost use Rattle.wi_net.specs.Network.{is_no_later};
 ghost use Rattle.wi_netjson.specs.Reading.{Gives, each};
-ghost use Rattle.wi_netjson.specs.Refusals.{label_fault};
+ghost use Rattle.wi_netjson.specs.private.Refusals.{label_fault};
 ghost use Rattle.wi_netjson.specs.Labels.{label_at, labels_of, label_list};
 
 use crate::fault::{NetFault, Place};

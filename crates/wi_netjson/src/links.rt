@@ -3,7 +3,7 @@
 ghost use Rattle.std.specs.Prelude.{◌≡◌, ◌+◌, ◌<◌, ◌≤◌, OnOk, length, option_map};
 ghost use Rattle.serde_json.specs.View.{view, items_view};
 ghost use Rattle.wi_netjson.specs.Reading.{Gives, each};
-ghost use Rattle.wi_netjson.specs.Refusals.{link_fault};
+ghost use Rattle.wi_netjson.specs.private.Refusals.{link_fault};
 ghost use Rattle.wi_netjson.specs.Links.{link_rules, link_at, links_of, group_name_at};
 
 use crate::fault::{LinkPart, NetFault, Place};

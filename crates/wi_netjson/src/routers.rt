@@ -2,7 +2,7 @@
 ghost use Rattle.std.specs.Prelude.{◌≡◌, ◌+◌, ◌<◌, ◌≤◌, OnOk, length};
 ghost use Rattle.serde_json.specs.View.{view, items_view};
 ghost use Rattle.wi_netjson.specs.Reading.{Gives, each};
-ghost use Rattle.wi_netjson.specs.Refusals.{router_fault};
+ghost use Rattle.wi_netjson.specs.private.Refusals.{router_fault};
 ghost use Rattle.wi_netjson.specs.Routers.{router_at, routers_of};
 
 use crate::fault::{NetFault, Place};

@@ -4,8 +4,10 @@ ghost use Rattle.std.specs.Prelude.{◌≡◌, ◌++◌, ◌∷◌, [], true, fa
 ghost use Rattle.std.specs.List.{list_all};
 ghost use Rattle.serde_json.specs.Data.{string, number, unsigned, object, member, no_members};
 ghost use Rattle.serde_json.specs.View.{view};
-ghost use Rattle.wi_net.specs.Network.{HasEnds, op_known, is_member_of, are_groups_of, is_row_of};
-ghost use Rattle.wi_netjson.specs.Written.{AreLarger, has_larger, format_of, list_of, labels_in, labels_data, link_data, op_data, way_data, group_data, row_data, network_data, text_of, has_small_distance};
+ghost use Rattle.wi_net.specs.Network.{HasEnds, op_known, is_row_of};
+ghost use Rattle.wi_net.specs.private.Network.{is_member_of, are_groups_of};
+ghost use Rattle.wi_netjson.specs.private.Written.{AreLarger, has_small_distance};
+ghost use Rattle.wi_netjson.specs.Written.{has_larger, format_of, list_of, labels_in, labels_data, link_data, op_data, way_data, group_data, row_data, network_data, text_of};
 ghost use Rattle.wi_netjson.specs.File.{network_of};
 
 use serde_json::{Value, json};

@@ -9,10 +9,11 @@ use Rattle.std.proofs.lemmas.List.Elements.{Contains-get_or}
 use Rattle.wi_nfa.specs.Positions.{Agrees}
 use Rattle.wi_nfa.specs.Automata.{ListsRising, MayFollow, MayEnd, IsPositionAutomaton}
 use Rattle.wi_nfa.specs.declared.ends.Ends.{Ends}
-use Rattle.wi_nfa.specs.Marks.{marked, IsSquare, AddsSome, AddsMarks, IsJoint}
-use Rattle.wi_nfa.specs.Ends.{AreEnds, AddsFollows}
-use Rattle.wi_nfa.specs.Atoms.{HasSets, AddsAtoms}
-use Rattle.wi_nfa.specs.Rows.{row, in_atom, reads_at, automaton_of, AreTables}
+use Rattle.wi_nfa.specs.private.Marks.{marked, IsSquare, AddsSome, AddsMarks, IsJoint}
+use Rattle.wi_nfa.specs.private.Ends.{AreEnds, AddsFollows}
+use Rattle.wi_nfa.specs.private.Atoms.{HasSets, AddsAtoms}
+use Rattle.wi_nfa.specs.Rows.{row, in_atom, reads_at, automaton_of}
+use Rattle.wi_nfa.specs.private.Rows.{AreTables}
 use Rattle.wi_nfa.proofs.Ranges.{ends_within}
 use Rattle.wi_nfa.proofs.Marking.{get_replicate}
 use Rattle.wi_nfa.proofs.Listing.{column_within}

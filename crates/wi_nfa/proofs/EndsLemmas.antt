@@ -7,8 +7,8 @@ use Rattle.wi_regex.specs.declared.regex.Regex.{Regex}
 use Rattle.wi_regex.specs.declared.regex.Regex.TheVariants.{Concat', Either'}
 use Rattle.wi_regex.specs.Matching.{position_count}
 use Rattle.wi_nfa.specs.declared.ends.Ends.{Ends}
-use Rattle.wi_nfa.specs.Marks.{IsJoint}
-use Rattle.wi_nfa.specs.Ends.{IsChain, IsChoice, AreEnds}
+use Rattle.wi_nfa.specs.private.Marks.{IsJoint}
+use Rattle.wi_nfa.specs.private.Ends.{IsChain, IsChoice, AreEnds}
 use Rattle.wi_nfa.proofs.Ranges.{begins_within, ends_within}
 
 -- a list that is joined holds of what both parts hold of

@@ -6,8 +6,8 @@ use Rattle.wi_regex.specs.declared.regex.Regex.{Regex}
 use Rattle.wi_regex.specs.declared.regex.Regex.TheVariants.{Concat', Either'}
 use Rattle.wi_regex.specs.Matching.{position_count, is_empty_word_in}
 use Rattle.wi_nfa.specs.declared.ends.Ends.{Ends}
-use Rattle.wi_nfa.specs.Marks.{AddsMarks}
-use Rattle.wi_nfa.specs.Ends.{AreEnds, AddsFollows}
+use Rattle.wi_nfa.specs.private.Marks.{AddsMarks}
+use Rattle.wi_nfa.specs.private.Ends.{AreEnds, AddsFollows}
 
 -- two parts after each other, of which the first leaves L1 and the second L2 to what gets L: M1 and M2 are marked after each
 chained : {O M1 M2 F1 F2 L1 L2 L : Type 0} → (M1 ⊎ L1) ↔ (O ⊎ (F1 ⊎ L1)) → (M2 ⊎ L2) ↔ (M1 ⊎ (F2 ⊎ L2)) → (L1 → L) → (L2 → L) →

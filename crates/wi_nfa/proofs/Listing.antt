@@ -6,7 +6,7 @@ use Rattle.std.specs.List.Sorted.{IsStrictlyIncreasing}
 use Rattle.std.specs.declared.alloc.Global.{Global}
 use Rattle.std.proofs.lemmas.Option.{slice_get_past, slice_get_cases}
 use Rattle.wi_nfa.specs.Automata.{ListsRising}
-use Rattle.wi_nfa.specs.Marks.{in_row, marked, IsSquare}
+use Rattle.wi_nfa.specs.private.Marks.{in_row, marked, IsSquare}
 use Rattle.wi_nfa.specs.Rows.{items_of, row}
 use Rattle.std.proofs.lemmas.List.FromFn.{length-range_with_len, get_or-range_with_len}
 use Rattle.std.proofs.lemmas.List.Kept.{IsStrictlyIncreasing-filter}

@@ -6,7 +6,7 @@ use Rattle.std.proofs.Math.Seq.{take-suc}
 use Rattle.std.proofs.lemmas.List.{take_all}
 use Rattle.std.proofs.lemmas.Option.{slice_get-get_or}
 use Rattle.std.proofs.lemmas.List.Elements.{Contains-push, Contains-push_cases, Contains-append_left}
-use Rattle.wi_nfa.specs.Marks.{in_row, marked, IsSquare, AddsSome, AddsMarks}
+use Rattle.wi_nfa.specs.private.Marks.{in_row, marked, IsSquare, AddsSome, AddsMarks}
 
 pub nothing_in : {X : Type 0} {Y : Type 0} (x : X) → Contains [] x → Y
 nothing_in x h = absurd (let lt = h.1 in omega arith)

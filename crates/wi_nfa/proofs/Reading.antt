@@ -5,7 +5,8 @@ use Rattle.std.specs.declared.alloc.Global.{Global}
 use Rattle.std.proofs.lemmas.Option.{slice_get_read}
 use Rattle.std.proofs.lemmas.List.Kept.{IsStrictlyIncreasing-filter}
 use Rattle.wi_nfa.specs.Automata.{ListsRising, Steps}
-use Rattle.wi_nfa.specs.Rows.{items_of, row, reads_at, Tables, automaton_of, AreTables}
+use Rattle.wi_nfa.specs.Rows.{items_of, row, reads_at, Tables, automaton_of}
+use Rattle.wi_nfa.specs.private.Rows.{AreTables}
 use Rattle.wi_nfa.specs.Left.{kept}
 use Rattle.wi_nfa.proofs.Marking.{nothing_in}
 use Rattle.std.proofs.lemmas.List.Elements.{Contains-append_left, Contains-append_right, Contains-append_cases, Contains-push, Contains-push_cases}

@@ -5,11 +5,13 @@ use Rattle.std.proofs.lemmas.List.{take_all}
 use Rattle.std.proofs.lemmas.List.Elements.{Contains-get_or}
 use Rattle.wi_regex.specs.declared.atom.Symbol.{Symbol}
 use Rattle.wi_nfa.specs.Automata.{Automaton, Steps}
-use Rattle.wi_nfa.specs.Marks.{AddsSome}
-use Rattle.wi_nfa.specs.Rows.{row, reads_at, Tables, automaton_of, AreTables}
+use Rattle.wi_nfa.specs.private.Marks.{AddsSome}
+use Rattle.wi_nfa.specs.Rows.{row, reads_at, Tables, automaton_of}
+use Rattle.wi_nfa.specs.private.Rows.{AreTables}
 use Rattle.std.proofs.Math.Seq.{drop-cons}
 use Rattle.std.proofs.lemmas.List.{drop_all}
-use Rattle.wi_nfa.specs.Sets.{symbols, LedFrom, AcceptedFrom, AreLed}
+use Rattle.wi_nfa.specs.Sets.{symbols}
+use Rattle.wi_nfa.specs.private.Sets.{LedFrom, AcceptedFrom, AreLed}
 use Rattle.wi_nfa.proofs.Marking.{taken_more, taken_old, taken_new}
 
 -- one more place of the row is entered, or not

@@ -1,9 +1,7 @@
 pub mod Positions
 pub mod Automata
-pub mod Marks
-pub mod Ends
-pub mod Atoms
 pub mod Rows
 pub mod Refusals
 pub mod Left
 pub mod Sets
+pub mod private

@@ -1,8 +1,7 @@
 -- Automata as rows of states.
-use Rattle.std.specs.Prelude.{◌≡◌, ℕ, ◌-◌, ◌<◌, Bool, false, List, [], length, Option, Some, None, slice_get, slice_index_or, Contains, Vec}
-use Rattle.std.specs.List.Sorted.{IsStrictlyIncreasing}
+use Rattle.std.specs.Prelude.{ℕ, ◌-◌, Bool, false, List, [], length, Option, Some, None, slice_get, slice_index_or, Vec}
 use Rattle.std.specs.declared.alloc.Global.{Global}
-use Rattle.wi_nfa.specs.Automata.{Automaton, ListsRising}
+use Rattle.wi_nfa.specs.Automata.{Automaton}
 
 -- the states of a row, none where there is no row
 abbrev pub items_of : Option (Vec ℕ Global) → List ℕ
@@ -36,11 +35,3 @@ automaton_of set t = record {
   reads = λ q x. reads_at set t.atoms q x;
   accepts = λ p. slice_index_or t.accepting p false;
 }
-
--- the rows rise, and ahead is after turned round
-pub record AreTables (after ahead : List (Vec ℕ Global)) : Type 0 where
-  pub same_count : length ahead ≡ length after
-  pub start : 0 < length after
-  pub rising : (p : ℕ) → IsStrictlyIncreasing (row after p)
-  pub inside : (p q : ℕ) → Contains (row after p) q → q < length after
-  pub turned : (q : ℕ) → ListsRising (row ahead q) (λ p. Contains (row after p) q)

@@ -1,8 +1,10 @@
-//! Where the words of an expression begin and end, and which position may follow which.
+//! One walk over the expression finds where the words of each part begin and end, and marks what may follow what (Glushkov
+//! 1961). A loop tells its body to leave out the pairs that the loop itself will mark, so that none is marked more than twice
+//! however deep loops nest. Two lists of positions are kept for each part that is still to be joined.
 ghost use Rattle.std.specs.Prelude.{◌≡◌, ◌+◌, ◌<◌, ◌^◌, ◌&&◌, ℕ, [], ◌∷◌, false, OnOk, IfOk, All, Contains, vec_len};
 ghost use Rattle.wi_regex.specs.Matching.{position_count, is_empty_word_in};
-ghost use Rattle.wi_nfa.specs.Marks.{IsSquare, AddsMarks, IsJoint};
-ghost use Rattle.wi_nfa.specs.Ends.{IsBlank, AreEnds, AddsFollows};
+ghost use Rattle.wi_nfa.specs.private.Marks.{IsSquare, AddsMarks, IsJoint};
+ghost use Rattle.wi_nfa.specs.private.Ends.{IsBlank, AreEnds, AddsFollows};
 
 use crate::marks::link;
 use std::alloc::Global;
@@ -32,7 +34,7 @@ pub(crate) fn join(xs: &mut Vec<usize>, also: bool, ys: &[usize]) -> Result<(), 
 }
 
 impl Ends {
-    ghost use Rattle.wi_nfa.specs.Ends.{IsBlank, IsChain, IsChoice};
+    ghost use Rattle.wi_nfa.specs.private.Ends.{IsBlank, IsChain, IsChoice};
 
     /// None yet.
     pub(crate) fn new(alloc: Global) -> Ends

@@ -1,4 +1,5 @@
-//! What holds of each position automaton.
+//! States have numbers that others see, so a definition says which automaton an expression has, and that it accepts what the
+//! expression matches is a law. It holds for every automaton of that definition, whoever builds it. The functions run no code.
 ghost use Rattle.std.specs.Prelude.{◌≡◌, ◌≤◌, ℕ, List, ◌↔◌, Contains};
 ghost use Rattle.std.specs.List.Sorted.{IsStrictlyIncreasing};
 ghost use Rattle.wi_regex.specs.declared.regex.Regex.{Regex};

@@ -1,6 +1,7 @@
-//! Tables of marks: which state may come next after which.
+//! Which state may follow which is first collected as marks in a square table, so that no pair is listed twice however often it
+//! is found. It takes the square of the states in bytes, and an expression has at most 512 positions.
 ghost use Rattle.std.specs.Prelude.{◌≡◌, ◌<◌, ℕ, Bool, false, IsTrue, IfOk, All, Contains, vec_len, slice_index_or, replicate};
-ghost use Rattle.wi_nfa.specs.Marks.{marked, IsSquare, AddsSome, AddsMarks};
+ghost use Rattle.wi_nfa.specs.private.Marks.{marked, IsSquare, AddsSome, AddsMarks};
 
 use std::alloc::Global;
 use wi_regex::NoMemory;

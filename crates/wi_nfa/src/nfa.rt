@@ -1,11 +1,14 @@
-//! The automaton.
+//! States are kept in rows both ways, those that may come after each and those that it may come after, since an expression is
+//! also read backwards. Each way takes up to the square of the states in numbers, so expressions of more than 512 positions are
+//! refused, before any memory is taken.
 ghost use Rattle.std.specs.Prelude.{◌≡◌, ◌+◌, ◌<◌, ◌≤◌, ◌↔◌, ℕ, true, false, IsTrue, IfOk, IfErr, All, Contains, vec_len, slice_index_or};
 ghost use Rattle.wi_regex.specs.Matching.{position_count};
 ghost use Rattle.wi_nfa.specs.Automata.{ListsRising, Steps, AcceptsFrom, MayFollow, MayEnd, IsPositionAutomaton};
-ghost use Rattle.wi_nfa.specs.Marks.{marked, IsSquare, AddsSome};
+ghost use Rattle.wi_nfa.specs.private.Marks.{marked, IsSquare, AddsSome};
 ghost use Rattle.wi_nfa.specs.Rows.{automaton_of, reads_at};
 ghost use Rattle.wi_nfa.specs.Left.{states_left};
-ghost use Rattle.wi_nfa.specs.Sets.{symbols, AreLed};
+ghost use Rattle.wi_nfa.specs.Sets.{symbols};
+ghost use Rattle.wi_nfa.specs.private.Sets.{AreLed};
 ghost use Rattle.wi_nfa.specs.Refusals.{IsRefusal};
 
 use crate::ends::{Ends, join, mark_follows};
@@ -52,7 +55,8 @@ pub struct Nfa<A: Atom> {
 }
 
 impl<A: Atom> Model for Nfa<A> {
-    ghost use Rattle.wi_nfa.specs.Rows.{Tables, AreTables};
+    ghost use Rattle.wi_nfa.specs.Rows.{Tables};
+    ghost use Rattle.wi_nfa.specs.private.Rows.{AreTables};
 
     ghost Value = { Tables A };
 

@@ -1,4 +1,5 @@
-//! Iterators over states.
+//! What comes after or before a state by a symbol is found along one row while it is asked for, so that it takes no list and no
+//! memory. Forwards each state of the row costs a look into its atom's set; backwards one look serves for the whole row.
 ghost use Rattle.std.specs.Prelude.{◌≡◌};
 ghost use Rattle.wi_nfa.specs.Rows.{reads_at};
 

@@ -1,9 +1,10 @@
-//! From a table of marks to rows of states, and the atoms of an expression.
+//! Marks become lists once, so that a walk goes over the states that may follow and not over all of them. To list rows and
+//! columns goes over the whole table twice. Atoms are copied, so that an automaton stands without its expression.
 ghost use Rattle.std.specs.Prelude.{◌≡◌, ◌<◌, ◌^◌, ℕ, IsTrue, OnOk, IfOk, filter, length, vec_len};
 ghost use Rattle.std.specs.List.{range_with_len};
 ghost use Rattle.wi_nfa.specs.Automata.{ListsRising};
-ghost use Rattle.wi_nfa.specs.Marks.{marked, IsSquare};
-ghost use Rattle.wi_nfa.specs.Atoms.{AddsAtoms};
+ghost use Rattle.wi_nfa.specs.private.Marks.{marked, IsSquare};
+ghost use Rattle.wi_nfa.specs.private.Atoms.{AddsAtoms};
 ghost use Rattle.wi_nfa.specs.Rows.{row};
 
 use crate::marks::is_marked;

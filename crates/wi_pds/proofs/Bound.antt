@@ -6,7 +6,7 @@ use Rattle.wi_pds.specs.declared.rule.Word2.{Word2}
 use Rattle.wi_pds.specs.declared.rule.Word2.TheVariants.{Empty, One, Two}
 use Rattle.wi_pds.specs.declared.rule.Rule.{Rule}
 use Rattle.wi_weight.specs.Weights.{Scale, WeightLaws, IsWeight, plus, zero_weight, AtMost}
-use Rattle.wi_weight.specs.Order.{weight_zero, at_most_self, at_most_trans, below_from_at_most, grows_left, plus_at_most_left, plus_at_most_right}
+use Rattle.wi_weight.specs.lemmas.Order.{weight_zero, at_most_self, at_most_trans, below_from_at_most, grows_left, plus_at_most_left, plus_at_most_right}
 use Rattle.wi_pds.specs.Runs.{symbols, Run, run_weight}
 use Rattle.wi_pds.specs.Closed.{Leads, AreClosed, Summary, Listed, Chain, Within, AreClosedRows, BoundsRuns}
 

@@ -2,3 +2,4 @@ pub mod Pairs
 pub mod Rules
 pub mod Runs
 pub mod Closed
+pub mod lemmas

@@ -1,4 +1,5 @@
-//! Heads, and pairs of symbols that may stand on each other.
+//! Both lists rise as a part of the type, so that a look-up by halves has no condition at any call. Whoever makes one has to
+//! have sorted them, and shows that they rise.
 ghost use Rattle.std.specs.Prelude.{◌↔◌, IsTrue};
 ghost use Rattle.std.specs.List.{Contains};
 ghost use Rattle.std.specs.List.Sorted.{IsStrictlySortedBy};

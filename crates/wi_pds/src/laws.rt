@@ -1,4 +1,5 @@
-//! The law of the bound.
+//! The law is over rows that come from anywhere, so that nobody has to trust the search that made them: whether they are closed
+//! can be looked at row by row. It runs no code.
 ghost use Rattle.std.specs.Prelude.{ℕ, List, Option};
 ghost use Rattle.wi_pds.specs.declared.rule.Rule.{Rule};
 ghost use Rattle.wi_pds.specs.Closed.{AreClosed, AreClosedRows, BoundsRuns, Summary};

@@ -1,4 +1,6 @@
-//! Rules.
+//! A rule writes two symbols at most (Schwoon 2002), so that all rules have one size; what writes more is several rules. Its
+//! tag is a number that runs don't read, so that whoever made a rule can tell what it stands for without a table beside the
+//! rules.
 
 /// What a rule writes in the place of the top: nothing, one symbol, or two with the first on top.
 #[derive(Clone, Copy, Debug, PartialEq, Eq)]

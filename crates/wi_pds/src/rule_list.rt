@@ -1,4 +1,5 @@
-//! Systems that list their rules.
+//! A system of few rules can be written down as a list. Each time a head's rules are asked for, it goes over the whole list and
+//! copies those that it finds: where rules are many, a system that makes them on demand is the better one.
 use crate::rule::Rule;
 use crate::system::System;
 use std::alloc::Global;
@@ -13,7 +14,8 @@ pub struct RuleList<W> {
 
 impl<W: Copy> System<W> for RuleList<W> {
     ghost use Rattle.std.specs.Prelude.{ℕ, List};
-    ghost use Rattle.wi_pds.specs.Rules.{rules_at, listed_name_heads};
+    ghost use Rattle.wi_pds.specs.Rules.{rules_at};
+    ghost use Rattle.wi_pds.specs.lemmas.Rules.{listed_name_heads};
 
     ghost start_head = { λ s. s.start };
 

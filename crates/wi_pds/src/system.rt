@@ -1,4 +1,6 @@
-//! What a pushdown system is.
+//! Rules are asked for head by head, so that a system may make them when they are wanted, and no list of all has to be there.
+//! It says of which heads it may be asked, so that asking for no others is a part of a search's contract. Each answer is a list
+//! of its own.
 ghost use Rattle.std.specs.Prelude.{◌≡◌, ℕ, List, IfOk};
 ghost use Rattle.std.specs.List.{All};
 ghost use Rattle.wi_pds.specs.declared.rule.Rule.{Rule};

@@ -7,7 +7,7 @@ use Rattle.wi_quantity.specs.declared.written.Class.{Class}
 use Rattle.wi_quantity.specs.declared.written.Class.TheVariants.{Space, Zero, Nonzero, Letter, Star, Plus, Comma, Other}
 use Rattle.wi_quantity.specs.declared.written.Stage.{Stage}
 use Rattle.wi_quantity.specs.declared.written.Stage.TheVariants.{Start, AfterZero, InNumber, AfterNumber, AfterStar, InWord, AfterWord}
-use Rattle.wi_quantity.specs.Syntax.{class_of, next_stage}
+use Rattle.wi_quantity.specs.private.Syntax.{class_of, next_stage}
 
 pub space_class : (b : ℕ) → is_space b ≡ true → class_of b ≡ Space
 space_class b e = rw e refl

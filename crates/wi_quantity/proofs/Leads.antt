@@ -4,14 +4,14 @@ use Rattle.std.proofs.lemmas.Bool.{and_parts, eqb-true}
 use Rattle.std.proofs.lemmas.Bool.Decides.{nat_tests}
 use Rattle.std.specs.List.{list_all}
 use Rattle.wi_text.specs.Characters.{is_space, is_digit, is_letter, is_number}
-use Rattle.wi_text.specs.Machines.{goes_on}
+use Rattle.wi_text.specs.private.Machines.{goes_on}
 use Rattle.wi_quantity.specs.declared.written.Class.{Class}
 use Rattle.wi_quantity.specs.declared.written.Class.TheVariants.{Space, Zero, Nonzero, Letter, Star}
 use Rattle.wi_quantity.specs.declared.written.Stage.{Stage}
 use Rattle.wi_quantity.specs.declared.written.Stage.TheVariants.{Start, AfterZero, InNumber, AfterNumber, AfterStar, InWord}
 use Rattle.wi_quantity.specs.Written.{WrittenPart}
-use Rattle.wi_quantity.specs.Syntax.{class_of, next_stage, stop}
-use Rattle.wi_quantity.specs.Noting.{Noted, given, end_term, noted_as, note_all}
+use Rattle.wi_quantity.specs.private.Syntax.{class_of, next_stage, stop}
+use Rattle.wi_quantity.specs.private.Noting.{Noted, given, end_term, noted_as, note_all}
 use Rattle.wi_quantity.proofs.Classes.{space_class, letter_class, digit_class, is_of}
 
 -- from a stage, with what is noted, a piece of text leads to another stage and notes

@@ -15,7 +15,7 @@ use Rattle.wi_quantity.specs.declared.vector.Part.{Part}
 use Rattle.wi_quantity.specs.Vectors.{is_part, is_term, is_vector}
 use Rattle.wi_quantity.specs.Written.{WrittenPart}
 use Rattle.wi_quantity.specs.Faults.{quantity_named, part_meant}
-use Rattle.wi_quantity.specs.Meaning.{unknown_in, unknown_among, many_among, is_large, large_in, large_among, AreMeant, small_meant}
+use Rattle.wi_quantity.specs.private.Meaning.{unknown_in, unknown_among, many_among, is_large, large_in, large_among, AreMeant, small_meant}
 
 -- numbers
 all_digits : (s : List ℕ) → list_all is_digit s ≡ true → AllDigits 10 s

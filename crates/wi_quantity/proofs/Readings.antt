@@ -4,14 +4,14 @@ use mathlib.Core.Path.{ap₂}
 use Rattle.std.proofs.lemmas.Bool.{and_parts}
 use Rattle.std.specs.List.{list_all}
 use Rattle.wi_text.specs.Characters.{is_space}
-use Rattle.wi_text.specs.Machines.{at_end}
+use Rattle.wi_text.specs.private.Machines.{at_end}
 use Rattle.wi_text.specs.Spelling.{Spells}
 use Rattle.wi_quantity.specs.declared.written.Class.TheVariants as class
 use Rattle.wi_quantity.specs.declared.written.Stage.{Stage}
 use Rattle.wi_quantity.specs.declared.written.Stage.TheVariants.{Start, AfterNumber, AfterStar, InWord, AfterWord}
 use Rattle.wi_quantity.specs.Written.{Token, Word, spelling, IsToken, WrittenPart, WrittenTerm, Written, number_tokens, part_tokens, more_parts, more_terms, Reads, parts_of, terms_of}
-use Rattle.wi_quantity.specs.Syntax.{next_stage, may_end, stop}
-use Rattle.wi_quantity.specs.Noting.{Noted, nothing, part_of, end_part, end_term, note_all}
+use Rattle.wi_quantity.specs.private.Syntax.{next_stage, may_end, stop}
+use Rattle.wi_quantity.specs.private.Noting.{Noted, nothing, part_of, end_part, end_term, note_all}
 use Rattle.wi_quantity.proofs.Leads.{Leads, Ends, ends_along, leads_first, spaces_lead, spaced_mark, word_leads, number_leads, given_some}
 use Rattle.wi_quantity.proofs.Classes.{space_class}
 

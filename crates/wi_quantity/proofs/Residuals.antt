@@ -3,14 +3,14 @@ use Rattle.std.proofs.Common.{◌≡◌, ℕ, ◌+◌, ◌≤◌, true, false, n
 use Rattle.std.proofs.lemmas.Bool.Decides.{nat_tests}
 use Rattle.std.specs.List.{list_all}
 use Rattle.wi_text.specs.Characters.{is_space, is_digit, is_letter, is_number, begins_with}
-use Rattle.wi_text.specs.Machines.{at_end, goes_on}
+use Rattle.wi_text.specs.private.Machines.{at_end, goes_on}
 use Rattle.wi_text.specs.Spelling.{Spells}
 use Rattle.wi_quantity.specs.declared.written.Class.{Class}
 use Rattle.wi_quantity.specs.declared.written.Class.TheVariants as class
 use Rattle.wi_quantity.specs.declared.written.Stage.{Stage}
 use Rattle.wi_quantity.specs.declared.written.Stage.TheVariants.{Start, AfterZero, InNumber, AfterNumber, AfterStar, InWord, AfterWord}
 use Rattle.wi_quantity.specs.Written.{Token, Word, Number, Star, Plus, Comma, spelling, IsToken, WrittenPart, WrittenTerm, part_tokens, more_parts, more_terms, IsWeightsText}
-use Rattle.wi_quantity.specs.Syntax.{class_of, next_stage, may_end, stop}
+use Rattle.wi_quantity.specs.private.Syntax.{class_of, next_stage, may_end, stop}
 use Rattle.wi_quantity.proofs.Classes.{is_of, not_digit, not_letter, nonzero_digit}
 
 abbrev Spelled : ℕ → List Token → List ℕ → Type 0

@@ -14,7 +14,7 @@ use Rattle.wi_net.specs.Net.{Net, all_links, is_link, links_where, risk_of, risk
 use Rattle.wi_net.specs.Network.{IsNetwork, is_risk_named}
 use Rattle.wi_net.proofs.SetLemmas.{has-all_links, same_link, all_at}
 use Rattle.wi_net.proofs.CountLemmas.{filter_same, risk_named}
-use Rattle.wi_quantity.specs.Shares.{has_risk, is_new, is_reached, risks_of}
+use Rattle.wi_quantity.specs.private.Shares.{has_risk, is_new, is_reached, risks_of}
 
 filter_filter : (p q : LinkId → Bool) (s : List LinkId) → filter q (filter p s) ≡ filter (λ e. p e && q e) s
 filter_filter p q [] = refl

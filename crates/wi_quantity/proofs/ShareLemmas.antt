@@ -13,7 +13,7 @@ use Rattle.wi_world.specs.Runs.{link_share}
 use Rattle.wi_quantity.specs.declared.vector.Part.{Part}
 use Rattle.wi_quantity.specs.declared.share.Shares.{Shares}
 use Rattle.wi_quantity.specs.Weighing.{term_value, term_values, member_share, growth, is_push, is_way_out}
-use Rattle.wi_quantity.specs.Shares.{share_of}
+use Rattle.wi_quantity.specs.private.Shares.{share_of}
 
 -- the value of the term of a number
 abbrev pub value_at : (Quantity → ℕ) → List (List Part) → ℕ → ℕ

@@ -2,14 +2,14 @@
 use Rattle.std.proofs.Common.{◌≡◌, ℕ, ◌+◌, ◌<◌, ◌≤◌, Bool, true, false, ◌↔◌, List, [], ◌∷◌, Option, Some, None, map, refl, arith, ap, ◌∙◌, ◌⊎◌, inl, inr, subst}
 use Rattle.std.specs.Str.{IsCharBoundary, IsUtf8}
 use Rattle.std.proofs.lemmas.Str.{IsCharBoundary-start, IsCharBoundary-after_ascii, IsCharBoundary-from_rest, IsUtf8-drop}
-use Rattle.wi_text.specs.Machines.{at_end, goes_on}
+use Rattle.wi_text.specs.private.Machines.{at_end, goes_on}
 use Rattle.wi_text.specs.Prefixes.{IsFaultAt}
 use Rattle.wi_text.proofs.Stops.{fault_at}
 use Rattle.wi_quantity.specs.declared.written.Stage.{Stage}
 use Rattle.wi_quantity.specs.declared.written.Stage.TheVariants.{Start, AfterZero, InNumber, AfterNumber, AfterStar, InWord, AfterWord}
 use Rattle.wi_quantity.specs.Written.{Written, Reads, IsWeightsText, parts_of, terms_of, WrittenPart}
-use Rattle.wi_quantity.specs.Syntax.{next_stage, next_after, may_end, stop}
-use Rattle.wi_quantity.specs.Noting.{nothing, end_term, note_all}
+use Rattle.wi_quantity.specs.private.Syntax.{next_stage, next_after, may_end, stop}
+use Rattle.wi_quantity.specs.private.Noting.{nothing, end_term, note_all}
 use Rattle.wi_quantity.proofs.Classes.{wide_class, no_next}
 use Rattle.wi_quantity.proofs.Readings.{text_reads}
 use Rattle.wi_quantity.proofs.Residuals.{text_spelled}

@@ -10,10 +10,10 @@ use Rattle.wi_quantity.specs.declared.fault.WeightFault.{WeightFault}
 use Rattle.wi_quantity.specs.declared.fault.WeightFault.TheVariants.{Syntax, UnknownQuantity, TooManyTerms, Coefficient, Memory}
 use Rattle.wi_quantity.specs.Written.{Token, Word, Number, Star, Plus, Comma, spelling, IsToken, WrittenPart, WrittenTerm, Written, number_tokens, part_tokens, more_parts, more_terms, parts_of, terms_of}
 use Rattle.wi_quantity.specs.Faults.{Means, IsFault, unknown_word, too_many, too_large, part_meant, quantity_named}
-use Rattle.wi_quantity.specs.Meaning.{has_number, have_numbers, unknown_among, many_among, is_large, large_among, AreMeant, IsFaultOf}
+use Rattle.wi_quantity.specs.private.Meaning.{has_number, have_numbers, unknown_among, many_among, is_large, large_among, AreMeant, IsFaultOf}
 use Rattle.wi_quantity.specs.declared.written.Stage.TheVariants.{Start}
-use Rattle.wi_quantity.specs.Syntax.{stop}
-use Rattle.wi_quantity.specs.Noting.{nothing, end_term, note_all}
+use Rattle.wi_quantity.specs.private.Syntax.{stop}
+use Rattle.wi_quantity.specs.private.Noting.{nothing, end_term, note_all}
 use Rattle.wi_quantity.proofs.Stopping.{IsNoted, noted_is}
 
 flat_map_map : {X Y Z : Type 0} (f : X → Y) (g : Y → List Z) (xs : List X) → flat_map g (map f xs) ≡ flat_map (λ x. g (f x)) xs

@@ -1,4 +1,5 @@
-//! What is wrong with a weights text.
+//! A text may have several faults, so they have an order, and the first is told. The fault of a word has its byte and a copy of
+//! it, so that it can be told when the text is gone.
 use std::alloc::{AllocError, AllocFailed};
 use thiserror::Error;
 use wi_base::NoMemory;

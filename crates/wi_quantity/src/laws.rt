@@ -1,4 +1,5 @@
-//! What holds of weights texts and of the weights of runs.
+//! That a text is read in one way is shown of the grammar: so an answer of the reader is the only right one, want of memory
+//! apart. What links and hops add is tied to what a whole run weighs, so that a search may add up shares. The laws run no code.
 ghost use Rattle.std.specs.Prelude.{◌≡◌, ◌++◌, ◌∷◌, [], ℕ, List, replicate};
 ghost use Rattle.wi_weight.specs.Weights.{plus};
 ghost use Rattle.wi_net.specs.Net.{Net};

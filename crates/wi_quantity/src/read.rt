@@ -1,10 +1,11 @@
-//! The reader of weights texts.
+//! The form of the whole text comes first, then all words, then all counts, then all numbers: so each kind of fault is told
+//! before any of the next. Terms are held as they are written meanwhile, and gone over once for each kind.
 ghost use Rattle.std.specs.Prelude.{◌≡◌, true, nat_lt, None, Some, map, filter_map, option_map, IfOk, IfErr, if◌then◌else◌};
 ghost use Rattle.std.specs.List.{list_all};
 ghost use Rattle.std.specs.Str.Parse.{digits_value};
 ghost use Rattle.wi_text.specs.Characters.{is_number};
 ghost use Rattle.wi_quantity.specs.Faults.{Means, IsFault, quantity_named};
-ghost use Rattle.wi_quantity.specs.Meaning.{has_number, have_numbers, unknown_in, unknown_among, many_among, large_in, large_among, AreMeant, IsFaultOf, IsUnknown, small_meant};
+ghost use Rattle.wi_quantity.specs.private.Meaning.{has_number, have_numbers, unknown_in, unknown_among, many_among, large_in, large_among, AreMeant, IsFaultOf, IsUnknown, small_meant};
 
 use crate::fault::WeightFault;
 use crate::vector::{Part, Vector};

@@ -1,4 +1,6 @@
-//! What links and hops weigh.
+//! What a run weighs is the sum of what its first link and its hops add, each known by itself, so that a rule can carry its
+//! share. Nothing here takes memory: where the count of risk groups before a group isn't given, each member before is compared
+//! with those before it.
 ghost use Rattle.std.specs.Prelude.{◌≡◌, ◌<◌, ◌≤◌, ◌+◌, ◌^◌, ◌++◌, ◌∷◌, [], true, length, option_map, slice_get};
 ghost use Rattle.std.specs.Option.{option_map_or};
 ghost use Rattle.std.specs.List.{filter, list_all, list_any};
@@ -8,7 +10,7 @@ ghost use Rattle.wi_world.specs.declared.run.Quantity.{Quantity};
 ghost use Rattle.wi_world.specs.Runs.{link_share};
 ghost use Rattle.wi_quantity.specs.Vectors.{is_term};
 ghost use Rattle.wi_quantity.specs.Weighing.{components, term_value, term_values, growth, is_push, is_pop, member_in, first_weight, hop_weight, entry_weight, is_way_out, has_way_out};
-ghost use Rattle.wi_quantity.specs.Shares.{share_of, has_risk, is_new, risks_of};
+ghost use Rattle.wi_quantity.specs.private.Shares.{share_of, has_risk, is_new, risks_of};
 
 use crate::vector::{Part, Vector};
 use wi_base::Listed;

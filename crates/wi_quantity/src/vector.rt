@@ -1,4 +1,5 @@
-//! Weight vectors.
+//! Only the reader of texts makes a vector that has terms, so its limits hold wherever one comes from: five terms of five
+//! parts, with numbers of 16 bits. So the value of a term fits in 64 bits, without a test.
 ghost use Rattle.std.specs.Prelude.{◌≡◌, [], true, length};
 ghost use Rattle.wi_quantity.specs.Vectors.{is_vector};
 

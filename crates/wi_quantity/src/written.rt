@@ -1,7 +1,8 @@
-//! Weights texts as they are written.
+//! A machine with seven stages reads a text byte by byte, so that where it stops being a weights text is known before anything
+//! is made of it. What it says is noted in a second walk: each word and number is copied, with the byte where it starts.
 ghost use Rattle.std.specs.Prelude.{◌≡◌, ◌<◌, [], IfOk, OnOk, option_map};
-ghost use Rattle.wi_quantity.specs.Syntax.{class_of, next_stage, may_end, stop};
-ghost use Rattle.wi_quantity.specs.Noting.{with_letter, noted, note_all, part_of, end_part, end_term, nothing};
+ghost use Rattle.wi_quantity.specs.private.Syntax.{class_of, next_stage, may_end, stop};
+ghost use Rattle.wi_quantity.specs.private.Noting.{with_letter, noted, note_all, part_of, end_part, end_term, nothing};
 ghost use Rattle.wi_quantity.specs.declared.written.Stage.TheVariants.{Start};
 
 use std::alloc::Global;
@@ -71,7 +72,7 @@ pub struct WrittenPart {
 
 impl Model for WrittenPart {
     ghost use Rattle.wi_quantity.specs.Written.{WrittenPart};
-    ghost use Rattle.wi_quantity.specs.Noting.{part_of};
+    ghost use Rattle.wi_quantity.specs.private.Noting.{part_of};
 
     ghost Value = { WrittenPart };
 
@@ -200,7 +201,7 @@ struct Noted {
 }
 
 impl Model for Noted {
-    ghost use Rattle.wi_quantity.specs.Noting.{Noted};
+    ghost use Rattle.wi_quantity.specs.private.Noting.{Noted};
 
     ghost Value = { Noted };
 

@@ -14,7 +14,7 @@ use Rattle.wi_syntax.specs.declared.written.Written.{Written}
 use Rattle.wi_syntax.specs.declared.written.End.{End}
 use Rattle.wi_syntax.specs.declared.written.End.TheVariants as end
 use Rattle.wi_query.specs.Unknown.{Kind, ARouter, AnInterface, Unknown, unless, unknown_in_end, unknown_in_sign, unknown_in_label_atom, unknown_in_link_atom, unknown_in_known, unknown_in}
-use Rattle.wi_query.specs.Names.{IsFirst}
+use Rattle.wi_query.specs.private.Names.{IsFirst}
 use Rattle.wi_query.specs.declared.fault.QueryFault.{QueryFault}
 use Rattle.wi_query.specs.declared.fault.QueryFault.TheVariants.{Memory, UnknownLabel, UnknownRouter, UnknownInterface}
 

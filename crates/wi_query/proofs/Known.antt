@@ -11,7 +11,7 @@ use Rattle.wi_syntax.specs.declared.written.Pair.{Pair}
 use Rattle.wi_query.specs.Sets.{is_link_between}
 use Rattle.wi_query.specs.Unknown.{unknown_in_known}
 use Rattle.wi_query.specs.Meaning.{known_links}
-use Rattle.wi_query.specs.Names.{ends_meant, is_between}
+use Rattle.wi_query.specs.private.Names.{ends_meant, is_between}
 use Rattle.wi_query.specs.declared.names.Ends.{Ends}
 use Rattle.wi_query.proofs.Marks.{any_between_pairs, pairs_known}
 

@@ -25,7 +25,7 @@ use Rattle.wi_syntax.specs.declared.written.End.TheVariants as end
 use Rattle.wi_syntax.specs.declared.written.Pair.{Pair}
 use Rattle.wi_query.specs.Sets.{SymbolMarks, holds, among, class_named, is_label_named, is_label_of, is_router_named, is_interface_named, comes_from, goes_to, is_link_between, is_link_of}
 use Rattle.wi_query.specs.Unknown.{Unknown, ALabel, ARouter, AnInterface, unless, unknown_label, unknown_in_label_atom, unknown_in_end, unknown_in_pair, unknown_in_link_atom}
-use Rattle.wi_query.specs.Names.{label_meant, is_meant, end_meant, ends_meant, is_at, is_between, marks_of, chosen, label_marks, link_marks}
+use Rattle.wi_query.specs.private.Names.{label_meant, is_meant, end_meant, ends_meant, is_at, is_between, marks_of, chosen, label_marks, link_marks}
 use Rattle.wi_query.specs.declared.names.LabelName.{LabelName}
 use Rattle.wi_query.specs.declared.names.LabelName.TheVariants.{OfClass, One}
 use Rattle.wi_query.specs.declared.names.EndMeant.{EndMeant}

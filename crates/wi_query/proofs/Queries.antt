@@ -16,15 +16,14 @@ use Rattle.wi_syntax.specs.declared.written.Sign.{Sign}
 use Rattle.wi_syntax.specs.declared.written.Written.{Written}
 use Rattle.wi_syntax.specs.Trees.{IsExpression}
 use Rattle.wi_query.specs.Sets.{SymbolMarks, holds, is_label_of, is_link_of}
-use Rattle.wi_query.specs.Compiled.{IsCompiled, IsWithin}
+use Rattle.wi_query.specs.Compiled.{Compiled, HasAutomaton, IsExpressionOver, IsWithin}
 use Rattle.wi_query.specs.Unknown.{unknown_in}
 use Rattle.wi_query.specs.Meaning.{AreSignsOf, known_links, IsQuery}
 use Rattle.wi_query.specs.Faults.{too_many_positions, IsShort, IsFault}
-use Rattle.wi_query.specs.Names.{marks_of}
-use Rattle.wi_query.specs.Parts.{AreParts, HasAutomaton, IsRefusedBound, AreBoundsOf, too_many_in, shared, IsMadeOf, IsWrong}
+use Rattle.wi_query.specs.private.Names.{marks_of}
+use Rattle.wi_query.specs.private.Parts.{AreParts, IsRefusedBound, AreBoundsOf, too_many_in, shared, IsMadeOf, IsWrong}
 use Rattle.wi_query.specs.declared.fault.QueryFault.{QueryFault}
 use Rattle.wi_query.specs.declared.fault.QueryFault.TheVariants.{Memory, TooManyPositions, TooManyFailures, DownAndUp}
-use Rattle.wi_query.specs.declared.expression.Expression.{Expression}
 use Rattle.wi_query.specs.declared.parts.Parts.{Parts}
 use Rattle.wi_query.specs.declared.query.Query.{Query}
 use Rattle.wi_query.proofs.Trees.{any_expression, same_meaning, within_signs, position_count_is}
@@ -46,13 +45,13 @@ link_signs net signs shown r is h =
     subst P is (same_meaning (λ a x. holds (marks_of (length net.links) (is_link_of net a)) x) (is_link_of net) shown r (holds_link net) h)
 
 -- what is wrong with the bounds comes after the positions
-small_enough : (e : Expression) (r : Regex SymbolMarks) → e.regex ≡ r → HasAutomaton e → nat_lt 512 (position_count r) ≡ false
+small_enough : (e : Compiled) (r : Regex SymbolMarks) → e.regex ≡ r → HasAutomaton e → nat_lt 512 (position_count r) ≡ false
 small_enough e r is h = let P : Regex SymbolMarks → Type 0 = λ s. nat_lt 512 (position_count s) ≡ false in subst P is (le-ltb 512 (position_count e.regex) h.few)
 
-none_too_many : (parts : Parts) (first path last : Expression) → first.regex ≡ parts.first → HasAutomaton first → path.regex ≡ parts.path → HasAutomaton path → last.regex ≡ parts.last → HasAutomaton last → too_many_in parts ≡ None
+none_too_many : (parts : Parts) (first path last : Compiled) → first.regex ≡ parts.first → HasAutomaton first → path.regex ≡ parts.path → HasAutomaton path → last.regex ≡ parts.last → HasAutomaton last → too_many_in parts ≡ None
 none_too_many parts first path last e1 h1 e2 h2 e3 h3 = rw (small_enough first parts.first e1 h1, small_enough path parts.path e2 h2, small_enough last parts.last e3 h3) refl
 
-pub wrong_bounds : (parts : Parts) (number : Named) (first path last : Expression) (f : QueryFault) → first.regex ≡ parts.first → HasAutomaton first → path.regex ≡ parts.path → HasAutomaton path → last.regex ≡ parts.last → HasAutomaton last
+pub wrong_bounds : (parts : Parts) (number : Named) (first path last : Compiled) (f : QueryFault) → first.regex ≡ parts.first → HasAutomaton first → path.regex ≡ parts.path → HasAutomaton path → last.regex ≡ parts.last → HasAutomaton last
     → IsRefusedBound number parts.down parts.up f → IsWrong parts number f
 wrong_bounds parts number first path last (TooManyFailures at) e1 h1 e2 h2 e3 h3 h = (none_too_many parts first path last e1 h1 e2 h2 e3 h3, h.0, h.1)
 wrong_bounds parts number first path last (DownAndUp e) e1 h1 e2 h2 e3 h3 h = (none_too_many parts first path last e1 h1 e2 h2 e3 h3, h.0, h.1)
@@ -91,14 +90,10 @@ query_bounds net w parts query h b = record {
   apart = rw (b.down, b.up) (apart_from_none parts.down parts.up b.apart);
 }
 
-compiled_of : (n : ℕ) (e : Expression) (r : Regex SymbolMarks) → e.regex ≡ r → HasAutomaton e → IsWithin n r → IsCompiled n e
-compiled_of n e r is h within = record {
-  within = (let P : Regex SymbolMarks → Type 0 = IsWithin n in subst P (sym is) within);
-  automaton = h.automaton;
-  few = h.few;
-}
+is_over : (n : ℕ) (e : Compiled) (r : Regex SymbolMarks) → e.regex ≡ r → HasAutomaton e → IsWithin n r → IsExpressionOver n e.regex
+is_over n e r is h within = record { within = (let P : Regex SymbolMarks → Type 0 = IsWithin n in subst P (sym is) within); few = h.few }
 
-signs_of_same : {A : Type 0} (means : A → ℕ → Bool) (signs : List (Sign A)) (e : Expression) (r : Regex SymbolMarks) → e.regex ≡ r → AreSignsOf means signs r → AreSignsOf means signs e.regex
+signs_of_same : {A : Type 0} (means : A → ℕ → Bool) (signs : List (Sign A)) (e : Compiled) (r : Regex SymbolMarks) → e.regex ≡ r → AreSignsOf means signs r → AreSignsOf means signs e.regex
 signs_of_same means signs e r is h = let P : Regex SymbolMarks → Type 0 = λ s. AreSignsOf means signs s in subst P (sym is) h
 
 pub query_is : (net : Net) (text : List ℕ) (w : Written) (parts : Parts) (query : Query) → IsShort text w → unknown_in net w ≡ [] → AreParts net w parts → IsMadeOf parts w.number query → IsQuery net text query
@@ -116,9 +111,9 @@ query_is net text w parts query short known h made = record {
     up = made.bounds.up ∙ h.up;
   };
   keeps = record {
-    first = compiled_of (length net.labels) query.first parts.first made.first made.first_automaton (within_signs (is_label_of net) (length net.labels) w.first parts.first (label_within net) h.first);
-    path = compiled_of (length net.links) query.path parts.path made.path made.path_automaton (within_signs (is_link_of net) (length net.links) w.path parts.path (link_within net) h.path);
-    last = compiled_of (length net.labels) query.last parts.last made.last made.last_automaton (within_signs (is_label_of net) (length net.labels) w.last parts.last (label_within net) h.last);
+    first = is_over (length net.labels) query.first parts.first made.first made.automata.first (within_signs (is_label_of net) (length net.labels) w.first parts.first (label_within net) h.first);
+    path = is_over (length net.links) query.path parts.path made.path made.automata.path (within_signs (is_link_of net) (length net.links) w.path parts.path (link_within net) h.path);
+    last = is_over (length net.labels) query.last parts.last made.last made.automata.last (within_signs (is_label_of net) (length net.labels) w.last parts.last (label_within net) h.last);
     k = made.bounds.few;
     bounds = query_bounds net w parts query h made.bounds;
   };

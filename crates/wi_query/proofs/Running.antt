@@ -4,7 +4,7 @@ use Rattle.std.proofs.lemmas.Bool.{and_parts}
 use Rattle.wi_syntax.specs.declared.written.Sign.{Sign}
 use Rattle.wi_syntax.specs.declared.written.Sign.TheVariants as sign
 use Rattle.wi_syntax.specs.Trees.{Tree, Leaf, Starred, Plussed, Optional, Grouped, Then, Or, AnItem, ASequence, AnExpression, is_tree, signs_of}
-use Rattle.wi_query.specs.Frames.{TreeFrame, TreeReading, empty_frame, sequence_of, finished, with_item, grouped, after_signs, at_start}
+use Rattle.wi_query.specs.private.Frames.{TreeFrame, TreeReading, empty_frame, sequence_of, finished, with_item, grouped, after_signs, at_start}
 
 module _ {A : Type 0} where
   abbrev anything : A → Bool

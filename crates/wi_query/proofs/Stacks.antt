@@ -3,7 +3,7 @@ use Rattle.std.proofs.Common.{◌≡◌, List, [], ◌∷◌, ◌++◌, Option, 
 use Rattle.std.proofs.lemmas.List.{same_from_push}
 use Rattle.wi_regex.specs.declared.regex.Regex.{Regex}
 use Rattle.wi_query.specs.Sets.{SymbolMarks}
-use Rattle.wi_query.specs.Frames.{SetTree, TreeFrame, TreeReading, finished, with_item, grouped, closed, IsPart, IsFrame, AreFrames, IsReading}
+use Rattle.wi_query.specs.private.Frames.{SetTree, TreeFrame, TreeReading, finished, with_item, grouped, closed, IsPart, IsFrame, AreFrames, IsReading}
 use Rattle.wi_query.specs.declared.tree.Frame.{Frame}
 use Rattle.wi_query.specs.declared.tree.Reading.{Reading}
 

@@ -11,7 +11,7 @@ use Rattle.wi_query.specs.Sets.{SymbolMarks, holds}
 use Rattle.wi_query.specs.Compiled.{IsWithin}
 use Rattle.wi_query.specs.Meaning.{IsRegexOf, AreSignsOf}
 use Rattle.wi_query.specs.Faults.{atom_count}
-use Rattle.wi_query.specs.Frames.{SetTree, TreeReading, finished, set_sign, set_signs, after_sign, after_signs, at_start, IsPart, IsReading}
+use Rattle.wi_query.specs.private.Frames.{SetTree, TreeReading, finished, set_sign, set_signs, after_sign, after_signs, at_start, IsPart, IsReading}
 use Rattle.wi_query.specs.declared.tree.Reading.{Reading}
 use Rattle.wi_query.proofs.Lists.{left_at, nothing_after}
 use Rattle.wi_query.proofs.Running.{tree_is_read}

@@ -3,10 +3,19 @@ use Rattle.std.specs.Prelude.{ℕ, ◌≤◌, ◌<◌, ◌≡◌, true}
 use Rattle.wi_regex.specs.declared.regex.Regex.{Regex}
 use Rattle.wi_regex.specs.declared.regex.Regex.TheVariants as regex
 use Rattle.wi_regex.specs.Matching.{position_count}
-use Rattle.wi_nfa.specs.Rows.{automaton_of}
+use Rattle.wi_nfa.specs.Rows.{Tables, automaton_of}
 use Rattle.wi_nfa.specs.Automata.{IsPositionAutomaton}
-use Rattle.wi_query.specs.declared.expression.Expression.{Expression}
 use Rattle.wi_query.specs.Sets.{SymbolMarks, holds}
+
+-- an expression, and an automaton as tables
+pub record Compiled : Type 0 where
+  pub regex : Regex SymbolMarks
+  pub nfa : Tables SymbolMarks
+
+-- the automaton is the expression's own, and has no more states than an automaton may have
+pub record HasAutomaton (e : Compiled) : Type 0 where
+  pub automaton : IsPositionAutomaton holds e.regex (automaton_of holds e.nfa)
+  pub few : position_count e.regex ≤ 512
 
 -- the symbols of each atom are below a number
 abbrev pub IsWithin : ℕ → Regex SymbolMarks → Type 0
@@ -17,8 +26,7 @@ IsWithin n (regex.Star' p a) = IsWithin n a
 IsWithin n (regex.Plus' p a) = IsWithin n a
 IsWithin n (regex.Maybe' p a) = IsWithin n a
 
--- an expression over so many symbols: its automaton is its own, and has no more states than an automaton may have
-pub record IsCompiled (symbols : ℕ) (e : Expression) : Type 0 where
-  pub within : IsWithin symbols e.regex
-  pub automaton : IsPositionAutomaton holds e.regex (automaton_of holds e.nfa)
-  pub few : position_count e.regex ≤ 512
+-- an expression over so many symbols, with no more positions than an automaton may have
+pub record IsExpressionOver (symbols : ℕ) (r : Regex SymbolMarks) : Type 0 where
+  pub within : IsWithin symbols r
+  pub few : position_count r ≤ 512

@@ -3,6 +3,4 @@ pub mod Compiled
 pub mod Unknown
 pub mod Meaning
 pub mod Faults
-pub mod Names
-pub mod Frames
-pub mod Parts
+pub mod private

@@ -15,7 +15,7 @@ use Rattle.wi_syntax.specs.declared.written.Written.{Written}
 use Rattle.wi_syntax.specs.Trees.{Tree, Leaf, Starred, Plussed, Optional, Grouped, Then, Or, AnExpression, is_tree, signs_of}
 use Rattle.wi_syntax.specs.Grammar.{Reads}
 use Rattle.wi_query.specs.declared.query.Query.{Query}
-use Rattle.wi_query.specs.Compiled.{IsCompiled}
+use Rattle.wi_query.specs.Compiled.{IsExpressionOver, HasAutomaton}
 use Rattle.wi_query.specs.Sets.{SymbolMarks, holds, is_label_of, is_link_of, is_link_between}
 use Rattle.wi_query.specs.Unknown.{unknown_in}
 
@@ -48,11 +48,17 @@ pub record Means (net : Net) (w : Written) (query : Query) : Type 0 where
   pub down : query.bounds.down ≡ known_links net w.down
   pub up : query.bounds.up ≡ known_links net w.up
 
--- what each query of a network keeps
+-- what every query keeps: each expression has its automaton
+pub record HasAutomata (query : Query) : Type 0 where
+  pub first : HasAutomaton query.first
+  pub path : HasAutomaton query.path
+  pub last : HasAutomaton query.last
+
+-- what each query that is read of a network keeps: it speaks of the network's labels and links alone
 pub record IsQueryOf (net : Net) (query : Query) : Type 0 where
-  pub first : IsCompiled (length net.labels) query.first
-  pub path : IsCompiled (length net.links) query.path
-  pub last : IsCompiled (length net.labels) query.last
+  pub first : IsExpressionOver (length net.labels) query.first.regex
+  pub path : IsExpressionOver (length net.links) query.path.regex
+  pub last : IsExpressionOver (length net.labels) query.last.regex
   pub k : query.bounds.k ≤ 65535
   pub bounds : AreBounds net query.bounds
 

@@ -1,9 +1,10 @@
-//! The sets that atoms mean.
+//! An atom becomes a mark for each of the network's labels or links, so that whoever asks later has one look-up and no names.
+//! To make it, the names of the atom are gone over for each of these.
 ghost use Rattle.std.specs.Prelude.{◌≡◌, true, [], length, replicate, List, IfOk, IfErr};
 ghost use Rattle.wi_net.specs.Net.{Net};
 ghost use Rattle.wi_query.specs.Sets.{SymbolMarks, is_label_of, is_link_of};
 ghost use Rattle.wi_query.specs.Unknown.{Unknown, unknown_in_label_atom, unknown_in_link_atom};
-ghost use Rattle.wi_query.specs.Names.{IsFirst, marks_of, chosen, label_marks, link_marks};
+ghost use Rattle.wi_query.specs.private.Names.{IsFirst, marks_of, chosen, label_marks, link_marks};
 
 use crate::fault::QueryFault;
 use crate::names::{

@@ -1,4 +1,5 @@
-//! What may fail, as a query says.
+//! Links that are known down or up are widened to whole risk groups here, so that nobody later has to think of a part of one.
+//! Each list is found by going over all links of the network, and over its pairs for each.
 ghost use Rattle.std.specs.Prelude.{◌≡◌, ◌≤◌, [], IfOk, IfErr};
 ghost use Rattle.std.specs.Str.Parse.{digits_value};
 ghost use Rattle.wi_syntax.specs.Grammar.{IsNumber};
@@ -6,8 +7,8 @@ ghost use Rattle.std.specs.List.{list_any};
 ghost use Rattle.wi_net.specs.Net.{links_where};
 ghost use Rattle.wi_query.specs.Unknown.{unknown_in_known};
 ghost use Rattle.wi_query.specs.Meaning.{known_links};
-ghost use Rattle.wi_query.specs.Names.{IsFirst, is_between};
-ghost use Rattle.wi_query.specs.Parts.{IsTooMany, AreBoundsOf, IsRefusedBound, shared};
+ghost use Rattle.wi_query.specs.private.Names.{IsFirst, is_between};
+ghost use Rattle.wi_query.specs.private.Parts.{IsTooMany, AreBoundsOf, IsRefusedBound, shared};
 
 use crate::fault::QueryFault;
 use crate::names::{Ends, any_between, pairs_named};

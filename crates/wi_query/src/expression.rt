@@ -1,4 +1,6 @@
-//! Expressions with their automata.
+//! What a query asks is said by an expression, and rules are made by its automaton, so both are kept in one type, which also
+//! keeps that they belong together: whoever has a query needs no condition for that. Each has sets of its own, so an atom's set
+//! is there twice.
 ghost use Rattle.std.specs.Prelude.{◌≡◌, ◌<◌, ◌^◌, true, [], IfOk, IfErr};
 ghost use Rattle.std.specs.List.{flat_map};
 ghost use Rattle.wi_regex.specs.Matching.{position_count};
@@ -6,26 +8,65 @@ ghost use Rattle.wi_syntax.specs.Trees.{IsExpression};
 ghost use Rattle.wi_query.specs.Sets.{holds};
 ghost use Rattle.wi_query.specs.Unknown.{unknown_in_sign};
 ghost use Rattle.wi_query.specs.Meaning.{AreSignsOf};
-ghost use Rattle.wi_query.specs.Names.{IsFirst};
-ghost use Rattle.wi_query.specs.Frames.{set_sign};
-ghost use Rattle.wi_query.specs.Parts.{HasAutomaton, IsOver};
+ghost use Rattle.wi_query.specs.private.Names.{IsFirst};
+ghost use Rattle.wi_query.specs.private.Frames.{set_sign};
+ghost use Rattle.wi_query.specs.private.Parts.{IsOver};
+ghost use Rattle.wi_query.specs.Compiled.{HasAutomaton};
 
 use crate::atoms::Meant;
 use crate::fault::QueryFault;
 use crate::symbols::SymbolSet;
 use crate::tree::Reading;
 use std::alloc::Global;
+use std::marker::Model;
 use wi_net::Network;
 use wi_nfa::{Nfa, NfaRefused};
 use wi_regex::Regex;
 use wi_syntax::Sign;
 
-/// An expression over the labels or the links of a network, and its position automaton: state i stands for atom i of the
-/// text, from 1.
+/// An expression over the labels or the links of a network, with its own automaton.
 #[derive(Drop)]
 pub struct Expression {
-    pub regex: Regex<SymbolSet>,
-    pub nfa: Nfa<SymbolSet>,
+    regex: Regex<SymbolSet>,
+    nfa: Nfa<SymbolSet>,
+}
+
+impl Model for Expression {
+    ghost use Rattle.std.specs.Coded.{codes};
+    ghost use Rattle.wi_regex.specs.contracts.regex.Regex as expressions;
+    ghost use Rattle.wi_query.specs.contracts.symbols.SymbolSet as sets;
+    ghost use Rattle.wi_query.specs.Compiled.{Compiled, HasAutomaton};
+
+    ghost Value = { Compiled };
+
+    ghost coded = { Prim.hlevel (codes, (expressions.the_row sets.the_row).coded) };
+
+    ghost view = { λ e. record { regex = e.regex; nfa = e.nfa } };
+
+    ghost invariant = { λ e. HasAutomaton (record { regex = e.regex; nfa = e.nfa }) };
+}
+
+impl Expression {
+    /// The expression.
+    pub fn regex(&self) -> &Regex<SymbolSet>
+        ensures { result.now ≡ self.now.regex }
+    {
+        &self.regex
+    }
+
+    /// Its position automaton: state i stands for atom i of the text, from 1.
+    pub fn nfa(&self) -> &Nfa<SymbolSet>
+        ensures { result.now ≡ self.now.nfa }
+    {
+        &self.nfa
+    }
+
+    /// What every expression keeps: the automaton is its own, and has at most 513 states.
+    pub fn keeps(&self)
+        ensures { HasAutomaton self.now }
+    {
+        let _regex = &self.regex;
+    }
 }
 
 // A sign with the set of its atom, or the first name in it that the network hasn't.

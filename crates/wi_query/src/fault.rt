@@ -1,4 +1,6 @@
-//! What is wrong with a query's text.
+//! A text may have several faults, so they have an order, and the first is told. The fault of a name has its byte and a copy of
+//! it, so that it can be told when the text is gone; that of a link has its number, and its name has to be asked from the
+//! network.
 use std::alloc::{AllocError, AllocFailed};
 use thiserror::Error;
 use wi_base::NoMemory;

@@ -1,4 +1,5 @@
-//! What holds of the texts of queries.
+//! A query has no fault, and the signs of an expression are those of one tree: so what a text asks doesn't depend on how it is
+//! read. The laws run no code.
 ghost use Rattle.std.specs.Prelude.{◌≡◌, ℕ, List, [], true};
 ghost use Rattle.wi_syntax.specs.Trees.{Tree, AnExpression, is_tree, signs_of};
 ghost use Rattle.wi_net.specs.Net.{Net};

@@ -1,11 +1,12 @@
-//! Names looked up in a network, each once, and what they stand for.
+//! Each name is looked up once, before any label or link is held against it: what it stands for is then a number, a class, or
+//! all. So an atom compares numbers, and not texts. It takes a small value for each name of a list.
 ghost use Rattle.std.specs.Prelude.{◌≡◌, ◌<◌, ◌&&◌, ◌∷◌, [], Some, None, IfOk, IfErr, OnErr, length, string_bytes};
 ghost use Rattle.std.specs.List.{flat_map, list_any};
 ghost use Rattle.wi_labels.specs.Header.{same_class};
 ghost use Rattle.wi_net.specs.Finding.{find_router};
 ghost use Rattle.wi_query.specs.Sets.{class_of_word, class_named};
 ghost use Rattle.wi_query.specs.Unknown.{ARouter, unknown_label, unknown_in_end, unknown_in_pair};
-ghost use Rattle.wi_query.specs.Names.{IsFirst, label_meant, is_meant, finder, end_meant, ends_meant, is_at, is_between, AreMeant};
+ghost use Rattle.wi_query.specs.private.Names.{IsFirst, label_meant, is_meant, finder, end_meant, ends_meant, is_at, is_between, AreMeant};
 
 use crate::fault::QueryFault;
 use std::alloc::Global;

@@ -1,9 +1,10 @@
-//! The parts of a query, once its names are known.
+//! All names are looked up in the order of the text, before any automaton is made, since an unknown name is told before an
+//! expression that is too large. So all three expressions are there before the first automaton.
 ghost use Rattle.std.specs.Prelude.{◌≡◌, [], IfOk, IfErr};
 ghost use Rattle.wi_syntax.specs.Grammar.{IsWritten};
 ghost use Rattle.wi_query.specs.Unknown.{unknown_in};
-ghost use Rattle.wi_query.specs.Names.{IsFirst};
-ghost use Rattle.wi_query.specs.Parts.{AreParts, AreCounted};
+ghost use Rattle.wi_query.specs.private.Names.{IsFirst};
+ghost use Rattle.wi_query.specs.private.Parts.{AreParts, AreCounted};
 
 use crate::bounds::known_links;
 use crate::expression::regex_of;

@@ -1,9 +1,11 @@
-//! Queries.
+//! The steps stand in the order in which faults are told: length, form, names, positions, number, links known both down and up.
+//! A text of more than 4,096 bytes is refused before it is read, which bounds how many atoms there are and how deep expressions
+//! nest.
 ghost use Rattle.std.specs.Prelude.{◌≡◌, false, nat_lt, length, IfOk, IfErr};
 ghost use Rattle.wi_syntax.specs.Grammar.{IsNumber};
-ghost use Rattle.wi_query.specs.Meaning.{IsQuery};
+ghost use Rattle.wi_query.specs.Meaning.{HasAutomata, IsQuery};
 ghost use Rattle.wi_query.specs.Faults.{IsShort, IsFault};
-ghost use Rattle.wi_query.specs.Parts.{AreCounted, IsMadeOf, IsWrong, IsNoQuery};
+ghost use Rattle.wi_query.specs.private.Parts.{AreCounted, IsMadeOf, IsWrong, IsNoQuery};
 
 use crate::bounds::bounds_of;
 use crate::expression::{Expression, compiled};
@@ -26,6 +28,17 @@ pub struct Query {
     pub last: Expression,
     /// How many risk groups may fail besides those known to be down, and which are known down or up.
     pub bounds: Bounds,
+}
+
+impl Query {
+    /// What every query keeps: each expression has its automaton.
+    pub fn keeps(&self)
+        ensures { HasAutomata self.now }
+    {
+        self.first.keeps();
+        self.path.keeps();
+        self.last.keeps();
+    }
 }
 
 // The query as it is written.

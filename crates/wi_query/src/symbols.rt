@@ -1,4 +1,5 @@
-//! Sets of labels and of links.
+//! A mark for each label or link makes each test one look-up, whatever the atom was. It takes a byte for each, so up to 20,000
+//! bytes a set.
 ghost use Rattle.std.specs.Prelude.{◌≡◌};
 
 use std::alloc::Global;

@@ -1,8 +1,10 @@
-//! From the signs of an expression to the expression. Brackets may nest by the thousand, so they are kept on a stack.
+//! Brackets may nest by the thousand, so what stands before each open one lies on a stack of our own. The last item is kept
+//! apart from the sequence before it, since signs for repetition bind to the item alone. So each sign is taken once, without
+//! recursion.
 ghost use Rattle.std.specs.Prelude.{Option, Some, IfOk};
 ghost use Rattle.wi_syntax.specs.declared.written.Sign.{Sign};
 ghost use Rattle.wi_query.specs.Sets.{SymbolMarks};
-ghost use Rattle.wi_query.specs.Frames.{SetTree, TreeFrame, TreeReading, empty_frame, joined, finished, with_item, with_bar, with_repeat, repeated, after_sign, at_start, IsPart, IsFrame, IsReading};
+ghost use Rattle.wi_query.specs.private.Frames.{SetTree, TreeFrame, TreeReading, empty_frame, joined, finished, with_item, with_bar, with_repeat, repeated, after_sign, at_start, IsPart, IsFrame, IsReading};
 
 use crate::symbols::SymbolSet;
 use std::alloc::Global;

@@ -6,9 +6,9 @@ use Rattle.std.proofs.lemmas.List.Elements.{Contains-append_left}
 use Rattle.wi_pds.specs.declared.rule.Rule.{Rule}
 use Rattle.wi_reduce.specs.Least.{IsReached}
 use Rattle.wi_reduce.specs.declared.search.Search.{Search}
-use Rattle.wi_reduce.specs.Worklists.{seconds, IsTaken}
-use Rattle.wi_reduce.specs.Searches.{noted_all, pair_followed, pop_followed, swap_followed}
-use Rattle.wi_reduce.specs.Kept.{Work, Has, Done, followed, IsSearch, IsStep}
+use Rattle.wi_reduce.specs.private.Worklists.{seconds, IsTaken}
+use Rattle.wi_reduce.specs.private.Searches.{noted_all, pair_followed, pop_followed, swap_followed}
+use Rattle.wi_reduce.specs.private.Kept.{Work, Has, Done, followed, IsSearch, IsStep}
 use Rattle.wi_reduce.proofs.Keys.{IsMore, more_self, more_added_all, has_added_all, only_added_all, taken_kept, taken_was, was_found, taken_length, has_second, from_second, has_mapped, from_mapped}
 use Rattle.wi_reduce.proofs.Steps.{AreMore, more_noted_all, AreKept, are_noted, within_noted_all, moves_more, moves_taken, joins_step, Follows, heads_step}
 

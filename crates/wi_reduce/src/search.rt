@@ -1,7 +1,9 @@
-//! The search for what a pushdown system may reach.
+//! A rule that takes its symbol off leads to whatever may stand below, which may come up later. So what rules do to a symbol is
+//! kept beside the pairs: the states that they go to without it, and the symbols that they put in its place. Rules themselves
+//! aren't kept, since many of them do the same.
 ghost use Rattle.std.specs.Prelude.{◌≡◌, ◌<◌, ◌^◌, [], OnOk};
-ghost use Rattle.wi_reduce.specs.Kept.{followed, Has};
-ghost use Rattle.wi_reduce.specs.Searches.{noted, noted_all, swap_noted, pair_followed, pop_followed, swap_followed};
+ghost use Rattle.wi_reduce.specs.private.Kept.{followed, Has};
+ghost use Rattle.wi_reduce.specs.private.Searches.{noted, noted_all, swap_noted, pair_followed, pop_followed, swap_followed};
 
 use crate::relation::Relation;
 use crate::worklist::{Worklist, add_above, add_below};

@@ -1,8 +1,10 @@
-//! Keys that were found, of which some are still to be followed.
+//! Whether a key was found is asked by hashing, and what is still to be followed is the end of one list, so nothing is moved or
+//! taken out. Each key is kept twice for that. Keys come in the order in which they were found, and are sorted once, at the
+//! end.
 ghost use Rattle.std.specs.Prelude.{◌≡◌, ◌++◌, ◌∷◌, [], List, length, map, nat_eq, OnOk, MatchOption};
 ghost use Rattle.std.specs.List.Sorted.{IsPermutation, IsSorted};
 ghost use Rattle.std.specs.List.{IsDistinct};
-ghost use Rattle.wi_reduce.specs.Worklists.{added, added_all, eq_by_parts, IsTaken};
+ghost use Rattle.wi_reduce.specs.private.Worklists.{added, added_all, eq_by_parts, IsTaken};
 
 use std::alloc::Global;
 use std::collections::HashSet;

@@ -1,4 +1,5 @@
-//! Symbols, and sets of them.
+//! An atom is a set and not one symbol, so that "any label" is one position of an expression and not thousands. What a set is,
+//! is left to whoever makes expressions. An automaton has copies of them, so beside its expression each set is there twice.
 ghost use Rattle.std.specs.Prelude.{◌≡◌, ℕ, Bool, IfOk};
 
 use crate::no_memory::NoMemory;

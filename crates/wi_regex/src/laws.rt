@@ -1,4 +1,5 @@
-//! What holds of matching.
+//! A star is defined by a list of words, none of them empty, so that the definition goes by the expression alone and nothing
+//! has to decrease besides. That it splits off a front is a law, then. It runs no code.
 ghost use Rattle.std.specs.Prelude.{◌≡◌, ℕ, List, [], ◌↔◌, ◌⊎◌};
 ghost use Rattle.wi_regex.specs.declared.regex.Regex.{Regex};
 ghost use Rattle.wi_regex.specs.Matching.{Matches, IsRepeated, SplitsOff};

@@ -1,4 +1,5 @@
-//! Want of memory.
+//! Want of memory has a type of its own here, since this crate stands on no other of the repository. Callers turn it into
+//! theirs.
 use std::alloc::{AllocError, AllocFailed};
 
 /// Memory ran out. What was lent is as before, unless the call says otherwise.

@@ -1,4 +1,6 @@
-//! Expressions.
+//! `+` and `?` have cases of their own: with `+` written by concatenation and star, each one would double the positions below
+//! it. An expression is a tree with a box for each part, and calls go down it by recursion, so they need a stack that grows
+//! with its depth.
 ghost use Rattle.std.specs.Prelude.{◌≡◌, [], ◌↔◌, IsTrue, min};
 ghost use Rattle.wi_regex.specs.Matching.{Matches, position_count, is_empty_word_in};
 

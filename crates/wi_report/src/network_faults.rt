@@ -1,4 +1,5 @@
-//! The texts of faults of network files.
+//! Texts are made where they are printed and not where a fault is found, so that finding one takes no memory. A place is
+//! written as the way to it in the file, since that is what whoever mends the file looks for.
 ghost use Rattle.std.specs.Prelude.{◌≡◌, ◌++◌, codes, IfOk, OnOk};
 ghost use Rattle.std.specs.Fmt.{decimal};
 ghost use Rattle.wi_report.specs.NetworkFaults.{fault_text, at_text, place_text, part_text, element_text, group_text, member_text, class_word, link_word, table_word, member_word};

@@ -1,4 +1,5 @@
-//! The texts of faults of queries.
+//! A fault has a link as a number, so these texts need the network, unlike those of other faults. Names have quotation marks
+//! where a query needs them, as in a report.
 ghost use Rattle.std.specs.Prelude.{◌≡◌, ◌++◌, codes, IfOk, OnOk};
 ghost use Rattle.std.specs.Fmt.{decimal};
 ghost use Rattle.wi_text.specs.Names.{shown};

@@ -1,4 +1,5 @@
-//! The texts for queries that aren't decided.
+//! Of a weight that doesn't fit only the first component that is too large is told, with its place among the terms that were
+//! asked for. The place of the effort is right behind these, since nobody asked for the others that there is room for.
 ghost use Rattle.std.specs.Prelude.{◌≡◌, ◌∷◌, [], ◌++◌, IfOk, OnOk};
 ghost use Rattle.wi_report.specs.RefusedDecisions.{component_shown, overflow_from, overflow_text, too_long_text};
 

@@ -1,4 +1,6 @@
-//! The report on an answer.
+//! A report is made whole before anything is printed, so that a refusal on the way puts nothing on standard output: it costs
+//! the report in memory. What the run needs is gathered anew and not copied from the verdict, so that `failed:` and `needs:`
+//! are one definition; that is one more walk along the run.
 ghost use Rattle.std.specs.Prelude.{◌≡◌, ◌++◌, ◌+◌, true, length, slice_get, codes, Some, None, IfOk, OnOk, IfSome};
 ghost use Rattle.std.specs.List.{list_all};
 ghost use Rattle.std.specs.Option.{option_map};

@@ -1,4 +1,5 @@
-//! The texts of faults of scripts.
+//! A fault of a script is told by its line and by constant words, so that neither the script nor the network is asked for its
+//! text. Operations count from 1 here, as groups and members do in scripts.
 ghost use Rattle.std.specs.Prelude.{◌≡◌, ◌++◌, ◌+◌, codes, IfOk, OnOk};
 ghost use Rattle.std.specs.Fmt.{decimal};
 ghost use Rattle.wi_report.specs.States.{cause_words, script_fault_text};

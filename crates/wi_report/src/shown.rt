@@ -1,4 +1,6 @@
-//! How links and headers are written.
+//! Links and headers are written in one way wherever they are printed, so that a line can be found again in another output. A
+//! name has quotation marks where a query would need them, so that it can be copied into one. Each name is one look-up by its
+//! number.
 ghost use Rattle.std.specs.Prelude.{◌≡◌, ◌<◌, ◌++◌, [], true, length, drop, codes, slice_index_or, OnOk};
 ghost use Rattle.std.specs.List.{list_all};
 ghost use Rattle.std.specs.Fmt.{decimal};

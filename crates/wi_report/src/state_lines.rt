@@ -1,4 +1,5 @@
-//! The lines of states.
+//! A state begins as a link of a report's run does, so that a script that is played can be held against an answer. All states
+//! are one text, so that they can be printed in one call: it has each header and each set of failed links in full.
 ghost use Rattle.std.specs.Prelude.{◌≡◌, ◌++◌, true, codes, IfOk, OnOk};
 ghost use Rattle.std.specs.List.{list_all};
 ghost use Rattle.wi_script.specs.Plays.{is_state_of};

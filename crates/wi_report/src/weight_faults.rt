@@ -1,4 +1,5 @@
-//! The texts of faults of weights texts.
+//! A word may stand in a text twice, so a fault is told by its byte, as in a query. Where there are too many terms or parts, no
+//! byte is at fault, and their count is told. The text itself isn't asked for.
 ghost use Rattle.std.specs.Prelude.{◌≡◌, ◌++◌, codes, IfOk, OnOk};
 ghost use Rattle.std.specs.Fmt.{decimal};
 ghost use Rattle.wi_text.specs.Names.{shown};

@@ -8,7 +8,7 @@ use Rattle.wi_net.specs.LinkSet.{has}
 use Rattle.wi_net.specs.Tables.{all_members}
 use Rattle.wi_net.specs.Net.{links_where}
 use Rattle.wi_weight.specs.Weights.{plus}
-use Rattle.wi_weight.specs.Sums.{length-plus}
+use Rattle.wi_weight.specs.lemmas.Sums.{length-plus}
 use Rattle.wi_pds.specs.declared.rule.Word2.{Word2}
 use Rattle.wi_pds.specs.declared.rule.Word2.TheVariants.{Empty, One}
 use Rattle.wi_pds.specs.Runs.{symbols}

@@ -2,7 +2,7 @@
 use Rattle.std.proofs.Common.{◌≡◌, ℕ, zero, suc, List, [], ◌∷◌, ◌++◌, length, refl, sym, ◌∙◌, subst}
 use Rattle.wi_labels.specs.Header.{Entry}
 use Rattle.wi_weight.specs.Weights.{plus}
-use Rattle.wi_weight.specs.Sums.{zero_plus}
+use Rattle.wi_weight.specs.lemmas.Sums.{zero_plus}
 use Rattle.wi_pds.specs.declared.rule.Word2.{Word2}
 use Rattle.wi_pds.specs.Runs.{symbols}
 use Rattle.wi_rules.specs.declared.spot.Origin.{Origin}

@@ -10,7 +10,7 @@ use Rattle.wi_net.specs.declared.parts.LinkId.{LinkId}
 use Rattle.wi_net.specs.Net.{Net, labels_known}
 use Rattle.wi_net.specs.Network.{op_known}
 use Rattle.wi_weight.specs.Weights.{plus}
-use Rattle.wi_weight.specs.Sums.{length-plus}
+use Rattle.wi_weight.specs.lemmas.Sums.{length-plus}
 use Rattle.wi_world.specs.declared.run.Step.{Step}
 use Rattle.wi_world.specs.Moves.{Location, moved, is_possible, follows}
 use Rattle.wi_world.specs.Runs.{locations, last_header, sum_over, work}

@@ -9,7 +9,7 @@ use Rattle.wi_net.specs.LinkSet.{has}
 use Rattle.wi_net.specs.Net.{is_link, links_where, label_known, labels_known}
 use Rattle.wi_net.proofs.SetLemmas.{has_where, where_has}
 use Rattle.wi_weight.specs.Weights.{plus}
-use Rattle.wi_weight.specs.Sums.{zero_plus}
+use Rattle.wi_weight.specs.lemmas.Sums.{zero_plus}
 use Rattle.wi_pds.specs.declared.rule.Word2.TheVariants.{One}
 use Rattle.wi_pds.specs.Runs.{symbols}
 use Rattle.wi_rules.specs.declared.spot.Origin.{Origin}

@@ -6,7 +6,7 @@ use Rattle.wi_labels.specs.Header.{Entry, is_valid_header}
 use Rattle.wi_net.specs.LinkSet.{has}
 use Rattle.wi_net.specs.Net.{is_link, labels_known}
 use Rattle.wi_weight.specs.Weights.{plus}
-use Rattle.wi_weight.specs.Sums.{length-plus}
+use Rattle.wi_weight.specs.lemmas.Sums.{length-plus}
 use Rattle.wi_world.specs.declared.run.Run.{Run}
 use Rattle.wi_world.specs.Moves.{is_possible, is_start, follows, is_possible_run}
 use Rattle.wi_world.specs.Moving.{IsMovingRun}

@@ -1,4 +1,5 @@
-//! Laws: what the rules mean. Each holds for every network, every query and every weighing, and runs no code.
+//! The rules are over any automata, weights and bounds, so what they mean is shown once, whoever makes them and however they
+//! are listed. Each law holds for every encoding, and runs no code.
 ghost use Rattle.std.specs.Prelude.{◌≡◌, ◌∷◌, [], ℕ, List, Some};
 ghost use Rattle.wi_pds.specs.declared.rule.Rule.{Rule};
 ghost use Rattle.wi_pds.specs.Runs.{Pops, PopRun, run_weight};

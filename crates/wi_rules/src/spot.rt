@@ -1,4 +1,6 @@
-//! States of the pushdown system, and what its rules stand for.
+//! First header, links and last header are read one after the other, so a spot has the state of one automaton alone, and their
+//! states add up where they would multiply. Between the operations of a member there are spots, too, since a rule writes two
+//! symbols at most.
 use wi_labels::Label;
 use wi_net::LinkId;
 use wi_world::Step;

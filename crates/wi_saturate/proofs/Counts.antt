@@ -15,11 +15,12 @@ use Rattle.std.proofs.Math.Seq.{take-append_seam}
 use borrow.Author.Tests.{eq-eqb}
 use Rattle.wi_saturate.specs.declared.index.Index.{Index}
 use Rattle.wi_saturate.specs.declared.waits.Waits.{Waits}
-use Rattle.wi_saturate.specs.Chains.{ChainsView, IsEnd}
-use Rattle.wi_saturate.specs.Indexes.{ruled_from, ruled, IsIndexed}
-use Rattle.wi_saturate.specs.Searches.{IsFirst, AreRowPlaces, AreWaits}
+use Rattle.wi_saturate.specs.private.Chains.{ChainsView, IsEnd}
+use Rattle.wi_saturate.specs.private.Indexes.{ruled_from, ruled, IsIndexed}
+use Rattle.wi_saturate.specs.private.Searches.{IsFirst, AreRowPlaces, AreWaits}
 use Rattle.wi_saturate.proofs.Pushes.{one_begins, two_begins, head_of}
-use Rattle.wi_saturate.specs.Tries.{is_from, rows_from, ways, candidates, all_ways, pop_ways, one_ways, begun, all_begun, of_head, IsMore}
+use Rattle.wi_saturate.specs.Tries.{is_from, rows_from, ways, candidates}
+use Rattle.wi_saturate.specs.private.Tries.{all_ways, pop_ways, one_ways, begun, all_begun, of_head, IsMore}
 
 drop_all : {X : Type 0} (xs : List X) → drop (length xs) xs ≡ []
 drop_all [] = refl

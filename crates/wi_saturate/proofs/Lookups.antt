@@ -19,7 +19,7 @@ use Rattle.wi_pds.proofs.PairOrder.{pair_exact, pair_tied, search_finds}
 use Rattle.wi_saturate.specs.declared.rules.Ruled.{Ruled}
 use Rattle.wi_saturate.specs.declared.index.Index.{Index}
 use Rattle.wi_saturate.specs.LeastTables.{AreReady}
-use Rattle.wi_saturate.specs.Indexes.{ruled_from, ruled, BeginsAt, AreBegins, IsIndex}
+use Rattle.wi_saturate.specs.private.Indexes.{ruled_from, ruled, BeginsAt, AreBegins, IsIndex}
 use Rattle.wi_saturate.proofs.Elements.{same_some, get_from_contains, contains_from_get, some_there}
 
 -- an element of two lists, one behind the other, is of one of them

@@ -6,8 +6,8 @@ use Rattle.wi_pds.specs.declared.rule.Word2.TheVariants.{Empty, One, Two}
 use Rattle.wi_saturate.specs.declared.row.Row.{Row}
 use Rattle.wi_saturate.specs.declared.heap.Candidate.{Candidate}
 use Rattle.wi_saturate.specs.declared.rules.Ruled.{Ruled}
-use Rattle.wi_saturate.specs.Candidates.{IsRowBy}
-use Rattle.wi_saturate.specs.Searches.{IsSum, IsSound, EndsIn, IsRowOf}
+use Rattle.wi_saturate.specs.private.Candidates.{IsRowBy}
+use Rattle.wi_saturate.specs.private.Searches.{IsSum, IsSound, EndsIn, IsRowOf}
 use Rattle.wi_saturate.proofs.Elements.{same_item, read_there, got_there}
 use Rattle.wi_saturate.proofs.RuleRows.{row_with, row_empty, row_one, row_two}
 use Rattle.std.proofs.lemmas.Option.{slice_get-get_or, slice_get_within}

@@ -5,7 +5,7 @@ use Rattle.std.proofs.Common.{sym, ap, ◌∙◌, subst, inl, inr, arith}
 use Rattle.std.proofs.lemmas.List.Sorted.{Contains-permutation, IsPermutation-sym}
 use Rattle.std.proofs.lemmas.Option.{slice_get_within, slice_get_read}
 use Rattle.wi_weight.specs.Weights.{EachBelow, plus}
-use Rattle.wi_weight.specs.Sums.{each_below_more, each_below_plus}
+use Rattle.wi_weight.specs.lemmas.Sums.{each_below_more, each_below_plus}
 use Rattle.wi_pds.specs.declared.rule.Word2.{Word2}
 use Rattle.wi_pds.specs.declared.rule.Word2.TheVariants.{Empty, One, Two}
 use Rattle.wi_saturate.specs.declared.row.Row.{Row}
@@ -14,12 +14,12 @@ use Rattle.wi_saturate.specs.declared.rules.Ruled.{Ruled}
 use Rattle.wi_saturate.specs.declared.index.Index.{Index}
 use Rattle.wi_saturate.specs.declared.waits.Wait.{Wait}
 use Rattle.wi_saturate.specs.declared.waits.Waits.{Waits}
-use Rattle.wi_saturate.specs.Chains.{ChainsView}
-use Rattle.wi_saturate.specs.Candidates.{AllFit}
-use Rattle.wi_saturate.specs.Indexes.{IsPlace, BeginsAt, IsIndexed}
+use Rattle.wi_saturate.specs.private.Chains.{ChainsView}
+use Rattle.wi_saturate.specs.private.Candidates.{AllFit}
+use Rattle.wi_saturate.specs.private.Indexes.{IsPlace, BeginsAt, IsIndexed}
 use Rattle.wi_saturate.specs.declared.turn.Turn.{Turn}
-use Rattle.wi_saturate.specs.Searches.{ArePair, IsSum, IsSound, Has, Adds, IsFirst, IsOne, IsTwo, HasOne, HasTwo, AreWaits, AreRowPlaces}
-use Rattle.wi_saturate.specs.Turns.{heads_of, rules_of, rows_of, IsTurn, IsFirstOf, ArePushed}
+use Rattle.wi_saturate.specs.private.Searches.{ArePair, IsSum, IsSound, Has, Adds, IsFirst, IsOne, IsTwo, HasOne, HasTwo, AreWaits, AreRowPlaces}
+use Rattle.wi_saturate.specs.private.Turns.{heads_of, rules_of, rows_of, IsTurn, IsFirstOf, ArePushed}
 use Rattle.wi_saturate.proofs.Lookups.{once}
 use Rattle.wi_saturate.proofs.Elements.{same_some, get_from_contains, contains_from_get, read_there, got_there, some_there}
 

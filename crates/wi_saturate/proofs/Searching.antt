@@ -20,14 +20,14 @@ use Rattle.wi_saturate.specs.declared.index.Index.{Index}
 use Rattle.wi_saturate.specs.declared.waits.Wait.{Wait}
 use Rattle.wi_saturate.specs.declared.waits.Waits.{Waits}
 use Rattle.wi_saturate.specs.declared.search.Search.{Search}
-use Rattle.wi_saturate.specs.Chains.{ChainsView}
+use Rattle.wi_saturate.specs.private.Chains.{ChainsView}
 use Rattle.wi_saturate.specs.Rows.{summaries, Settled}
-use Rattle.wi_saturate.specs.Candidates.{BestAtMost, IsBeaten, IsOpen, IsCandidate, IsSeen}
-use Rattle.wi_saturate.specs.Indexes.{IsIndex}
-use Rattle.wi_saturate.specs.Searches.{ArePair, IsSum, Has, Adds, HasOne, HasTwo, HasPops, IsKept, IsKeptRule, AreRowPlaces, AreWaits, HasWait, EndsIn, EndsThere, IsRowOf, IsSearch}
+use Rattle.wi_saturate.specs.private.Candidates.{BestAtMost, IsBeaten, IsOpen, IsCandidate, IsSeen}
+use Rattle.wi_saturate.specs.private.Indexes.{IsIndex}
+use Rattle.wi_saturate.specs.private.Searches.{ArePair, IsSum, Has, Adds, HasOne, HasTwo, HasPops, IsKept, IsKeptRule, AreRowPlaces, AreWaits, HasWait, EndsIn, EndsThere, IsRowOf, IsSearch}
 use Rattle.std.specs.List.{sum_by}
 use Rattle.std.proofs.lemmas.List.Sums.{sum_by-append}
-use Rattle.wi_saturate.specs.Tries.{of_head, all_begun, begun, IsMore}
+use Rattle.wi_saturate.specs.private.Tries.{of_head, all_begun, begun, IsMore}
 use Rattle.wi_saturate.proofs.Counts.{sum_same, sum_both, begun_more}
 use Rattle.wi_saturate.proofs.Elements.{same_some, same_item, get_push, get_before, get_last, contains_from_get, some_there, false_when}
 use Rattle.wi_saturate.proofs.Lookups.{ruled_named, ruled_all, once}

@@ -8,8 +8,8 @@ use Rattle.std.proofs.lemmas.List.Elements.{All-head, All-tail}
 use Rattle.std.proofs.lemmas.Option.{get_or_from_slice_get}
 use Rattle.wi_saturate.specs.declared.rules.Ruled.{Ruled}
 use Rattle.wi_saturate.specs.declared.rules.SmallRule.{SmallRule}
-use Rattle.wi_saturate.specs.Rulings.{RulesView}
-use Rattle.wi_saturate.specs.SmallRules.{shown, IsWithin}
+use Rattle.wi_saturate.specs.private.Rulings.{RulesView}
+use Rattle.wi_saturate.specs.private.SmallRules.{shown, IsWithin}
 
 -- the rule that is kept so, with its head's numbers and its weight written out
 abbrev made : {W : Type 0} → SmallRule → ℕ × ℕ → W → Ruled W

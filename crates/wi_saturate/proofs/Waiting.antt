@@ -8,7 +8,7 @@ use Rattle.wi_saturate.specs.declared.row.Row.{Row}
 use Rattle.wi_saturate.specs.declared.rules.Ruled.{Ruled}
 use Rattle.wi_saturate.specs.declared.waits.Wait.{Wait}
 use Rattle.wi_saturate.specs.declared.waits.Waits.{Waits}
-use Rattle.wi_saturate.specs.Searches.{IsFirst, IsWait, AreWaits, HasWait}
+use Rattle.wi_saturate.specs.private.Searches.{IsFirst, IsWait, AreWaits, HasWait}
 use Rattle.wi_saturate.proofs.Elements.{same_item, get_push, get_before, get_last, some_there, got_there, contains_from_get}
 
 -- the rule that was read writes what the one that stands there does

@@ -1,14 +1,6 @@
 pub mod Rows
-pub mod Candidates
 pub mod LeastTables
 pub mod Refusals
-pub mod Chains
-pub mod WaitLists
 pub mod Heaps
-pub mod Rulings
-pub mod SmallRules
-pub mod Indexes
-pub mod Searches
 pub mod Tries
-pub mod Turns
-pub mod Questions
+pub mod private

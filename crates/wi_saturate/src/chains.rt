@@ -1,6 +1,8 @@
-//! Items that stand at places, each item a number from 0.
+//! A list for each place would be an allocation for each. Here all items are in one list, each with the item before it at its
+//! place: that takes a number for each place and a pair for each item, and the items of a place are gone over from the last to
+//! the first.
 ghost use Rattle.std.specs.Prelude.{◌≡◌, ◌+◌, ◌<◌, [], ◌∷◌, ◌++◌, ℕ, IfOk, OnOk, Some, slice_get, length};
-ghost use Rattle.wi_saturate.specs.Chains.{ChainsView, IsEnd};
+ghost use Rattle.wi_saturate.specs.private.Chains.{ChainsView, IsEnd};
 
 use crate::pairs::Pairs;
 use std::alloc::Global;
@@ -18,7 +20,7 @@ pub(crate) struct Chains {
 
 impl Model for Chains {
     ghost use Rattle.std.specs.Prelude.{map, length};
-    ghost use Rattle.wi_saturate.specs.Chains.{ChainsView, AreEnds, AreLinks};
+    ghost use Rattle.wi_saturate.specs.private.Chains.{ChainsView, AreEnds, AreLinks};
 
     ghost Value = { ChainsView };
 

@@ -1,11 +1,12 @@
-//! The rules of all heads, and where to look for those that a row can go into.
+//! The rules that may use a row are those that lead to its head, so these lie in one chain, and no others are looked at. It
+//! takes all rules of listed heads in one list, and a look-up of a head, by halves, for each rule that is added.
 ghost use Rattle.std.specs.Prelude.{◌≡◌, ◌+◌, ◌<◌, ◌^◌, ◌++◌, ◌∷◌, ℕ, OnOk, IfOk, MatchOption, Some, slice_get, length, []};
 ghost use Rattle.std.specs.List.{All, Contains};
 ghost use Rattle.std.specs.List.Sorted.{IsStrictlySortedBy};
 ghost use Rattle.wi_pds.specs.Pairs.{pair_cmp};
 ghost use Rattle.wi_pds.specs.Rules.{IsOf};
 ghost use Rattle.wi_saturate.specs.LeastTables.{AreReady};
-ghost use Rattle.wi_saturate.specs.Indexes.{ruled_from, BeginsAt, IsPlace, AreBegins, IsIndex};
+ghost use Rattle.wi_saturate.specs.private.Indexes.{ruled_from, BeginsAt, IsPlace, AreBegins, IsIndex};
 
 use crate::chains::Chains;
 use crate::rules::{Ruled, Rules};

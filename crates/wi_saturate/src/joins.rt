@@ -1,12 +1,15 @@
-//! Candidates of rules and rows.
+//! What a rule makes of rows is pushed in the turn of the last of these rows, so that it comes once. A turn goes over the rules
+//! that lead to its row's head, what waits for that head, and the rows that are there already for what begins to wait: over
+//! nothing else.
 ghost use Rattle.std.specs.Prelude.{◌≡◌, ◌+◌, ◌<◌, ◌≤◌, ◌==◌, ℕ, OnOk, length, drop, Some, slice_get};
 ghost use Rattle.std.specs.List.{sum_by, count_by};
 ghost use Rattle.wi_saturate.specs.declared.row.Row.{Row};
 ghost use Rattle.wi_saturate.specs.declared.rules.Ruled.{Ruled};
 ghost use Rattle.wi_saturate.specs.declared.waits.Wait.{Wait};
-ghost use Rattle.wi_saturate.specs.Tries.{rows_from, one_ways, of_head};
-ghost use Rattle.wi_saturate.specs.Searches.{IsOne, IsTwo, HasOne, HasTwo};
-ghost use Rattle.wi_saturate.specs.Turns.{heads_of, rules_of, rows_of, IsTurn, IsFirstOf, ArePlaced, AreWaiting, ArePushed};
+ghost use Rattle.wi_saturate.specs.Tries.{rows_from};
+ghost use Rattle.wi_saturate.specs.private.Tries.{one_ways, of_head};
+ghost use Rattle.wi_saturate.specs.private.Searches.{IsOne, IsTwo, HasOne, HasTwo};
+ghost use Rattle.wi_saturate.specs.private.Turns.{heads_of, rules_of, rows_of, IsTurn, IsFirstOf, ArePlaced, AreWaiting, ArePushed};
 
 use crate::chains::Chains;
 use crate::heap::{Candidate, Heap};

@@ -1,4 +1,5 @@
-//! Lists of pairs of numbers, narrow as long as they fit.
+//! Pairs of numbers of 32 bits take half the bytes of whole ones, and there may be millions of them. From the first number on
+//! that has more bits, pairs are kept whole, so that none is refused. It costs a test at each look-up.
 ghost use Rattle.std.specs.Prelude.{◌≡◌, ◌<◌, ◌++◌, ◌∷◌, [], OnErr, OnOk, length, slice_index_or};
 
 use std::alloc::Global;
@@ -14,7 +15,7 @@ pub(crate) struct Pairs {
 
 impl Model for Pairs {
     ghost use Rattle.std.specs.Prelude.{◌++◌};
-    ghost use Rattle.wi_saturate.specs.Chains.{PairsView};
+    ghost use Rattle.wi_saturate.specs.private.Chains.{PairsView};
 
     ghost Value = { PairsView };
 

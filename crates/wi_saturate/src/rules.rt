@@ -4,7 +4,7 @@ ghost use Rattle.std.specs.Prelude.{◌≡◌, ◌<◌, ◌++◌, ◌∷◌, [],
 ghost use Rattle.std.specs.List.{Contains};
 ghost use Rattle.std.specs.List.Sorted.{IsStrictlySortedBy};
 ghost use Rattle.wi_pds.specs.Pairs.{pair_cmp};
-ghost use Rattle.wi_saturate.specs.Rulings.{RulesView};
+ghost use Rattle.wi_saturate.specs.private.Rulings.{RulesView};
 
 use std::alloc::Global;
 use std::cmp::Ordering;
@@ -48,11 +48,11 @@ pub(crate) struct Rules<'a, W> {
 impl<'a, W> Model for Rules<'a, W> {
     ghost use Rattle.std.specs.Prelude.{map};
     ghost use Rattle.std.specs.List.{All};
-    ghost use Rattle.wi_saturate.specs.Rulings.{RulesView};
+    ghost use Rattle.wi_saturate.specs.private.Rulings.{RulesView};
 
     ghost Value = { RulesView W };
 
-    ghost use Rattle.wi_saturate.specs.SmallRules.{shown, IsWithin};
+    ghost use Rattle.wi_saturate.specs.private.SmallRules.{shown, IsWithin};
 
     ghost view = { λ s. record { heads = s.heads.now; items = map (shown s.heads.now s.weights.items s.unit) s.small.items } };
 

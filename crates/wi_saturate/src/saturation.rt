@@ -1,13 +1,16 @@
-//! Saturation.
+//! A sum weighs no less than its parts, so nothing that is made later is lighter than what was settled, and each row is least.
+//! So the search may end at the goal's row, at the cut, or at the first weight that doesn't fit. It keeps all rules of listed
+//! heads, all rows, what waits and the candidates that weren't taken.
 ghost use Rattle.std.specs.Prelude.{◌≡◌, ℕ, [], ◌+◌, ◌≤◌, true, false, IsSomeAnd, IfOk, IfErr, option_map, length};
 ghost use Rattle.std.specs.List.{Contains};
 ghost use Rattle.wi_weight.specs.Weights.{AtMost};
 ghost use Rattle.wi_pds.specs.Closed.{AreClosed, Within};
 ghost use Rattle.wi_saturate.specs.Rows.{IsFor};
 ghost use Rattle.wi_saturate.specs.LeastTables.{AreReady, IsLeastTable};
-ghost use Rattle.wi_saturate.specs.Tries.{candidates, all_ways};
-ghost use Rattle.wi_saturate.specs.Searches.{IsSearch};
-ghost use Rattle.wi_saturate.specs.Questions.{IsAsked};
+ghost use Rattle.wi_saturate.specs.Tries.{candidates};
+ghost use Rattle.wi_saturate.specs.private.Tries.{all_ways};
+ghost use Rattle.wi_saturate.specs.private.Searches.{IsSearch};
+ghost use Rattle.wi_saturate.specs.private.Questions.{IsAsked};
 ghost use Rattle.wi_saturate.specs.Refusals.{IsRefusal};
 
 use crate::index::Index;

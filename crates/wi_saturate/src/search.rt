@@ -1,11 +1,13 @@
-//! The lightest row that may be settled next, by a heap of candidates.
+//! Whether a summary is settled is asked when a candidate is taken and not when it is pushed, since only then all lighter rows
+//! are there. So heavier ways to a summary stay on the heap until then, and are left out. A summary is looked for along the
+//! rows of its head.
 ghost use Rattle.std.specs.Prelude.{◌≡◌, option_map, ◌+◌, ◌<◌, ◌≤◌, take, ◌++◌, ◌∷◌, ℕ, [], OnOk, IfOk, IfSome, IsTrue, ◌↔◌, Some, slice_get, length};
 ghost use Rattle.wi_saturate.specs.declared.rules.Ruled.{Ruled};
-ghost use Rattle.wi_saturate.specs.Candidates.{IsCandidate, IsSeen};
-ghost use Rattle.wi_saturate.specs.Indexes.{IsIndex};
-ghost use Rattle.wi_saturate.specs.Tries.{pop_ways, all_ways};
-ghost use Rattle.wi_saturate.specs.Searches.{Adds, IsSound, IsRowOf, IsSearch, IsBehind, HasPops, EndsThere};
-ghost use Rattle.wi_saturate.specs.Turns.{heads_of, rules_of, rows_of, IsTurn};
+ghost use Rattle.wi_saturate.specs.private.Candidates.{IsCandidate, IsSeen};
+ghost use Rattle.wi_saturate.specs.private.Indexes.{IsIndex};
+ghost use Rattle.wi_saturate.specs.private.Tries.{pop_ways, all_ways};
+ghost use Rattle.wi_saturate.specs.private.Searches.{Adds, IsSound, IsRowOf, IsSearch, IsBehind, HasPops, EndsThere};
+ghost use Rattle.wi_saturate.specs.private.Turns.{heads_of, rules_of, rows_of, IsTurn};
 
 use crate::chains::Chains;
 use crate::heap::{Candidate, Heap};

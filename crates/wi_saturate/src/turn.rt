@@ -1,4 +1,5 @@
-//! Turns.
+//! All that is read in a turn is one value, so that what holds of it is one condition and not one for each part. Its parts are
+//! lent, and it takes no memory.
 use crate::index::Index;
 use crate::row::Row;
 

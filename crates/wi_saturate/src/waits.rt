@@ -1,10 +1,12 @@
-//! Rules of two symbols that wait for rows for the second.
+//! A rule that writes two symbols needs a row for the second from where that for the first ends, and such rows may come later.
+//! So the rule and its first row wait at the place of that head. Each that waits takes two pairs of numbers, and it stays,
+//! since more rows may come.
 ghost use Rattle.std.specs.Prelude.{◌≡◌, ◌<◌, ◌≤◌, ◌++◌, ◌∷◌, ℕ, OnOk, IfOk, [], length, Some, slice_get, slice_index_or};
 ghost use Rattle.std.specs.List.{sum_by};
 ghost use Rattle.wi_saturate.specs.declared.row.Row.{Row};
 ghost use Rattle.wi_saturate.specs.declared.rules.Ruled.{Ruled};
-ghost use Rattle.wi_saturate.specs.Tries.{begun, IsMore};
-ghost use Rattle.wi_saturate.specs.Turns.{heads_of, rules_of, rows_of, IsTurn, IsFirstOf, AreWaiting, KeepsWaits, WaitsFor};
+ghost use Rattle.wi_saturate.specs.private.Tries.{begun, IsMore};
+ghost use Rattle.wi_saturate.specs.private.Turns.{heads_of, rules_of, rows_of, IsTurn, IsFirstOf, AreWaiting, KeepsWaits, WaitsFor};
 
 use crate::chains::Chains;
 use crate::pairs::Pairs;
@@ -30,7 +32,7 @@ pub(crate) struct WaitList {
 
 impl Model for WaitList {
     ghost use Rattle.std.specs.Prelude.{map};
-    ghost use Rattle.wi_saturate.specs.WaitLists.{WaitsView, wait_of};
+    ghost use Rattle.wi_saturate.specs.private.WaitLists.{WaitsView, wait_of};
 
     ghost Value = { WaitsView };
 

@@ -7,7 +7,7 @@ use Rattle.std.proofs.lemmas.List.{append_assoc, append-nil}
 use Rattle.std.proofs.lemmas.Option.{none-some, same_Some, cond_some, option_and_then_some}
 use Rattle.wi_text.specs.Characters.{is_digit, is_number}
 use Rattle.wi_script.specs.Lines.{Name, Joint, Line, At, Fail, Repair, Hop, joint_bytes, labels_bytes, line_bytes, is_name, is_joint, is_count, is_line}
-use Rattle.wi_script.specs.Reading.{past, until, joint_in, whole_in, labels_in, placed_in, start_in, hop_in, event_in}
+use Rattle.wi_script.specs.private.Reading.{past, until, joint_in, whole_in, labels_in, placed_in, start_in, hop_in, event_in}
 use Rattle.wi_script.proofs.Fronts.{past_some, until_on, until_some, all_other}
 use Rattle.wi_script.proofs.Names.{IsRead, joint_some, joint_on}
 use Rattle.wi_script.proofs.Labels.{AreRead, labels_some, labels_on, label_ends, option_map_some}

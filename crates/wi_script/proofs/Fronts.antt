@@ -12,7 +12,7 @@ use Rattle.std.proofs.lemmas.Option.{none-some, same_Some}
 use Rattle.std.proofs.lemmas.Str.{IsCharBoundary-start, IsCharBoundary-after_ascii}
 use Rattle.std.proofs.lemmas.Str.Pattern.{split_parts}
 use Rattle.wi_text.specs.Characters.{is_plain, begins_with}
-use Rattle.wi_script.specs.Reading.{past, until}
+use Rattle.wi_script.specs.private.Reading.{past, until}
 
 -- ---- a front
 

@@ -19,7 +19,7 @@ use Rattle.wi_world.specs.declared.world.Event.{Event}
 use Rattle.wi_world.specs.declared.world.Event.TheVariants as event
 use Rattle.wi_script.specs.Lines.{Name, Joint, Line, At, Fail, Repair, Hop}
 use Rattle.wi_script.specs.Scripts.{link_of, label_of, number_of, event_of, Begins, AllHappen}
-use Rattle.wi_script.specs.Meaning.{AreEvents}
+use Rattle.wi_script.specs.private.Meaning.{AreEvents}
 use Rattle.wi_script.specs.Known.{is_known_event, IsScriptOf}
 
 -- a link that leaves a router is the network's

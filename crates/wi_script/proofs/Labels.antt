@@ -8,7 +8,7 @@ use Rattle.std.proofs.lemmas.Option.{none-some, same_Some, option_and_then_some}
 use Rattle.wi_text.specs.Characters.{is_plain, begins_with}
 use Rattle.wi_script.specs.Lines.{Name, name_bytes, labels_bytes, is_name}
 use Rattle.wi_script.specs.declared.line.WrittenName.{WrittenName}
-use Rattle.wi_script.specs.Reading.{name_of, names_of, past, label_in, labels_in}
+use Rattle.wi_script.specs.private.Reading.{name_of, names_of, past, label_in, labels_in}
 use Rattle.wi_script.proofs.Fronts.{past_some}
 use Rattle.wi_script.proofs.Names.{IsRead, name_some, name_on}
 

@@ -9,8 +9,8 @@ use Rattle.wi_script.specs.Lines.{is_line}
 use Rattle.wi_script.specs.Scripts.{label_of}
 use Rattle.wi_script.specs.declared.line.WrittenName.{WrittenName}
 use Rattle.wi_script.specs.declared.line.WrittenEvent.{WrittenEvent}
-use Rattle.wi_script.specs.Reading.{name_of, names_of, line_of, event_in}
-use Rattle.wi_script.specs.Meaning.{header_of}
+use Rattle.wi_script.specs.private.Reading.{name_of, names_of, line_of, event_in}
+use Rattle.wi_script.specs.private.Meaning.{header_of}
 use Rattle.wi_script.proofs.Forms.{event_some}
 
 -- ---- labels

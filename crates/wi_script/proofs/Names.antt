@@ -9,7 +9,7 @@ use Rattle.std.proofs.lemmas.Option.{none-some, same_Some, cond_some, option_and
 use Rattle.wi_net.specs.Names.{is_name_byte}
 use Rattle.wi_text.specs.Characters.{is_plain, begins_with}
 use Rattle.wi_script.specs.Lines.{Name, Joint, name_bytes, joint_bytes, is_name, is_joint}
-use Rattle.wi_script.specs.Reading.{past, until, quoted, quoted_in, plain_in, name_in, joint_in}
+use Rattle.wi_script.specs.private.Reading.{past, until, quoted, quoted_in, plain_in, name_in, joint_in}
 use Rattle.wi_script.proofs.Fronts.{past_some, until_on, until_some, all_other, prefix_on, prefix_all}
 
 -- what was read is written so, and it is of its form

@@ -13,8 +13,8 @@ use Rattle.wi_script.specs.declared.script.ScriptRefused.{ScriptRefused}
 use Rattle.wi_script.specs.declared.script.ScriptRefused.TheVariants.{BadLine, Memory}
 use Rattle.wi_script.specs.Lines.{Name, Joint, Line, At, Fail, Repair, Hop, IsLine}
 use Rattle.wi_script.specs.Scripts.{link_of, label_of, event_of, Begins, IsCause}
-use Rattle.wi_script.specs.Reading.{start_in, event_in}
-use Rattle.wi_script.specs.Meaning.{header_of, begin_of, valid, start_read, event_read, Starts, IsStart, IsEvent}
+use Rattle.wi_script.specs.private.Reading.{start_in, event_in}
+use Rattle.wi_script.specs.private.Meaning.{header_of, begin_of, valid, start_read, event_read, Starts, IsStart, IsEvent}
 use Rattle.wi_script.proofs.Labels.{option_map_some}
 use Rattle.wi_script.proofs.Forms.{IsWritten, start_some, start_on, event_some, event_on, one_way}
 

@@ -27,7 +27,7 @@ use Rattle.wi_trace.proofs.FaultLemmas.{hop_agrees}
 use Rattle.wi_trace.specs.declared.cause.Cause.{Cause}
 use Rattle.wi_trace.specs.Replays.{hop_cause}
 use Rattle.wi_script.specs.Plays.{only, states_of, hop_words, event_cause, first_refused, is_state_of}
-use Rattle.wi_script.specs.Moments.{is_moment_of, Happens}
+use Rattle.wi_script.specs.private.Moments.{is_moment_of, TakesPlace}
 
 -- a link's risk group, link by link
 in_group : (net : Net) (d e : LinkId) → has (widened net (d ∷ [])) e ≡ (is_link net e && same_risk net d e)
@@ -88,14 +88,14 @@ state_of net now h = (and_parts (is_state_of net now) (is_rising now.fails) h).0
 
 -- ---- the three events
 
-pub fails_already : (net : Net) (k : ℕ) (old new : State) (d : LinkId) → has old.fails d ≡ true → Happens net k old (Fail d) new (Some script.AlreadyFailed)
+pub fails_already : (net : Net) (k : ℕ) (old new : State) (d : LinkId) → has old.fails d ≡ true → TakesPlace net k old (Fail d) new (Some script.AlreadyFailed)
 fails_already net k old new d h = (rw h refl, rw (h, and_no (is_link net d)) refl)
   where
     and_no : (b : Bool) → (b && false) ≡ false
     and_no true = refl
     and_no false = refl
 
-pub fails_too_many : (net : Net) (k : ℕ) (old new : State) (d : LinkId) → has old.fails d ≡ false → k ≤ risk_count net old.fails → Happens net k old (Fail d) new (Some script.TooManyFailed)
+pub fails_too_many : (net : Net) (k : ℕ) (old new : State) (d : LinkId) → has old.fails d ≡ false → k ≤ risk_count net old.fails → TakesPlace net k old (Fail d) new (Some script.TooManyFailed)
 fails_too_many net k old new d h many = (rw (h, full) refl, rw (h, outside_none old.fails, full, and_no (is_link net d)) refl)
   where
     and_no : (b : Bool) → (((b && true) && true) && false) ≡ false
@@ -106,7 +106,7 @@ fails_too_many net k old new d h many = (rw (h, full) refl, rw (h, outside_none 
     full = grind (arith, nat_tests, many)
 
 pub fails_now : (net : Net) (k : ℕ) (old : State) (left : List LinkId) (d : LinkId) → is_moment_of net old ≡ true → is_link net d ≡ true → has old.fails d ≡ false → risk_count net old.fails < k
-    → left ≡ union old.fails (widened net (d ∷ [])) → Happens net k old (Fail d) (record old { fails = left }) None
+    → left ≡ union old.fails (widened net (d ∷ [])) → TakesPlace net k old (Fail d) (record old { fails = left }) None
 fails_now net k old left d m l h few fails = (rw (h, room) refl, rw (l, h, outside_none old.fails, room) after, moment)
   where
     parts : (is_link net old.link ≡ true) × (labels_known net old.header ≡ true) × (list_all (is_link net) old.fails ≡ true) × (is_rising old.fails ≡ true)
@@ -127,11 +127,11 @@ fails_now net k old left d m l h few fails = (rw (h, room) refl, rw (l, h, outsi
         (ap (list_all (is_link net)) fails_are ∙ where_links net (λ e. has old.fails e || same_risk net d e))
         (ap is_rising fails_are ∙ union_rising (λ e. has old.fails e || same_risk net d e) _)
 
-pub repairs_none : (net : Net) (k : ℕ) (old new : State) (d : LinkId) → has old.fails d ≡ false → Happens net k old (Repair d) new (Some script.NotFailed)
+pub repairs_none : (net : Net) (k : ℕ) (old new : State) (d : LinkId) → has old.fails d ≡ false → TakesPlace net k old (Repair d) new (Some script.NotFailed)
 repairs_none net k old new d h = (rw h refl, rw h refl)
 
 pub repairs_now : (net : Net) (k : ℕ) (old : State) (left : List LinkId) (d : LinkId) → is_moment_of net old ≡ true → has old.fails d ≡ true
-    → left ≡ outside old.fails (widened net (d ∷ [])) → Happens net k old (Repair d) (record old { fails = left }) None
+    → left ≡ outside old.fails (widened net (d ∷ [])) → TakesPlace net k old (Repair d) (record old { fails = left }) None
 repairs_now net k old left d m h fails = (rw h refl, rw h after, moment)
   where
     parts : (is_link net old.link ≡ true) × (labels_known net old.header ≡ true) × (list_all (is_link net) old.fails ≡ true) × (is_rising old.fails ≡ true)
@@ -159,7 +159,7 @@ not_usable net k now step why some = go (is_usable net now.fails (now.link, now.
     go true (Some next) eb eo = let bad : None ≡ Some why = sym ((hop_agrees net now.fails).none (now.link, now.header) step next eb eo) ∙ some in cc
 
 pub hops_now : (net : Net) (k : ℕ) (old : State) (next : Location) (step : Step) → IsNetwork net → is_moment_of net old ≡ true → hop_cause net old.fails (old.link, old.header) step ≡ None → moved net (old.link, old.header) step ≡ Some next
-    → Happens net k old (Hop step) (record { link = next.0; header = next.1; fails = old.fails }) None
+    → TakesPlace net k old (Hop step) (record { link = next.0; header = next.1; fails = old.fails }) None
 hops_now net k old next step n m none led = (rw none refl, rw ((hop_agrees net old.fails).passes (old.link, old.header) step none, led) refl, moment_from net _ known.0 known.1 parts.2 parts.3)
   where
     parts : (is_link net old.link ≡ true) × (labels_known net old.header ≡ true) × (list_all (is_link net) old.fails ≡ true) × (is_rising old.fails ≡ true)
@@ -168,7 +168,7 @@ hops_now net k old next step n m none led = (rw none refl, rw ((hop_agrees net o
     known : IsKnownPlace net next
     known = moved_known net old.link old.header step next n parts.1 led
 
-pub hops_not : (net : Net) (k : ℕ) (old new : State) (step : Step) (why : Cause) → hop_cause net old.fails (old.link, old.header) step ≡ Some why → Happens net k old (Hop step) new (Some (hop_words why))
+pub hops_not : (net : Net) (k : ℕ) (old new : State) (step : Step) (why : Cause) → hop_cause net old.fails (old.link, old.header) step ≡ Some why → TakesPlace net k old (Hop step) new (Some (hop_words why))
 hops_not net k old new step why some = (rw some refl, not_usable net k old step why some)
 
 -- ---- event by event

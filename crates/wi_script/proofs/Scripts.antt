@@ -14,7 +14,7 @@ use Rattle.wi_script.specs.declared.script.Script.{Script}
 use Rattle.wi_script.specs.declared.script.ScriptRefused.{ScriptRefused}
 use Rattle.wi_script.specs.declared.script.ScriptRefused.TheVariants.{BadLine, Memory}
 use Rattle.wi_script.specs.Scripts.{Happens, AllHappen, AreLines, lines_bytes, is_one_line, IsFaultLine, IsNoScript}
-use Rattle.wi_script.specs.Meaning.{IsStart, IsEvent, IsCutAt, AreEvents, IsNoEvent, IsRest}
+use Rattle.wi_script.specs.private.Meaning.{IsStart, IsEvent, IsCutAt, AreEvents, IsNoEvent, IsRest}
 
 -- ---- a line
 

@@ -1,4 +1,5 @@
-//! What holds of the lines of scripts.
+//! That a line is written in one way, and that a script has one first fault, is shown of the definitions: so an answer of the
+//! reader is the only right one, want of memory apart. The laws run no code.
 ghost use Rattle.std.specs.Prelude.{◌≡◌, ℕ, List, Bool};
 ghost use Rattle.wi_net.specs.Net.{Net};
 ghost use Rattle.wi_script.specs.declared.script.Script.{Script};

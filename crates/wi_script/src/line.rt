@@ -1,10 +1,11 @@
-//! Lines as they are written: their form, without the network.
+//! The form of a line is read before the network is asked, since a fault of form is told before an unknown name. Names and
+//! numbers are lent by the line: only the list of labels of a first line takes memory.
 ghost use Rattle.std.specs.Prelude.{◌≡◌, ◌<◌, ℕ, List, length, IfOk, option_map};
 ghost use Rattle.std.specs.List.{list_all, prefix_len};
 ghost use Rattle.wi_net.specs.Names.{is_name_byte};
 ghost use Rattle.wi_text.specs.Characters.{is_plain};
 ghost use Rattle.wi_script.specs.Lines.{Name, Joint, is_count};
-ghost use Rattle.wi_script.specs.Reading.{event_in, hop_in, joint_in, joint_of, label_in, labels_in, line_of, name_in, name_of, names_of, past, placed_in, plain_in, quoted_in, start_in, start_of, until, whole_in};
+ghost use Rattle.wi_script.specs.private.Reading.{event_in, hop_in, joint_in, joint_of, label_in, labels_in, line_of, name_in, name_of, names_of, past, placed_in, plain_in, quoted_in, start_in, start_of, until, whole_in};
 
 use std::alloc::Global;
 use wi_base::NoMemory;
@@ -56,7 +57,7 @@ pub enum WrittenEvent<'a> {
 }
 
 /// The first line that a text is, if it is of its form.
-#[tactic(auto, unfolding(crate::specs::Reading::start_in))]
+#[tactic(auto, unfolding(crate::specs::private::Reading::start_in))]
 pub fn start_of<'a>(alloc: Global, text: &'a str) -> Result<Option<WrittenStart<'a>>, NoMemory>
     ensures { IfOk result (λ start. option_map start_of start ≡ start_in text.now) }
 {
@@ -73,7 +74,7 @@ pub fn start_of<'a>(alloc: Global, text: &'a str) -> Result<Option<WrittenStart<
 }
 
 // The link behind `at`, and what follows.
-#[tactic(auto, unfolding(crate::specs::Reading::placed_in))]
+#[tactic(auto, unfolding(crate::specs::private::Reading::placed_in))]
 fn placed<'a>(text: &'a str) -> Option<(WrittenJoint<'a>, &'a str)>
     ensures { option_map {U = Joint × List ℕ} (λ r. (joint_of r.0, r.1.now)) result ≡ placed_in text.now }
 {
@@ -97,7 +98,7 @@ fn labels<'a>(alloc: Global, text: &'a str) -> Result<Option<Vec<WrittenName<'a>
 }
 
 // The label behind a space, and what follows.
-#[tactic(auto, unfolding(crate::specs::Reading::label_in))]
+#[tactic(auto, unfolding(crate::specs::private::Reading::label_in))]
 fn next_label<'a>(text: &'a str) -> Option<(WrittenName<'a>, &'a str)>
     ensures { option_map {U = Name × List ℕ} (λ r. (name_of r.0, r.1.now)) result ≡ label_in text.now }
 {
@@ -105,7 +106,7 @@ fn next_label<'a>(text: &'a str) -> Option<(WrittenName<'a>, &'a str)>
 }
 
 /// The event that a text is, if it is of its form.
-#[tactic(auto, unfolding(crate::specs::Reading::event_in))]
+#[tactic(auto, unfolding(crate::specs::private::Reading::event_in))]
 pub fn event_of<'a>(text: &'a str) -> Option<WrittenEvent<'a>>
     ensures { option_map line_of result ≡ event_in text.now }
 {
@@ -119,7 +120,7 @@ pub fn event_of<'a>(text: &'a str) -> Option<WrittenEvent<'a>>
 }
 
 // The two numbers of a hop, with a space between.
-#[tactic(auto, unfolding(crate::specs::Reading::hop_in))]
+#[tactic(auto, unfolding(crate::specs::private::Reading::hop_in))]
 fn hop<'a>(text: &'a str) -> Option<WrittenEvent<'a>>
     ensures { option_map line_of result ≡ hop_in text.now }
 {
@@ -139,7 +140,7 @@ fn is_count(text: &str) -> bool
 }
 
 // The link that a text is.
-#[tactic(auto, unfolding(crate::specs::Reading::whole_in))]
+#[tactic(auto, unfolding(crate::specs::private::Reading::whole_in))]
 fn joint<'a>(text: &'a str) -> Option<WrittenJoint<'a>>
     ensures { option_map joint_of result ≡ whole_in text.now }
 {
@@ -148,7 +149,7 @@ fn joint<'a>(text: &'a str) -> Option<WrittenJoint<'a>>
 }
 
 // The link that a text begins with, and what follows.
-#[tactic(auto, unfolding(crate::specs::Reading::joint_in))]
+#[tactic(auto, unfolding(crate::specs::private::Reading::joint_in))]
 fn next_joint<'a>(text: &'a str) -> Option<(WrittenJoint<'a>, &'a str)>
     ensures { option_map {U = Joint × List ℕ} (λ r. (joint_of r.0, r.1.now)) result ≡ joint_in text.now }
 {
@@ -166,7 +167,7 @@ fn next_joint<'a>(text: &'a str) -> Option<(WrittenJoint<'a>, &'a str)>
 }
 
 // The name that a text begins with, and what follows.
-#[tactic(auto, unfolding(crate::specs::Reading::name_in))]
+#[tactic(auto, unfolding(crate::specs::private::Reading::name_in))]
 fn next_name<'a>(text: &'a str) -> Option<(WrittenName<'a>, &'a str)>
     ensures { option_map {U = Name × List ℕ} (λ r. (name_of r.0, r.1.now)) result ≡ name_in text.now }
 {
@@ -177,7 +178,7 @@ fn next_name<'a>(text: &'a str) -> Option<(WrittenName<'a>, &'a str)>
 }
 
 // The name up to a quotation mark, and what follows the mark.
-#[tactic(auto, unfolding(crate::specs::Reading::quoted_in))]
+#[tactic(auto, unfolding(crate::specs::private::Reading::quoted_in))]
 fn quoted_name<'a>(text: &'a str) -> Option<(WrittenName<'a>, &'a str)>
     ensures { option_map {U = Name × List ℕ} (λ r. (name_of r.0, r.1.now)) result ≡ quoted_in text.now }
 {
@@ -198,7 +199,7 @@ fn are_name_bytes(bytes: &[u8]) -> bool
 }
 
 // The plain name that a text begins with, of as many characters as are plain, and what follows.
-#[tactic(auto, unfolding(crate::specs::Reading::plain_in))]
+#[tactic(auto, unfolding(crate::specs::private::Reading::plain_in))]
 fn plain_name<'a>(text: &'a str) -> Option<(WrittenName<'a>, &'a str)>
     ensures { option_map {U = Name × List ℕ} (λ r. (name_of r.0, r.1.now)) result ≡ plain_in text.now }
 {

@@ -1,9 +1,11 @@
-//! What lines mean on a network.
+//! Names are looked up line by line, so that nothing of a script is kept as text: a link costs four look-ups, and a label one.
+//! Words of classes are names here, since a header has labels and no classes. A number past 32 bits becomes one that no group
+//! or member has.
 ghost use Rattle.std.specs.Prelude.{◌≡◌, IfOk, option_map, true, false};
 ghost use Rattle.wi_script.specs.Lines.{is_count, is_line};
 ghost use Rattle.wi_script.specs.Scripts.{event_of, label_of, link_of, number_of};
-ghost use Rattle.wi_script.specs.Reading.{joint_of, line_of, name_of, names_of, start_of};
-ghost use Rattle.wi_script.specs.Meaning.{Starts, begin_of, event_read, header_of, start_read};
+ghost use Rattle.wi_script.specs.private.Reading.{joint_of, line_of, name_of, names_of, start_of};
+ghost use Rattle.wi_script.specs.private.Meaning.{Starts, begin_of, event_read, header_of, start_read};
 
 use crate::line::{WrittenEvent, WrittenJoint, WrittenName, WrittenStart, event_of, start_of};
 use crate::script::{ScriptCause, ScriptRefused};
@@ -14,7 +16,7 @@ use wi_net::{LinkId, Network};
 use wi_world::{Event, Step};
 
 /// Where the first line puts a packet, or why it is refused.
-#[tactic(auto, unfolding(crate::specs::Meaning::start_read))]
+#[tactic(auto, unfolding(crate::specs::private::Meaning::start_read))]
 pub fn read_start(
     alloc: Global,
     net: &Network,
@@ -34,7 +36,7 @@ pub fn read_start(
 }
 
 /// The event of a line that isn't the first, or why it is refused.
-#[tactic(auto, using(crate::proofs::Meanings::is_event), unfolding(crate::specs::Meaning::event_read))]
+#[tactic(auto, using(crate::proofs::Meanings::is_event), unfolding(crate::specs::private::Meaning::event_read))]
 pub fn read_event(net: &Network, text: &str) -> Result<Event, ScriptCause>
     ensures { result ≡ event_read net.now text.now }
 {
@@ -43,7 +45,7 @@ pub fn read_event(net: &Network, text: &str) -> Result<Event, ScriptCause>
 }
 
 // The link and the header of a first line, if the network has them.
-#[tactic(auto, unfolding(crate::specs::Meaning::begin_of))]
+#[tactic(auto, unfolding(crate::specs::private::Meaning::begin_of))]
 fn begin(
     alloc: Global,
     net: &Network,

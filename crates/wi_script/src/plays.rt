@@ -1,4 +1,5 @@
-//! Scripts, played event by event.
+//! Each event is judged in the state that those before it left, so that the first that isn't allowed is told. The state after
+//! each event is kept, with a copy of the header and of the failed links, since all are printed.
 ghost use Rattle.std.specs.Prelude.{◌≡◌, ◌++◌, ◌∷◌, [], true, None, Some, Ok, Err, ℕ, IfOk, IfErr, OnOk};
 ghost use Rattle.std.specs.List.{list_all};
 ghost use Rattle.wi_world.specs.Moving.{after_event};
@@ -9,7 +10,7 @@ ghost use Rattle.wi_script.specs.declared.script.ScriptRefused.{ScriptRefused};
 ghost use Rattle.wi_script.specs.Known.{is_known_event, IsScriptOf};
 ghost use Rattle.wi_script.specs.Plays.{begin, states_of, hop_words, is_state_of, IsNotPlayed, IsNotPlayedFrom};
 ghost use Rattle.wi_world.specs.declared.world.Event.{Event};
-ghost use Rattle.wi_script.specs.Moments.{seen, is_moment_of, Happens};
+ghost use Rattle.wi_script.specs.private.Moments.{seen, is_moment_of, TakesPlace};
 
 use crate::script::{Script, ScriptCause, ScriptRefused};
 use crate::sets::remove_all;
@@ -111,7 +112,7 @@ fn happen(
     requires network { IsNetwork net.now }
     requires known { is_moment_of net.now (seen now.old) ≡ true }
     requires event { is_known_event net.now event ≡ true }
-    ensures { IfOk result (λ cause. Happens net.now k (seen now.old) event (seen now.new) cause) }
+    ensures { IfOk result (λ cause. TakesPlace net.now k (seen now.old) event (seen now.new) cause) }
 {
     match event {
         Event::Fail(link) => fail(alloc, net, k, now, link),
@@ -130,7 +131,7 @@ fn fail(
 ) -> Result<Option<ScriptCause>, NoMemory>
     requires known { is_moment_of net.now (seen now.old) ≡ true }
     requires link { is_link net.now link ≡ true }
-    ensures { IfOk result (λ cause. Happens net.now k (seen now.old) (Event.Fail link) (seen now.new) cause) }
+    ensures { IfOk result (λ cause. TakesPlace net.now k (seen now.old) (Event.Fail link) (seen now.new) cause) }
 {
     if now.fails.contains(link) {
         return Ok(Some(ScriptCause::AlreadyFailed));
@@ -151,7 +152,7 @@ fn repair(
     link: LinkId,
 ) -> Result<Option<ScriptCause>, NoMemory>
     requires { is_moment_of net.now (seen now.old) ≡ true }
-    ensures { (k : ℕ) → IfOk result (λ cause. Happens net.now k (seen now.old) (Event.Repair link) (seen now.new) cause) }
+    ensures { (k : ℕ) → IfOk result (λ cause. TakesPlace net.now k (seen now.old) (Event.Repair link) (seen now.new) cause) }
 {
     if !now.fails.contains(link) {
         return Ok(Some(ScriptCause::NotFailed));
@@ -187,7 +188,7 @@ fn take(
 ) -> Result<Option<ScriptCause>, NoMemory>
     requires network { IsNetwork net.now }
     requires known { is_moment_of net.now (seen now.old) ≡ true }
-    ensures { (k : ℕ) → IfOk result (λ cause. Happens net.now k (seen now.old) (Event.Hop step) (seen now.new) cause) }
+    ensures { (k : ℕ) → IfOk result (λ cause. TakesPlace net.now k (seen now.old) (Event.Hop step) (seen now.new) cause) }
 {
     match hop_under(alloc, net, &now.fails, &mut now.at, step)? {
         None => Ok(None),

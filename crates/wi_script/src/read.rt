@@ -1,8 +1,9 @@
-//! The reader of scripts.
+//! Bytes are cut at line feeds before they are taken for text, so that a line that isn't UTF-8 is a fault of that line, and
+//! those before it are read. An event is kept for each line behind the first.
 ghost use Rattle.std.specs.Prelude.{◌≡◌, ◌==◌, ◌++◌, ◌∷◌, [], ℕ, List, IfOk, IfErr, OnOk, option_map, position};
 ghost use Rattle.wi_script.specs.Scripts.{IsScript, IsNoScript};
 ghost use Rattle.wi_script.specs.Known.{IsScriptOf};
-ghost use Rattle.wi_script.specs.Meaning.{IsStart, IsEvent, IsCutAt, IsRest};
+ghost use Rattle.wi_script.specs.private.Meaning.{IsStart, IsEvent, IsCutAt, IsRest};
 
 use crate::meaning::{read_event, read_start};
 use crate::script::{Script, ScriptCause, ScriptRefused};

@@ -1,4 +1,5 @@
-//! Scripts.
+//! Causes of reading and of playing are one type, since both are told of a line, in one form. They stand in the order in which
+//! they are looked for. A refusal is `Copy` and takes no memory.
 use wi_base::{Listed, NoMemory};
 use wi_labels::Header;
 use wi_net::LinkId;

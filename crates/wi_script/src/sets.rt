@@ -1,4 +1,5 @@
-//! Sets of links, beside a second one.
+//! A repair takes a whole risk group out of the failed links in place, without memory. Each link is looked for by halves, and
+//! moves those behind it.
 ghost use Rattle.std.specs.Prelude.{◌≡◌};
 ghost use Rattle.wi_net.specs.LinkSet.{outside};
 

@@ -36,7 +36,8 @@ struct Scarce<'a> {
 
 impl System<Effort> for Scarce<'_> {
     ghost use Rattle.std.specs.Prelude.{ℕ, List};
-    ghost use Rattle.wi_pds.specs.Rules.{rules_at, listed_name_heads};
+    ghost use Rattle.wi_pds.specs.Rules.{rules_at};
+    ghost use Rattle.wi_pds.specs.lemmas.Rules.{listed_name_heads};
     ghost use Rattle.wi_reduce.specs.Least.{IsReached};
 
     ghost start_head = { λ s. s.list.start };

@@ -40,7 +40,8 @@ struct Failing {
 }
 
 impl System<Effort> for Failing {
-    ghost use Rattle.wi_pds.specs.Rules.{rules_at, listed_name_heads};
+    ghost use Rattle.wi_pds.specs.Rules.{rules_at};
+    ghost use Rattle.wi_pds.specs.lemmas.Rules.{listed_name_heads};
 
     ghost start_head = { λ s. s.list.start };
 
@@ -69,7 +70,8 @@ struct Sparing {
 }
 
 impl System<Effort> for Sparing {
-    ghost use Rattle.wi_pds.specs.Rules.{rules_at, listed_name_heads};
+    ghost use Rattle.wi_pds.specs.Rules.{rules_at};
+    ghost use Rattle.wi_pds.specs.lemmas.Rules.{listed_name_heads};
 
     ghost start_head = { λ s. s.list.start };
 

@@ -29,12 +29,12 @@ use Rattle.wi_syntax.specs.declared.parser.Owner.TheVariants as owner
 use Rattle.wi_syntax.specs.Atoms.{Writer, label_tokens, link_tokens, pair_tokens, end_tokens, name_tokens, separated, listed, is_label_atom, is_link_atom}
 use Rattle.wi_syntax.specs.Trees.{Tree, Leaf, Starred, Plussed, Optional, Grouped, Then, Or, Level, AnItem, ASequence, AnExpression, signs_of, is_tree, IsExpression, sign_tokens, signs_tokens}
 use Rattle.wi_syntax.specs.Grammar.{known_tokens, tokens_of, IsKnown, IsNumber, IsWritten}
-use Rattle.wi_syntax.specs.Lists.{NameListing, PairListing, no_names, no_pairs, no_known}
+use Rattle.wi_syntax.specs.private.Lists.{NameListing, PairListing, no_names, no_pairs, no_known}
 use Rattle.wi_syntax.specs.declared.places.NamePlace.{NamePlace}
 use Rattle.wi_syntax.specs.declared.places.NamePlace.TheVariants as name
 use Rattle.wi_syntax.specs.declared.places.PairPlace.{PairPlace}
 use Rattle.wi_syntax.specs.declared.places.PairPlace.TheVariants as pair
-use Rattle.wi_syntax.specs.Parsing.{Phrasing, Parse, start, no_phrasing, with_atom, with_names, with_pairs, after, after_all, finish}
+use Rattle.wi_syntax.specs.private.Parsing.{Phrasing, Parse, start, no_phrasing, with_atom, with_names, with_pairs, after, after_all, finish}
 use Rattle.wi_syntax.proofs.Phrases.{signs_more}
 
 -- ---- expressions

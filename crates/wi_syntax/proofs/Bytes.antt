@@ -17,8 +17,8 @@ use Rattle.wi_syntax.specs.declared.token.Token.TheVariants as token
 use Rattle.wi_syntax.specs.declared.written.Written.{Written}
 use Rattle.wi_syntax.specs.Tokens.{mark_byte, spelling, IsToken}
 use Rattle.wi_syntax.specs.Grammar.{plain}
-use Rattle.wi_syntax.specs.Parsing.{Parse, after, after_all, finish}
-use Rattle.wi_syntax.specs.Reading.{Reading, reading, keep, behind, longer, begin, after_plain, end_quoted, after_quoted, after_byte, after_bytes, finished}
+use Rattle.wi_syntax.specs.private.Parsing.{Parse, after, after_all, finish}
+use Rattle.wi_syntax.specs.private.Reading.{Reading, reading, keep, behind, longer, begin, after_plain, end_quoted, after_quoted, after_byte, after_bytes, finished}
 use Rattle.wi_syntax.proofs.Options.{then_some}
 use Rattle.wi_syntax.proofs.Words.{admits_front}
 

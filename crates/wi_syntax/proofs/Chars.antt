@@ -13,8 +13,8 @@ use Rattle.wi_text.specs.Characters.{is_space, is_plain}
 use Rattle.wi_syntax.specs.Names.{Named}
 use Rattle.wi_syntax.specs.declared.token.Token.TheVariants as token
 use Rattle.wi_syntax.specs.Grammar.{plain}
-use Rattle.wi_syntax.specs.Parsing.{Parse, after}
-use Rattle.wi_syntax.specs.Reading.{Reading, reading, mark_of, keep, behind, longer, begin, after_plain, end_quoted, after_quoted, after_quoted_char, after_byte, after_char, after_bytes}
+use Rattle.wi_syntax.specs.private.Parsing.{Parse, after}
+use Rattle.wi_syntax.specs.private.Reading.{Reading, reading, mark_of, keep, behind, longer, begin, after_plain, end_quoted, after_quoted, after_quoted_char, after_byte, after_char, after_bytes}
 use Rattle.wi_syntax.proofs.Bytes.{quoted_go}
 
 -- bytes that are not ASCII

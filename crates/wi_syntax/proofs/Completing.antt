@@ -32,9 +32,9 @@ use Rattle.wi_syntax.specs.declared.parser.Owner.{Owner}
 use Rattle.wi_syntax.specs.declared.parser.Owner.TheVariants as owner
 use Rattle.wi_syntax.specs.Tokens.{mark_byte, spelling}
 use Rattle.wi_syntax.specs.Grammar.{plain}
-use Rattle.wi_syntax.specs.Lists.{NameListing, PairListing, no_known, with_item, after_name, after_pair, whole_pair, after_in_names, after_in_pairs}
-use Rattle.wi_syntax.specs.Parsing.{Parse, with_atom, phrase_of, with_phrase, with_path, with_names, with_pairs, is_keyword, after_at, after, after_before_up, may_end, finish}
-use Rattle.wi_syntax.specs.Reading.{reading, is_name_due, is_word_due, takes_names, begins, may_begin, admits, longer, behind, after_bytes}
+use Rattle.wi_syntax.specs.private.Lists.{NameListing, PairListing, no_known, with_item, after_name, after_pair, whole_pair, after_in_names, after_in_pairs}
+use Rattle.wi_syntax.specs.private.Parsing.{Parse, with_atom, phrase_of, with_phrase, with_path, with_names, with_pairs, is_keyword, after_at, after, after_before_up, may_end, finish}
+use Rattle.wi_syntax.specs.private.Reading.{reading, is_name_due, is_word_due, takes_names, begins, may_begin, admits, longer, behind, after_bytes}
 use Rattle.wi_syntax.proofs.Bytes.{Ends, ends_by, one_byte, mark_goes, space_goes, plains_go, plain_ends, quoted_goes, quote_ends, token_goes}
 
 -- some text leads from a byte on to the end of a query

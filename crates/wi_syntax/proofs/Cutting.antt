@@ -16,8 +16,8 @@ use Rattle.wi_syntax.specs.declared.token.Token.TheVariants as token
 use Rattle.wi_syntax.specs.declared.written.Written.{Written}
 use Rattle.wi_syntax.specs.Tokens.{mark_byte, spelling, IsToken}
 use Rattle.wi_syntax.specs.Grammar.{plain}
-use Rattle.wi_syntax.specs.Parsing.{Parse, after, after_all, finish}
-use Rattle.wi_syntax.specs.Reading.{Reading, reading, mark_of, admits, keep, behind, longer, begin, after_plain, end_quoted, after_quoted, after_bytes, finished}
+use Rattle.wi_syntax.specs.private.Parsing.{Parse, after, after_all, finish}
+use Rattle.wi_syntax.specs.private.Reading.{Reading, reading, mark_of, admits, keep, behind, longer, begin, after_plain, end_quoted, after_quoted, after_bytes, finished}
 use Rattle.wi_syntax.proofs.Options.{then_some}
 
 -- a text is tokens that lead to the end of a query

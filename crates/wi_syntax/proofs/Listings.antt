@@ -14,7 +14,7 @@ use Rattle.wi_syntax.specs.declared.places.NamePlace.TheVariants as name
 use Rattle.wi_syntax.specs.declared.places.PairPlace.{PairPlace}
 use Rattle.wi_syntax.specs.declared.places.PairPlace.TheVariants as pair
 use Rattle.wi_syntax.specs.Atoms.{Writer, separated, listed, name_tokens, end_tokens, pair_tokens}
-use Rattle.wi_syntax.specs.Lists.{Listing, with_item, after_in, after_name, after_pair, whole_name, whole_pair, is_opened_name, is_opened_pair, no_names, no_pairs, no_known}
+use Rattle.wi_syntax.specs.private.Lists.{Listing, with_item, after_in, after_name, after_pair, whole_name, whole_pair, is_opened_name, is_opened_pair, no_names, no_pairs, no_known}
 use Rattle.wi_syntax.proofs.Options.{if_some, map_some}
 
 -- each with a comma behind it

@@ -7,7 +7,7 @@ use Rattle.wi_syntax.specs.declared.token.Mark.TheVariants.{Less, Greater, OpenR
 use Rattle.wi_syntax.specs.declared.written.Sign.{Sign}
 use Rattle.wi_syntax.specs.declared.written.Sign.TheVariants as sign
 use Rattle.wi_syntax.specs.Trees.{Tree, Leaf, Starred, Plussed, Optional, Grouped, Then, Or, Level, AnItem, ASequence, AnExpression, signs_of, is_tree, IsExpression}
-use Rattle.wi_syntax.specs.Parsing.{Phrasing, no_phrasing, is_whole, with_atom, if_behind, after_sign}
+use Rattle.wi_syntax.specs.private.Parsing.{Phrasing, no_phrasing, is_whole, with_atom, if_behind, after_sign}
 use Rattle.wi_syntax.proofs.Options.{if_some}
 
 module _ {A : Type 0} (p : A → Bool) where

@@ -27,10 +27,10 @@ use Rattle.wi_syntax.specs.declared.parser.Owner.TheVariants as owner
 use Rattle.wi_syntax.specs.Atoms.{Writer, label_tokens, link_tokens, pair_tokens, name_tokens, listed, is_label_atom, is_link_atom}
 use Rattle.wi_syntax.specs.Trees.{sign_tokens, signs_tokens}
 use Rattle.wi_syntax.specs.Grammar.{plain, known_tokens, tokens_of, IsKnown, IsNumber, IsWritten}
-use Rattle.wi_syntax.specs.Lists.{NameListing, PairListing, no_names, no_pairs, no_known, after_in_names, after_in_pairs, after_name, after_pair, whole_name, whole_pair, is_opened_name, is_opened_pair}
+use Rattle.wi_syntax.specs.private.Lists.{NameListing, PairListing, no_names, no_pairs, no_known, after_in_names, after_in_pairs, after_name, after_pair, whole_name, whole_pair, is_opened_name, is_opened_pair}
 use Rattle.wi_syntax.specs.declared.places.NamePlace.TheVariants as name
 use Rattle.wi_syntax.specs.declared.places.PairPlace.TheVariants as pair
-use Rattle.wi_syntax.specs.Parsing.{Phrasing, Parse, start, no_phrasing, is_whole, with_atom, if_behind, after_sign, phrase_of, with_phrase, with_path, with_names, with_pairs, stage_after, is_keyword, after_in_labels, after_in_links, after_at_number, after_before_up, after_before_down, after_word, after_start, after_at, after, after_all, may_end, finish}
+use Rattle.wi_syntax.specs.private.Parsing.{Phrasing, Parse, start, no_phrasing, is_whole, with_atom, if_behind, after_sign, phrase_of, with_phrase, with_path, with_names, with_pairs, stage_after, is_keyword, after_in_labels, after_in_links, after_at_number, after_before_up, after_before_down, after_word, after_start, after_at, after, after_all, may_end, finish}
 use Rattle.wi_syntax.proofs.Options.{if_some, map_some, then_some}
 use Rattle.wi_syntax.proofs.Phrases.{IsPhrase, phrase_none, phrase_atom, phrase_sign, phrase_whole}
 use Rattle.wi_syntax.proofs.Listings.{listing_tokens, IsListing, Goes, goes, name_begun, pair_begun, name_places, pair_places, no_names_listing, no_pairs_listing, no_known_listing}

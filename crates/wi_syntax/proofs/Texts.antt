@@ -10,7 +10,7 @@ use Rattle.std.proofs.lemmas.List.{append-nil, append_assoc, length-append, nil_
 use Rattle.wi_net.specs.Names.{is_name_byte}
 use Rattle.wi_text.specs.Characters.{is_plain, is_space}
 use Rattle.wi_text.specs.Prefixes.{IsFaultAt}
-use Rattle.wi_text.specs.Machines.{at_end, goes_on, first_stop}
+use Rattle.wi_text.specs.private.Machines.{at_end, goes_on, first_stop}
 use Rattle.wi_text.proofs.Stops.{fault_at}
 use Rattle.wi_syntax.specs.Names.{Named}
 use Rattle.wi_syntax.specs.declared.token.Token.{Token}
@@ -21,8 +21,8 @@ use Rattle.wi_syntax.specs.declared.parser.Stage.TheVariants as stage
 use Rattle.wi_syntax.specs.declared.parser.Owner.TheVariants as owner
 use Rattle.wi_syntax.specs.Tokens.{IsTokens}
 use Rattle.wi_syntax.specs.Grammar.{plain, tokens_of, Reads, IsQueryText}
-use Rattle.wi_syntax.specs.Parsing.{Parse, start, after}
-use Rattle.wi_syntax.specs.Reading.{Reading, reading, mark_of, admits, keep, behind, longer, begin, after_plain, end_quoted, after_quoted, after_byte, after_char, after_bytes, finished, may_stop, nothing_read}
+use Rattle.wi_syntax.specs.private.Parsing.{Parse, start, after}
+use Rattle.wi_syntax.specs.private.Reading.{Reading, reading, mark_of, admits, keep, behind, longer, begin, after_plain, end_quoted, after_quoted, after_byte, after_char, after_bytes, finished, may_stop, nothing_read}
 use Rattle.wi_syntax.proofs.Options.{if_some, map_some, then_some}
 use Rattle.wi_syntax.proofs.Shown.{Good, step, start_good, all_shown, finished_is}
 use Rattle.wi_syntax.proofs.Building.{query_leads}

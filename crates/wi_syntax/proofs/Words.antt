@@ -14,9 +14,9 @@ use Rattle.wi_syntax.specs.declared.places.PairPlace.{PairPlace}
 use Rattle.wi_syntax.specs.declared.places.PairPlace.TheVariants as pair
 use Rattle.wi_syntax.specs.declared.parser.Stage.{Stage}
 use Rattle.wi_syntax.specs.declared.parser.Stage.TheVariants as stage
-use Rattle.wi_syntax.specs.Lists.{after_name, after_pair}
-use Rattle.wi_syntax.specs.Parsing.{Parse, is_keyword, after_before_up, after_at, after}
-use Rattle.wi_syntax.specs.Reading.{is_name_due, is_word_due, takes_names, begins, may_begin, admits, longer}
+use Rattle.wi_syntax.specs.private.Lists.{after_name, after_pair}
+use Rattle.wi_syntax.specs.private.Parsing.{Parse, is_keyword, after_before_up, after_at, after}
+use Rattle.wi_syntax.specs.private.Reading.{is_name_due, is_word_due, takes_names, begins, may_begin, admits, longer}
 use Rattle.wi_syntax.proofs.Options.{if_some, map_some}
 
 name_due : (l : NamePlace) (n : Named) (q : NamePlace) → after_name l (token.Word n) ≡ Some q → is_name_due l ≡ true

@@ -3,7 +3,5 @@ pub mod Tokens
 pub mod Atoms
 pub mod Trees
 pub mod Grammar
-pub mod Lists
 pub mod Refusals
-pub mod Parsing
-pub mod Reading
+pub mod private

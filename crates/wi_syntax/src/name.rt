@@ -1,7 +1,8 @@
-//! Names as they are written.
+//! A name has the byte where it starts, since it is looked up only after the whole text was read, and a fault is told by that
+//! byte. Whether it is quoted is kept, since `ip` is a class and `"ip"` a label. Its characters are copied from the text.
 ghost use Rattle.std.specs.Prelude.{◌≡◌, OnOk, true, false, string_bytes};
 ghost use Rattle.std.specs.Char.{encode_utf8};
-ghost use Rattle.wi_syntax.specs.Reading.{longer};
+ghost use Rattle.wi_syntax.specs.private.Reading.{longer};
 
 use std::marker::Model;
 use wi_base::NoMemory;

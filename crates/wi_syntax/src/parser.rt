@@ -1,9 +1,11 @@
-//! Queries, as they are read.
+//! One token is taken at a time, and it is told at once whether some query goes on so: the byte where a text stops being a
+//! query's then needs no look ahead. Where a text stands is one of a few stages, and nothing is called in itself, so deep texts
+//! need no stack.
 ghost use Rattle.std.specs.Prelude.{◌≡◌, IfOk, Some, None, if◌then◌else◌};
 ghost use Rattle.std.specs.Option.{option_map};
-ghost use Rattle.wi_syntax.specs.Parsing.{start, is_whole, stage_after, after_sign, phrase_of, with_phrase, with_atom, after_in_labels, after_in_links, after_at_number, after_before_up, after_before_down, after_word, after_start, after, with_names, with_path, with_list, with_pairs, is_keyword, finish, goes};
-ghost use Rattle.wi_syntax.specs.Lists.{after_in_names, after_in_pairs};
-ghost use Rattle.wi_syntax.specs.Reading.{admits, takes_names, may_begin, begins};
+ghost use Rattle.wi_syntax.specs.private.Parsing.{start, is_whole, stage_after, after_sign, phrase_of, with_phrase, with_atom, after_in_labels, after_in_links, after_at_number, after_before_up, after_before_down, after_word, after_start, after, with_names, with_path, with_list, with_pairs, is_keyword, finish, goes};
+ghost use Rattle.wi_syntax.specs.private.Lists.{after_in_names, after_in_pairs};
+ghost use Rattle.wi_syntax.specs.private.Reading.{admits, takes_names, may_begin, begins};
 
 use crate::name::Name;
 use crate::phrase::Phrase;
@@ -71,7 +73,7 @@ pub(crate) struct Parser {
 }
 
 impl Model for Parser {
-    ghost use Rattle.wi_syntax.specs.Parsing.{Parse};
+    ghost use Rattle.wi_syntax.specs.private.Parsing.{Parse};
 
     ghost Value = { Parse };
 

@@ -1,6 +1,7 @@
-//! Expressions, as they are read.
+//! An expression is kept as the list of its signs, and of its open brackets only how many there are: so nesting costs nothing,
+//! and trees are made elsewhere. It takes a sign for each atom, bracket and mark.
 ghost use Rattle.std.specs.Prelude.{◌≡◌, IfOk, OnOk};
-ghost use Rattle.wi_syntax.specs.Parsing.{no_phrasing, is_whole, with_atom, if_behind, after_sign, goes};
+ghost use Rattle.wi_syntax.specs.private.Parsing.{no_phrasing, is_whole, with_atom, if_behind, after_sign, goes};
 ghost use Rattle.wi_syntax.specs.declared.token.Mark.{Mark};
 
 use crate::token::Mark;
@@ -21,7 +22,7 @@ pub(crate) struct Phrase<A> {
 
 impl<A> Model for Phrase<A> {
     ghost use Rattle.std.specs.Prelude.{◌≤◌, length};
-    ghost use Rattle.wi_syntax.specs.Parsing.{Phrasing};
+    ghost use Rattle.wi_syntax.specs.private.Parsing.{Phrasing};
 
     ghost Value = { Phrasing A };
 

@@ -1,10 +1,12 @@
-//! Lists between brackets, as they are read.
+//! A dot may be a whole end of a link, or stand between a router and its interface: what came before tells which. So a list has
+//! a place for each point at which it may go on, with what of a pair was read so far. Names move from place to place, and none
+//! is copied.
 ghost use Rattle.std.specs.Prelude.{◌≡◌, IfOk, option_and_then};
 ghost use Rattle.wi_syntax.specs.declared.places.PairPlace.{PairPlace};
 ghost use Rattle.wi_syntax.specs.declared.written.LabelAtom.{LabelAtom};
 ghost use Rattle.wi_syntax.specs.declared.written.LinkAtom.{LinkAtom};
-ghost use Rattle.wi_syntax.specs.Reading.{is_name_due, is_word_due};
-ghost use Rattle.wi_syntax.specs.Lists.{no_names, no_pairs, no_known, after_pair, whole_pair, with_item, after_in_names, after_in_pairs, outcome};
+ghost use Rattle.wi_syntax.specs.private.Reading.{is_name_due, is_word_due};
+ghost use Rattle.wi_syntax.specs.private.Lists.{no_names, no_pairs, no_known, after_pair, whole_pair, with_item, after_in_names, after_in_pairs, outcome};
 
 use crate::name::Name;
 use crate::token::{Mark, Token};
@@ -64,7 +66,7 @@ pub(crate) struct NameList {
 }
 
 impl Model for NameList {
-    ghost use Rattle.wi_syntax.specs.Lists.{NameListing};
+    ghost use Rattle.wi_syntax.specs.private.Lists.{NameListing};
 
     ghost Value = { NameListing };
 
@@ -195,7 +197,7 @@ pub(crate) struct PairList {
 }
 
 impl Model for PairList {
-    ghost use Rattle.wi_syntax.specs.Lists.{PairListing};
+    ghost use Rattle.wi_syntax.specs.private.Lists.{PairListing};
 
     ghost Value = { PairListing };
 

@@ -1,10 +1,11 @@
-//! The reader of queries, character by character.
+//! Characters are read one by one, and none twice, so that where no query goes on is told as soon as it shows. A name that is
+//! begun is judged at each of its characters, since it may stop being one that can come next.
 ghost use Rattle.std.specs.Prelude.{◌≡◌, ◌+◌, ◌<◌, ◌^◌, Some, None, IfOk, IfErr, length};
 ghost use Rattle.std.specs.Char.{encode_utf8};
 ghost use Rattle.wi_syntax.specs.Grammar.{Reads};
 ghost use Rattle.wi_syntax.specs.Refusals.{IsUnread};
-ghost use Rattle.wi_syntax.specs.Parsing.{goes};
-ghost use Rattle.wi_syntax.specs.Reading.{mark_of, keep, begin, after_plain, after_quoted_char, after_char, after_bytes, nothing_read, finished, IsReadTo};
+ghost use Rattle.wi_syntax.specs.private.Parsing.{goes};
+ghost use Rattle.wi_syntax.specs.private.Reading.{mark_of, keep, begin, after_plain, after_quoted_char, after_char, after_bytes, nothing_read, finished, IsReadTo};
 
 use crate::name::Name;
 use crate::parser::Parser;
@@ -75,7 +76,7 @@ struct Reader {
 }
 
 impl Model for Reader {
-    ghost use Rattle.wi_syntax.specs.Reading.{Reading};
+    ghost use Rattle.wi_syntax.specs.private.Reading.{Reading};
 
     ghost Value = { Reading };
 

@@ -1,4 +1,5 @@
-//! The tokens of a query.
+//! Names, numbers and the words `down` and `up` are one kind of token, since only the place tells which it is: so a label may
+//! be called `30`, and a router `down`. A mark has one character, so no two of them have to be told apart by what follows.
 use crate::name::Name;
 
 /// A token of one character.

@@ -1,4 +1,6 @@
-//! A query as it is written, with its names not looked up yet.
+//! What is written is kept with its names as they stand, so that form is judged before any network is asked, and each unknown
+//! name has its byte. Expressions are lists of signs and not trees, so that nesting takes no recursion. It takes a copy of all
+//! names.
 use crate::name::Name;
 use wi_base::Listed;
 

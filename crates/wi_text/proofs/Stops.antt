@@ -2,7 +2,7 @@
 use Rattle.std.proofs.Common.{◌≡◌, ℕ, zero, suc, ◌+◌, ◌<◌, ◌≤◌, Bool, true, false, ◌↔◌, List, [], ◌∷◌, ◌++◌, length, take, Option, Some, None, refl, sym, ap, ◌∙◌, arith}
 use Rattle.std.specs.Str.{IsCharBoundary}
 use Rattle.wi_text.specs.Prefixes.{IsFaultAt}
-use Rattle.wi_text.specs.Machines.{at_end, goes_on, first_stop}
+use Rattle.wi_text.specs.private.Machines.{at_end, goes_on, first_stop}
 
 -- each state that the machine comes to has a text with which it may end
 module _ {S : Type 0} (next : S → ℕ → Option S) (ends : S → Bool) (Reached : S → Type 0)

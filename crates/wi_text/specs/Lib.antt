@@ -2,4 +2,4 @@ pub mod Characters
 pub mod Names
 pub mod Spelling
 pub mod Prefixes
-pub mod Machines
+pub mod private

@@ -1,4 +1,5 @@
-//! Kinds of characters.
+//! What is plain is said once, for the readers of queries and scripts and for what is printed, so that they agree on which
+//! names need quotation marks. All tests are over ASCII, so that they can be asked of a byte of a text as well.
 ghost use Rattle.std.specs.Prelude.{◌≡◌};
 ghost use Rattle.std.specs.List.{list_all};
 ghost use Rattle.wi_text.specs.Characters.{is_space, is_digit, is_letter, is_plain, is_plain_name, is_number};

@@ -1,4 +1,5 @@
-//! Texts that are put together piece by piece.
+//! What is printed is put together from pieces, so that each contract speaks of what one call adds, and want of memory is the
+//! only refusal. Where it comes, a front of what was to be added may stand there. A text is one list of bytes.
 ghost use Rattle.std.specs.Prelude.{◌≡◌, ◌++◌, OnOk, []};
 ghost use Rattle.std.specs.Fmt.{decimal};
 ghost use Rattle.wi_text.specs.Names.{quoted, shown};

@@ -162,7 +162,7 @@ fn is_set(
     expression: &Expression,
     symbols: &[bool],
 ) -> Result<(), Fail> {
-    match &expression.regex {
+    match expression.regex() {
         Regex::Atom(set) => {
             holds_each(rt, set, symbols);
             holds_each(rt, &set.twin(alloc)?, symbols);
@@ -262,7 +262,7 @@ fn accepts(alloc: Global, expression: &Expression, symbols: &[u32]) -> Result<bo
     for symbol in symbols {
         word.push(Symbol(*symbol))?;
     }
-    Ok(expression.nfa.accepts_word(alloc, word.as_slice())?)
+    Ok(expression.nfa().accepts_word(alloc, word.as_slice())?)
 }
 
 // Whether an expression has so many positions, and accepts just these of some words.
@@ -273,7 +273,7 @@ fn accepts_each(
     positions: usize,
     words: &[Judged],
 ) -> Result<(), Fail> {
-    assert_eq!(rt; expression.regex.positions(), positions);
+    assert_eq!(rt; expression.regex().positions(), positions);
     for (word, accepted) in words {
         assert_eq!(rt; accepts(alloc, expression, word)?, *accepted);
     }

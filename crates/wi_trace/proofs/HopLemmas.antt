@@ -14,7 +14,7 @@ use Rattle.wi_trace.specs.declared.cause.Cause.TheVariants.{NoGroup, NoMember, N
 use Rattle.wi_trace.specs.declared.hop.World.{World}
 use Rattle.wi_trace.specs.declared.hop.World.TheVariants.{Fixed, Moving}
 use Rattle.wi_trace.specs.Replays.{is_first_active}
-use Rattle.wi_trace.specs.Hops.{named, named_in, fixed_against, moving_against, against, cause_in}
+use Rattle.wi_trace.specs.private.Hops.{named, named_in, fixed_against, moving_against, against, cause_in}
 use Rattle.wi_trace.proofs.FaultLemmas.{hop_judge, moving_judge, cause_named}
 
 -- a member that was found is the one that the step names

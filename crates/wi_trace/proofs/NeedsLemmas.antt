@@ -17,7 +17,7 @@ use Rattle.wi_world.specs.declared.run.Run.{Run}
 use Rattle.wi_world.specs.Moves.{Location, groups_at, moved, needed, AreBounds}
 use Rattle.wi_world.specs.Runs.{is_needed, needs}
 use Rattle.wi_world.proofs.Allowed.{before_union}
-use Rattle.wi_trace.specs.Hops.{gathered}
+use Rattle.wi_trace.specs.private.Hops.{gathered}
 
 has-gathered : (net : Net) (s : List LinkId) (at : Location) (steps : List Step) (e : LinkId) → has (gathered net s at steps) e ≡ (has s e || is_needed net e at steps)
 has-gathered net s at [] e = or_comm false (has s e)

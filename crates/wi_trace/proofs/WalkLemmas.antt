@@ -9,7 +9,7 @@ use Rattle.wi_world.specs.Moves.{Location, moved, needed}
 use Rattle.wi_world.specs.Runs.{locations}
 use Rattle.wi_trace.specs.declared.cause.Cause.{Cause}
 use Rattle.wi_trace.specs.Replays.{first_fault}
-use Rattle.wi_trace.specs.Hops.{gathered, used_in}
+use Rattle.wi_trace.specs.private.Hops.{gathered, used_in}
 
 pub fault_next : (net : Net) (cause : Location → Step → Option Cause) (n : ℕ) (at : Location) (step : Step) (steps : List Step) (next : Location) → cause at step ≡ None → moved net at step ≡ Some next → first_fault net cause n at (step ∷ steps) ≡ first_fault net cause (n + 1) next steps
 fault_next net cause n at step steps next h m = rw (h, first_fault) (rw m refl)

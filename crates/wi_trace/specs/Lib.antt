@@ -1,2 +1,2 @@
 pub mod Replays
-pub mod Hops
+pub mod private

@@ -1,4 +1,5 @@
-//! Answers.
+//! Word, weight, run and verdict stand side by side, and nothing in the type makes them agree: that an answer holds is a
+//! definition of its own, whoever made the answer.
 use wi_quantity::Weight;
 use wi_world::{Run, Verdict, Word};
 

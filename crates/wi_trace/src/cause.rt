@@ -1,4 +1,5 @@
-//! Why a run is refused.
+//! The causes of both replays are one type, since the walk and the order of causes are one; each replay has some that it never
+//! gives. A refusal is `Copy` and takes no memory.
 use wi_base::NoMemory;
 use wi_net::LinkId;
 

@@ -1,9 +1,11 @@
-//! Single steps.
+//! Single steps are judged here for both worlds, which differ in what stands against a link. The packet moves in place: a step
+//! costs its operations and not the height of the header, and leaves the packet where it was if it isn't allowed. In the moving
+//! world it takes the set of links before its group besides.
 ghost use Rattle.std.specs.Prelude.{◌≡◌, ℕ, true, false, IfOk, IfErr, OnErr, OnOk};
 ghost use Rattle.wi_world.specs.Moves.{groups_at, moved};
 ghost use Rattle.wi_trace.specs.declared.cause.Cause.{Cause};
 ghost use Rattle.wi_trace.specs.Replays.{hop_cause};
-ghost use Rattle.wi_trace.specs.Hops.{named, is_first, fixed_against, moving_against, against, cause_in, Goes};
+ghost use Rattle.wi_trace.specs.private.Hops.{named, is_first, fixed_against, moving_against, against, cause_in, Goes};
 
 use crate::cause::{Cause, ReplayRefused};
 use crate::sets::{count_outside, first_in};

@@ -1,8 +1,9 @@
-//! What a run needs to fail, and the verdict on that.
+//! What a run needs and whether it fits is told by the tables along the run, so that whoever doubts an answer needs no search.
+//! It walks along the run twice at most, with the set of links before its group for each step of the first walk.
 ghost use Rattle.std.specs.Prelude.{◌≡◌, IfOk};
 ghost use Rattle.wi_world.specs.Moves.{AreBounds};
 ghost use Rattle.wi_world.specs.Runs.{needs, verdict_of};
-ghost use Rattle.wi_trace.specs.Hops.{gathered, used_in};
+ghost use Rattle.wi_trace.specs.private.Hops.{gathered, used_in};
 
 use crate::hop::{Location, follow, groups_of, twin_of};
 use crate::sets::{count_outside, insert_all};

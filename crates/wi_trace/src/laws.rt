@@ -1,4 +1,6 @@
-//! Laws: runs without a fault. Each holds for every network and every run, and runs no code.
+//! A replay looks for the first fault, and what a trace is, is defined without any. These laws say that a run without a fault
+//! is a trace, or possible in the moving world, and the other way round. Each holds for every network and every run, and runs
+//! no code.
 ghost use Rattle.std.specs.Prelude.{◌≡◌, true, List, None};
 ghost use Rattle.wi_net.specs.Net.{Net};
 ghost use Rattle.wi_net.specs.declared.bounds.Bounds.{Bounds};

@@ -1,11 +1,12 @@
-//! Runs, replayed step by step.
+//! One walk serves under a set of failed links and in the moving world: they differ in what is failed at the start and in what
+//! stands against a step. A trace has a copy of the header at each link, so it costs the heights of all of them.
 ghost use Rattle.std.specs.Prelude.{◌≡◌, ℕ, ◌++◌, ◌∷◌, [], true, None, Some, Err, IfOk, IfErr, OnOk};
 ghost use Rattle.wi_world.specs.Moves.{is_trace, AreBounds};
 ghost use Rattle.wi_world.specs.Moving.{IsMovingRun};
 ghost use Rattle.wi_world.specs.Runs.{locations, trace_of};
 ghost use Rattle.wi_trace.specs.declared.cause.Cause.{Cause};
 ghost use Rattle.wi_trace.specs.Replays.{first_fault, run_fault, IsNoTrace, IsNoMovingRun};
-ghost use Rattle.wi_trace.specs.Hops.{cause_in};
+ghost use Rattle.wi_trace.specs.private.Hops.{cause_in};
 
 use crate::cause::{Cause, ReplayRefused};
 use crate::hop::{Location, World, hop, twin_of};

@@ -1,4 +1,5 @@
-//! Sets of links, beside a second one.
+//! What is asked of two sets is answered without making a third: each link of the one is looked up in the other, by halves. A
+//! union is made in place, and each link that is added moves those behind it.
 ghost use Rattle.std.specs.Prelude.{◌≡◌, ◌<◌, ◌&&◌, ◌==◌, ℕ, not, length, slice_get, take, OnErr, OnOk};
 ghost use Rattle.std.specs.List.{find};
 ghost use Rattle.wi_net.specs.LinkSet.{has, outside};

@@ -1,4 +1,5 @@
-//! Where runs start.
+//! The labels of a first header have to be the network's, with their classes: a valid shape alone would let runs begin with
+//! labels that no table knows. It costs a look at each label, and no memory.
 ghost use Rattle.std.specs.Prelude.{◌≡◌};
 ghost use Rattle.wi_labels.specs.Header.{same_class};
 ghost use Rattle.wi_net.specs.Net.{label_known, labels_known};

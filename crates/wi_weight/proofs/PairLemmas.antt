@@ -5,8 +5,8 @@ use Rattle.std.specs.Ordering.{ordering_then}
 use Rattle.std.proofs.Common.{◌∙◌, sym}
 use Rattle.wi_weight.specs.Weights.{Scale, IsWeight}
 use Rattle.wi_weight.specs.Kinds.{pair_scale}
-use Rattle.wi_weight.specs.PairLaws.{taken, dropped}
-use Rattle.wi_weight.specs.Then.{then_decided, then_tied}
+use Rattle.wi_weight.specs.lemmas.PairLaws.{taken, dropped}
+use Rattle.wi_weight.specs.lemmas.Then.{then_decided, then_tied}
 
 module _ (m n : Scale) (a b c d : List ℕ) (a_is : IsWeight m a) (c_is : IsWeight m c) where
   order_append : (pair_scale m n).order (a ++ b) (c ++ d) ≡ ordering_then (m.order a c) (n.order b d)

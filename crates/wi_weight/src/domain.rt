@@ -1,4 +1,6 @@
-//! What a kind of weight is.
+//! A value means a list of whole numbers of any size, so that one definition of sum and one of order serve every kind of
+//! weight. Components have 128 bits, of which a weight that fits uses 64: sums of a few such weights are exact without a test
+//! at each addition, for twice the bytes.
 ghost use Rattle.std.specs.Prelude.{◌≡◌, ◌^◌, ◌↔◌, IsTrue, List, ℕ};
 ghost use Rattle.wi_weight.specs.Weights.{Scale, WeightLaws, IsWeight, EachBelow, plus, zero_weight};
 

@@ -1,4 +1,6 @@
-//! The kinds of weight.
+//! `Terms` has five fields and no array, since arrays that mean the same list need not be the same value, and a search may keep
+//! one weight for many rules that have it. It takes five numbers even where fewer are asked for. `Pair` has its laws from those
+//! of its parts, so that kinds can be put together.
 ghost use Rattle.std.specs.Prelude.{◌≡◌, ◌^◌, ◌<◌, ◌↔◌, IsTrue, [], ◌∷◌, slice_index};
 
 use crate::domain::Domain;
@@ -18,7 +20,7 @@ pub struct Reach;
 impl Domain for Reach {
     ghost use Rattle.std.specs.Prelude.{[], refl};
     ghost use Rattle.wi_weight.specs.Kinds.{reach_scale};
-    ghost use Rattle.wi_weight.specs.LexLaws.{lex_laws};
+    ghost use Rattle.wi_weight.specs.lemmas.LexLaws.{lex_laws};
 
     ghost scale = { reach_scale };
 
@@ -56,8 +58,8 @@ pub struct Effort {
 impl Domain for Effort {
     ghost use Rattle.std.specs.Prelude.{[], ◌∷◌, refl};
     ghost use Rattle.wi_weight.specs.Kinds.{effort_scale};
-    ghost use Rattle.wi_weight.specs.LexLaws.{lex_laws};
-    ghost use Rattle.wi_weight.specs.Same.{same_effort};
+    ghost use Rattle.wi_weight.specs.lemmas.LexLaws.{lex_laws};
+    ghost use Rattle.wi_weight.specs.lemmas.Same.{same_effort};
 
     ghost scale = { effort_scale };
 
@@ -124,8 +126,8 @@ impl Terms {
 impl Domain for Terms {
     ghost use Rattle.std.specs.Prelude.{[], ◌∷◌, refl};
     ghost use Rattle.wi_weight.specs.Kinds.{terms_scale};
-    ghost use Rattle.wi_weight.specs.LexLaws.{lex_laws};
-    ghost use Rattle.wi_weight.specs.Same.{same_terms};
+    ghost use Rattle.wi_weight.specs.lemmas.LexLaws.{lex_laws};
+    ghost use Rattle.wi_weight.specs.lemmas.Same.{same_terms};
 
     ghost scale = { terms_scale };
 
@@ -180,8 +182,8 @@ pub struct Pair<A, B> {
 impl<A: Domain, B: Domain> Domain for Pair<A, B> {
     ghost use Rattle.std.specs.Prelude.{◌++◌};
     ghost use Rattle.wi_weight.specs.Kinds.{pair_scale};
-    ghost use Rattle.wi_weight.specs.PairLaws.{pair_laws, pair_admitted, same_parts};
-    ghost use Rattle.wi_weight.specs.Same.{same_pair};
+    ghost use Rattle.wi_weight.specs.lemmas.PairLaws.{pair_laws, pair_admitted, same_parts};
+    ghost use Rattle.wi_weight.specs.lemmas.Same.{same_pair};
 
     ghost scale = { pair_scale A.scale B.scale };
 

@@ -5,7 +5,7 @@ use Rattle.std.proofs.Common.{sym, ap, ◌∙◌, subst, append_assoc, append-ni
 use Rattle.std.proofs.lemmas.List.{reverse-append}
 use Rattle.std.proofs.lemmas.Option.{slice_get_within}
 use Rattle.wi_weight.specs.Weights.{Scale, WeightLaws, IsWeight, plus, zero_weight}
-use Rattle.wi_weight.specs.Order.{weight_zero}
+use Rattle.wi_weight.specs.lemmas.Order.{weight_zero}
 use Rattle.wi_pds.specs.declared.rule.Word2.{Word2}
 use Rattle.wi_pds.specs.declared.rule.Word2.TheVariants.{Empty, One, Two}
 use Rattle.wi_pds.specs.declared.rule.Rule.{Rule}

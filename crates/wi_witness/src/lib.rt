@@ -1,4 +1,4 @@
-//! A run from a table of least summaries.
+//! A run to the goal from a table of least summaries, as the names of its rules.
 #![tactic(auto)]
 
 mod refused;

@@ -1,4 +1,5 @@
-//! Why a run is not shown.
+//! A run may be far longer than the table that it is unfolded from. So one over the limit is refused before any of it is made,
+//! and its effort is told.
 use wi_base::NoMemory;
 
 /// Why a run is not shown.

@@ -1,4 +1,6 @@
-//! Unfolding: each row stands for its rule, then what its left row stands for, then what its right row does.
+//! Each row stands for its rule, then what its left row stands for, then what its right row does. The places that are still to
+//! be unfolded lie on a stack of our own, since a run can be longer than the program's stack is deep. A row is unfolded anew
+//! for each row that it is a part of.
 ghost use Rattle.std.specs.Prelude.{◌≡◌, ℕ, ◌<◌, ◌≤◌, ◌++◌, List, Some, IfOk, IfErr, IfSome, IsSome, OnOk, slice_get, length};
 ghost use Rattle.std.specs.Option.{option_to_list};
 ghost use Rattle.wi_weight.specs.Kinds.{pair_scale, effort_scale};

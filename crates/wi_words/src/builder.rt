@@ -1,4 +1,5 @@
-//! The program's commands, as clap has them.
+//! Commands are written down as clap's own values, so that clap's definition says which words are one. They are made anew for
+//! each call.
 ghost use Rattle.std.specs.Prelude.{◌≡◌, IfOk, false};
 ghost use Rattle.clap.specs.Words.{app_of, rule_of, shape_of};
 ghost use Rattle.clap.specs.declared.builder.command.Command.TheViews.{out-Command as fields_of};

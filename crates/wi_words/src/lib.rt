@@ -1,9 +1,10 @@
-//! The words of the command line.
+//! What the words of the command line ask for. They are read by clap, so that what a command is has a definition that isn't
+//! ours.
 #![tactic(auto)]
 
 ghost use Rattle.std.specs.Prelude.{◌≡◌, IfOk, map, string_bytes, option_map};
 ghost use Rattle.wi_words.specs.Commands.{command_of};
-ghost use Rattle.wi_words.specs.Shown.{shown};
+ghost use Rattle.wi_words.specs.private.Shown.{shown};
 
 mod builder;
 mod reader;

@@ -1,10 +1,11 @@
-//! The command that is read off what clap found.
+//! Clap tells which word belongs to which argument, and K is judged here, by our own definition of a number: clap's would take
+//! `+1` and `007`. The texts of a command are lent by the words.
 ghost use Rattle.std.specs.Prelude.{◌≡◌, ◌≤◌, ◌^◌, true, None, IfSome, option_map, option_and_then};
 ghost use Rattle.std.specs.Str.Parse.{digits_value};
 ghost use Rattle.wi_text.specs.Characters.{is_number};
 ghost use Rattle.clap.specs.Words.{first_of, found_of, rows_of, subcommand_rows_of};
 ghost use Rattle.wi_words.specs.Commands.{command_named, most_failed, play_of, verify_of};
-ghost use Rattle.wi_words.specs.Shown.{shown};
+ghost use Rattle.wi_words.specs.private.Shown.{shown};
 
 use crate::Command;
 use clap::ArgMatches;

@@ -10,7 +10,8 @@ use Rattle.wi_world.specs.declared.answer.Verdict.TheVariants.{Fits, Exceeds, Us
 use Rattle.wi_world.specs.Moves.{AreBounds}
 use Rattle.wi_world.specs.Moving.{IsMovingRun}
 use Rattle.wi_world.specs.Runs.{verdict_of}
-use Rattle.wi_world.specs.Holds.{Question, Matches, Weighing, NoneMovingLess, NoTraceLess, IsYes, IsNo, Holds, word_for}
+use Rattle.wi_world.specs.Holds.{Question, Matches, Weighing, NoneMovingLess, NoTraceLess, IsYes, IsNo, Holds}
+use Rattle.wi_world.specs.private.Holds.{word_for}
 use Rattle.wi_world.proofs.MovingLaws.{moving_possible}
 use Rattle.wi_world.proofs.RunLaws.{trace_moving, fits_trace, zero_fits}
 

@@ -14,7 +14,8 @@ use Rattle.wi_net.specs.declared.parts.LinkId.{LinkId}
 use Rattle.wi_net.specs.declared.parts.Member.{Member}
 use Rattle.wi_labels.specs.declared.label.Label.{Label}
 use Rattle.wi_net.specs.Net.{Net, is_link, label_known, labels_known, entry}
-use Rattle.wi_net.specs.Network.{IsNetwork, op_known, is_member_of}
+use Rattle.wi_net.specs.Network.{IsNetwork, op_known}
+use Rattle.wi_net.specs.private.Network.{is_member_of}
 use Rattle.wi_net.proofs.KeptLists.{all_get}
 use Rattle.wi_net.proofs.GroupLemmas.{entry_groups}
 use Rattle.wi_world.specs.declared.run.Step.{Step}

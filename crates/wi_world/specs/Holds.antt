@@ -76,9 +76,3 @@ Holds net question weigh No None None None = IsNo net question
 Holds net question weigh Inconclusive (Some w) (Some run) (Some (Exceeds n)) = IsInconclusive net question weigh w run (Exceeds n)
 Holds net question weigh Inconclusive (Some w) (Some run) (Some (UsesFailed e)) = IsInconclusive net question weigh w run (UsesFailed e)
 Holds net question weigh _ _ _ _ = ⊥
-
--- the answer's word, by the verdict of a least run
-abbrev pub word_for : Verdict → Word
-word_for (Fits fails) = Yes
-word_for (Exceeds n) = Inconclusive
-word_for (UsesFailed e) = Inconclusive

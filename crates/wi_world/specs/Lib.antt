@@ -2,3 +2,4 @@ pub mod Moves
 pub mod Moving
 pub mod Runs
 pub mod Holds
+pub mod private

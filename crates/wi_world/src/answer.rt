@@ -1,4 +1,5 @@
-//! The words of answers, and verdicts on runs.
+//! A verdict has what speaks against a run, a count or a link, since whoever gets an inconclusive answer asks for it. These
+//! types stand below all searches and replays, so that both speak of the same.
 use wi_net::{FailSet, LinkId};
 
 /// Whether a run's own failures are allowed.

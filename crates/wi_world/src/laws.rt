@@ -1,4 +1,6 @@
-//! Laws: what the definitions mean. Each holds for every network, every bounds and every run, and runs no code.
+//! The moving world is defined by courses of events, and the laws say that none has to be looked for: a run moves where each
+//! hop is possible by itself. They also tie moving runs to failures that stay, so that a no on the first is a no on the others.
+//! Each holds for every network and every bounds of it, and runs no code.
 ghost use Rattle.std.specs.Prelude.{◌≡◌, ℕ, true, List, []};
 ghost use Rattle.wi_net.specs.Net.{Net};
 ghost use Rattle.wi_net.specs.declared.bounds.Bounds.{Bounds};

@@ -1,4 +1,6 @@
-//! Runs, and what is added up over them.
+//! A run has its first link and header and the choices at each hop, and not what follows from these by the tables: so a run
+//! that isn't one can be written down, and judged. A step takes two numbers, and links and headers on the way have to be
+//! computed.
 use wi_base::Listed;
 use wi_labels::Header;
 use wi_net::LinkId;

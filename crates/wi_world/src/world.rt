@@ -1,4 +1,5 @@
-//! The moving world's states and events.
+//! Failures and repairs are events like hops, so that a packet may meet other failed links at each hop, as no one set of them
+//! can say. An event names one link and means its whole risk group. Each state has a header and a set of its own.
 use crate::run::Step;
 use wi_labels::Header;
 use wi_net::{FailSet, LinkId};

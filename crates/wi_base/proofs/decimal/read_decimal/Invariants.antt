@@ -1,5 +1,5 @@
 use Rattle.std.proofs.Common.{◌≡◌, None, drop}
-use Rattle.wi_base.specs.Decimal.{number_in}
+use Rattle.wi_base.specs.private.Decimal.{number_in}
 use Rattle.wi_base.proofs.decimal.read_decimal.Given as goal
 
 abbrev pub invariant-loop-byte : goal.invariant-loop-byte

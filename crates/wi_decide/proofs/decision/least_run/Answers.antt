@@ -17,16 +17,16 @@ run_of-requires-clause-spells c =
     let named = there (λ w. IsNamedRun scale components (rules_by (encoding_of c.args.system.now)) 0 0 1 c.in_ok-ids.ids.items (components w)) c.args.table.now.best c.requires.reached (c.in_ok-ids.ensures.run c.args.system.now c.requires.table) in (
       problem_of c.args.net.now c.args.query.now vector,
       components named.0,
-      rules_for c.args.net.now c.args.query.now vector c.args.system.now c.of-layout.result c.keeps.ensures c.requires.query c.requires.system (c.of-layout.ensures vector c.args.query.now.bounds),
+      rules_for c.args.net.now c.args.query.now vector c.args.system.now c.of-layout.result c.requires.problem c.requires.system (c.of-layout.ensures vector c.args.query.now.bounds),
       rw c.as_slice.ensures.value named.1,
     )
 
 pub returns-clause-run : goal.returns-clause-run
 returns-clause-run c =
     let vector = c.args.system.now.vector in
-    spelled_least c.args.net.now c.args.query.now vector c.keeps.ensures c.requires.query c.args.table.now (asked_table _ _ _ _ _ c.requires.system c.requires.table)
+    spelled_least c.args.net.now c.args.query.now vector c.requires.problem c.args.table.now (asked_table _ _ _ _ _ c.requires.system c.requires.table)
     (rules_by (encoding_of c.args.system.now)) c.in_ok-ids.ids.items c.in_ok-run_of.field-0 c.requires.reached (c.in_ok-ids.ensures.run c.args.system.now c.requires.table)
     (λ w named.
     (c.in_ok-run_of.ensures (problem_of c.args.net.now c.args.query.now vector) w
-    (rules_for c.args.net.now c.args.query.now vector c.args.system.now c.of-layout.result c.keeps.ensures c.requires.query c.requires.system (c.of-layout.ensures vector c.args.query.now.bounds))
+    (rules_for c.args.net.now c.args.query.now vector c.args.system.now c.of-layout.result c.requires.problem c.requires.system (c.of-layout.ensures vector c.args.query.now.bounds))
     (rw c.as_slice.ensures.value named)).0)

@@ -1,7 +1,7 @@
 use Rattle.std.proofs.Common.{◌≡◌, refl, sym, ◌∙◌, subst}
 use Rattle.std.specs.Prelude.{IsSome}
 use Rattle.std.proofs.lemmas.Result.{IfOk-weaker}
-use Rattle.wi_decide.specs.Spelled.{Spelled}
+use Rattle.wi_decide.specs.private.Spelled.{Spelled}
 use Rattle.wi_build.specs.Problems.{IsAnswering}
 use Rattle.wi_rules.specs.Goals.{origins_for}
 use Rattle.wi_rules.specs.Numbers.{origins_by}

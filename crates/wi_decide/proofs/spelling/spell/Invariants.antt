@@ -1,5 +1,5 @@
 use Rattle.std.proofs.Common.{◌≡◌, drop}
-use Rattle.wi_decide.specs.Spelled.{unspelled, with_rules}
+use Rattle.wi_decide.specs.private.Spelled.{unspelled, with_rules}
 use Rattle.wi_decide.proofs.spelling.spell.Given as goal
 
 -- what the ids that are left tell after what was told is what all tell

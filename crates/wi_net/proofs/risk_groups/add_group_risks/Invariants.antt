@@ -1,6 +1,6 @@
 use Rattle.std.proofs.Common.{◌≡◌, drop, map}
 use Rattle.wi_net.specs.declared.parts.Member.{Member}
-use Rattle.wi_net.specs.RiskGroups.{with_risks}
+use Rattle.wi_net.specs.private.RiskGroups.{with_risks}
 use Rattle.wi_net.proofs.risk_groups.add_group_risks.Given as goal
 
 abbrev pub invariant-loop-m : goal.invariant-loop-m

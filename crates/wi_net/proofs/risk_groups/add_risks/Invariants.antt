@@ -1,5 +1,5 @@
 use Rattle.std.proofs.Common.{◌≡◌, drop}
-use Rattle.wi_net.specs.RiskGroups.{with_risks}
+use Rattle.wi_net.specs.private.RiskGroups.{with_risks}
 use Rattle.wi_net.proofs.risk_groups.add_risks.Given as goal
 
 abbrev pub invariant-loop-e : goal.invariant-loop-e

@@ -1,7 +1,7 @@
 use Rattle.std.proofs.Common.{◌≡◌, ◌∙◌, ap, [], List, IfOk, subst, take}
 use Rattle.wi_net.specs.declared.parts.LinkId.{LinkId}
 use Rattle.wi_net.specs.declared.parts.Member.{Member}
-use Rattle.wi_net.specs.RiskGroups.{with_group_risks}
+use Rattle.wi_net.specs.private.RiskGroups.{with_group_risks}
 use Rattle.wi_net.proofs.IndexLemmas.{union_is}
 use Rattle.wi_net.proofs.WidenLemmas.{before_is}
 use Rattle.wi_net.proofs.risk_groups.union_before.Goals as goal

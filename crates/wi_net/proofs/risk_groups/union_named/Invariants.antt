@@ -1,5 +1,5 @@
 use Rattle.std.proofs.Common.{◌≡◌, [], drop}
-use Rattle.wi_net.specs.RiskGroups.{gathered}
+use Rattle.wi_net.specs.private.RiskGroups.{gathered}
 use Rattle.wi_net.proofs.risk_groups.union_named.Given as goal
 
 abbrev pub invariant-loop-risk : goal.invariant-loop-risk

@@ -1,6 +1,6 @@
 use Rattle.std.proofs.Common.{◌≡◌, ◌∙◌, ap, [], List, IfOk, subst}
 use Rattle.wi_net.specs.declared.parts.LinkId.{LinkId}
-use Rattle.wi_net.specs.RiskGroups.{with_risks}
+use Rattle.wi_net.specs.private.RiskGroups.{with_risks}
 use Rattle.wi_net.proofs.IndexLemmas.{union_is}
 use Rattle.wi_net.proofs.WidenLemmas.{widened_is}
 use Rattle.wi_net.proofs.risk_groups.union_of.Goals as goal

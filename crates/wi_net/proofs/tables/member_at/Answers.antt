@@ -2,7 +2,8 @@ use Rattle.std.proofs.Common.{◌≡◌, ◌∙◌, ◌<◌, ◌-◌, ap, sym, s
 use Rattle.std.specs.List.Sorted.{IsPartitionedBy}
 use Rattle.wi_net.specs.declared.parts.TableRow.{TableRow}
 use Rattle.wi_net.specs.declared.parts.Member.{Member}
-use Rattle.wi_net.specs.Tables.{row_members, starts_from, begun, members_of, all_members, group_members}
+use Rattle.wi_net.specs.Tables.{row_members, members_of, all_members, group_members}
+use Rattle.wi_net.specs.private.Tables.{starts_from, begun}
 use Rattle.std.proofs.lemmas.Option.{slice_get_within}
 use Rattle.wi_net.proofs.MemberLemmas.{Located, located, starts_parted, get_or_some, starts_count}
 use Rattle.wi_net.proofs.tables.member_at.Goals as goal

@@ -1,5 +1,6 @@
 use Rattle.std.proofs.Common.{◌≤◌, length, arith}
-use Rattle.wi_netjson.specs.Written.{link_data, has_small_distance}
+use Rattle.wi_netjson.specs.Written.{link_data}
+use Rattle.wi_netjson.specs.private.Written.{has_small_distance}
 use Rattle.wi_netjson.proofs.WrittenLemmas.{made_more, made_all, all_more, all_taken}
 use Rattle.wi_netjson.proofs.written.links_value.Goals as goal
 

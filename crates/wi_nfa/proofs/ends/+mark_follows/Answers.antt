@@ -1,7 +1,7 @@
 use Rattle.std.proofs.Common.{◌+◌, vec_len, ap, ◌∙◌, arith, refl}
 use Rattle.std.proofs.lemmas.Result.{on_ok_weaker}
 use Rattle.wi_regex.specs.Matching.{position_count}
-use Rattle.wi_nfa.specs.Ends.{IsChain, IsChoice, AddsFollows}
+use Rattle.wi_nfa.specs.private.Ends.{IsChain, IsChoice, AddsFollows}
 use Rattle.wi_nfa.proofs.EndsLemmas.{ends_fit, begins_fit, chain_ends_at, choice_ends_at}
 use Rattle.wi_nfa.proofs.FollowsLemmas.{concat_follows_at, either_follows_at}
 use Rattle.wi_nfa.proofs.ends.+mark_follows.Goals as goal

@@ -1,5 +1,5 @@
 use Rattle.std.proofs.Common.{◌≡◌, Contains, vec_len, take}
-use Rattle.wi_nfa.specs.Marks.{IsSquare, AddsMarks}
+use Rattle.wi_nfa.specs.private.Marks.{IsSquare, AddsMarks}
 use Rattle.wi_nfa.proofs.marks.link.Given as goal
 
 abbrev pub invariant-loop-p : goal.invariant-loop-p

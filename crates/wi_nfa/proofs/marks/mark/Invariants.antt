@@ -1,5 +1,5 @@
 use Rattle.std.proofs.Common.{◌≡◌, vec_len, take, Contains}
-use Rattle.wi_nfa.specs.Marks.{AddsSome}
+use Rattle.wi_nfa.specs.private.Marks.{AddsSome}
 use Rattle.wi_nfa.proofs.marks.mark.Given as goal
 
 abbrev pub invariant-loop-q : goal.invariant-loop-q

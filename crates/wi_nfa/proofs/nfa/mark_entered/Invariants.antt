@@ -1,5 +1,5 @@
 use Rattle.std.proofs.Common.{◌≡◌, true, vec_len, take, Contains}
-use Rattle.wi_nfa.specs.Marks.{AddsSome}
+use Rattle.wi_nfa.specs.private.Marks.{AddsSome}
 use Rattle.wi_nfa.specs.Rows.{reads_at}
 use Rattle.wi_nfa.proofs.nfa.mark_entered.Given as goal
 

@@ -1,5 +1,5 @@
 use Rattle.std.proofs.Common.{◌≡◌, IsTrue, length, arith}
-use Rattle.wi_nfa.specs.Marks.{marked}
+use Rattle.wi_nfa.specs.private.Marks.{marked}
 use Rattle.wi_nfa.proofs.Listing.{passed_rise, row_pushed, rows_all, row_within, column_within}
 use Rattle.wi_nfa.proofs.tables.columns_of.Goals as goal
 

@@ -1,6 +1,6 @@
 use Rattle.std.proofs.Common.{ℕ, ◌≡◌, ◌<◌, IsTrue, vec_len}
 use Rattle.wi_nfa.specs.Automata.{ListsRising}
-use Rattle.wi_nfa.specs.Marks.{marked}
+use Rattle.wi_nfa.specs.private.Marks.{marked}
 use Rattle.wi_nfa.specs.Rows.{row}
 use Rattle.wi_nfa.proofs.tables.rows_of.Given as goal
 

@@ -1,5 +1,5 @@
 use Rattle.std.proofs.Common.{◌≡◌, ◌++◌, map, filter_map, drop}
-use Rattle.wi_quantity.specs.Meaning.{small_meant}
+use Rattle.wi_quantity.specs.private.Meaning.{small_meant}
 use Rattle.wi_quantity.proofs.read.meant.Given as goal
 
 abbrev pub invariant-loop-term : goal.invariant-loop-term

@@ -1,5 +1,5 @@
 use Rattle.std.proofs.Common.{◌≡◌, ◌++◌, filter_map, drop}
-use Rattle.wi_quantity.specs.Meaning.{small_meant}
+use Rattle.wi_quantity.specs.private.Meaning.{small_meant}
 use Rattle.wi_quantity.proofs.read.meant_in.Given as goal
 
 abbrev pub invariant-loop-part : goal.invariant-loop-part

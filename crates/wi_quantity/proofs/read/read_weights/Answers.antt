@@ -1,6 +1,6 @@
 use Rattle.std.proofs.Common.{◌∙◌, ap, sym}
 use Rattle.wi_quantity.specs.declared.written.Stage.TheVariants.{Start}
-use Rattle.wi_quantity.specs.Syntax.{stop}
+use Rattle.wi_quantity.specs.private.Syntax.{stop}
 use Rattle.wi_quantity.proofs.Stopping.{fault_is}
 use Rattle.wi_quantity.proofs.TermLemmas.{noted_from, numbers_from, means_if, fault_if}
 use Rattle.wi_quantity.proofs.read.read_weights.Goals as goal

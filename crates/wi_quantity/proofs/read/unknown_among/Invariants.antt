@@ -1,5 +1,5 @@
 use Rattle.std.proofs.Common.{◌≡◌, drop}
-use Rattle.wi_quantity.specs.Meaning.{unknown_among}
+use Rattle.wi_quantity.specs.private.Meaning.{unknown_among}
 use Rattle.wi_quantity.proofs.read.unknown_among.Given as goal
 
 abbrev pub invariant-loop-term : goal.invariant-loop-term

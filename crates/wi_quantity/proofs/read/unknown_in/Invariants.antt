@@ -1,5 +1,5 @@
 use Rattle.std.proofs.Common.{◌≡◌, drop}
-use Rattle.wi_quantity.specs.Meaning.{unknown_in}
+use Rattle.wi_quantity.specs.private.Meaning.{unknown_in}
 use Rattle.wi_quantity.proofs.read.unknown_in.Given as goal
 
 abbrev pub invariant-loop-part : goal.invariant-loop-part

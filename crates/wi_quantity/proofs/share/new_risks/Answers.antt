@@ -1,5 +1,5 @@
 use Rattle.std.proofs.Common.{◌≡◌, ◌+◌, take, [], arith, refl}
-use Rattle.wi_quantity.specs.Shares.{risks_of}
+use Rattle.wi_quantity.specs.private.Shares.{risks_of}
 use Rattle.wi_quantity.proofs.RiskLemmas.{risks_few, risks_step}
 use Rattle.wi_quantity.proofs.share.new_risks.Goals as goal
 use Rattle.wi_quantity.proofs.share.new_risks.Goals.{then-is_new, else-is_new}

@@ -1,5 +1,5 @@
 use Rattle.std.proofs.Common.{◌≡◌, ◌+◌, [], take}
-use Rattle.wi_quantity.specs.Shares.{risks_of}
+use Rattle.wi_quantity.specs.private.Shares.{risks_of}
 use Rattle.wi_quantity.proofs.share.new_risks.Given as goal
 
 abbrev pub invariant-loop-i : goal.invariant-loop-i

@@ -1,7 +1,7 @@
 use Rattle.std.proofs.Common.{◌≡◌, ◌+◌, ◌*◌, ◌^◌, ◌≤◌, map, drop}
 use Rattle.std.specs.List.{fold}
 use Rattle.wi_quantity.specs.Weighing.{term_value}
-use Rattle.wi_quantity.specs.Shares.{share_of}
+use Rattle.wi_quantity.specs.private.Shares.{share_of}
 use Rattle.wi_quantity.proofs.share.term_value.Given as goal
 
 abbrev pub invariant-loop-part : goal.invariant-loop-part

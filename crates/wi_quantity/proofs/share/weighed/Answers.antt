@@ -1,5 +1,5 @@
 use Rattle.std.proofs.Common.{◌∙◌}
-use Rattle.wi_quantity.specs.Shares.{share_of}
+use Rattle.wi_quantity.specs.private.Shares.{share_of}
 use Rattle.wi_quantity.proofs.ShareLemmas.{five_terms}
 use Rattle.wi_quantity.proofs.share.weighed.Goals as goal
 

@@ -1,5 +1,5 @@
 use Rattle.std.proofs.Common.{◌≡◌, drop}
-use Rattle.wi_quantity.specs.Syntax.{stop}
+use Rattle.wi_quantity.specs.private.Syntax.{stop}
 use Rattle.wi_quantity.specs.declared.written.Stage.TheVariants.{Start}
 use Rattle.wi_quantity.proofs.written.stop.Given as goal
 

@@ -1,5 +1,5 @@
 use Rattle.std.proofs.Common.{◌≡◌, drop}
-use Rattle.wi_quantity.specs.Noting.{note_all, nothing}
+use Rattle.wi_quantity.specs.private.Noting.{note_all, nothing}
 use Rattle.wi_quantity.proofs.written.terms_in.Given as goal
 
 abbrev pub invariant-loop-i : goal.invariant-loop-i

@@ -1,7 +1,7 @@
 -- A mark for each label so far.
 use Rattle.std.proofs.Common.{◌≡◌}
 use Rattle.std.specs.List.{list_any}
-use Rattle.wi_query.specs.Names.{is_meant, marks_of, chosen}
+use Rattle.wi_query.specs.private.Names.{is_meant, marks_of, chosen}
 use Rattle.wi_query.proofs.atoms.labels_among.Given as goal
 
 abbrev pub invariant-loop-x : goal.invariant-loop-x

@@ -1,7 +1,7 @@
 -- A mark for each link so far.
 use Rattle.std.proofs.Common.{◌≡◌}
 use Rattle.std.specs.List.{list_any}
-use Rattle.wi_query.specs.Names.{is_between, marks_of, chosen}
+use Rattle.wi_query.specs.private.Names.{is_between, marks_of, chosen}
 use Rattle.wi_query.proofs.atoms.links_among.Given as goal
 
 abbrev pub invariant-loop-x : goal.invariant-loop-x

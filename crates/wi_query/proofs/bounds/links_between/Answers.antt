@@ -1,7 +1,7 @@
 -- One link more.
 use Rattle.std.proofs.Common.{sym, refl, ◌∙◌}
 use Rattle.std.specs.List.{list_any}
-use Rattle.wi_query.specs.Names.{is_between}
+use Rattle.wi_query.specs.private.Names.{is_between}
 use Rattle.wi_query.proofs.LinkSets.{link_pushed, link_left_out}
 use Rattle.wi_query.proofs.bounds.links_between.Goals as goal
 use Rattle.wi_query.proofs.bounds.links_between.Goals.{then-any_between+in_ok-insert, else-any_between}

@@ -2,7 +2,7 @@
 use Rattle.std.proofs.Common.{◌≡◌}
 use Rattle.std.specs.List.{filter, list_any}
 use Rattle.wi_net.specs.LinkSet.{links_from}
-use Rattle.wi_query.specs.Names.{is_between}
+use Rattle.wi_query.specs.private.Names.{is_between}
 use Rattle.wi_query.proofs.bounds.links_between.Given as goal
 
 abbrev pub invariant-loop-x : goal.invariant-loop-x

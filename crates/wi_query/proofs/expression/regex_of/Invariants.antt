@@ -3,7 +3,7 @@ use Rattle.std.proofs.Common.{◌≡◌, drop}
 use Rattle.std.specs.List.{flat_map}
 use Rattle.wi_query.specs.Unknown.{unknown_in_sign}
 use Rattle.wi_query.specs.Sets.{SymbolMarks}
-use Rattle.wi_query.specs.Frames.{TreeReading, set_signs, after_signs, at_start, IsReading}
+use Rattle.wi_query.specs.private.Frames.{TreeReading, set_signs, after_signs, at_start, IsReading}
 use Rattle.wi_query.proofs.expression.regex_of.Given as goal
 
 abbrev pub invariant-loop-sign : goal.invariant-loop-sign

@@ -1,6 +1,6 @@
 -- A pair that doesn't mean the link.
 use Rattle.std.proofs.Common.{sym, ◌∙◌}
-use Rattle.wi_query.specs.Names.{is_between}
+use Rattle.wi_query.specs.private.Names.{is_between}
 use Rattle.wi_query.proofs.Lists.{at_read, none_passes_at}
 use Rattle.wi_query.proofs.names.any_between.Goals as goal
 

@@ -1,7 +1,7 @@
 -- Those that are left tell what all tell.
 use Rattle.std.proofs.Common.{◌≡◌, drop}
 use Rattle.std.specs.List.{list_any}
-use Rattle.wi_query.specs.Names.{is_meant}
+use Rattle.wi_query.specs.private.Names.{is_meant}
 use Rattle.wi_query.proofs.names.any_meant.Given as goal
 
 abbrev pub invariant-loop-name : goal.invariant-loop-name

@@ -1,6 +1,6 @@
 -- Each name so far is looked up.
 use Rattle.std.proofs.Common.{take}
-use Rattle.wi_query.specs.Names.{AreMeant, label_meant}
+use Rattle.wi_query.specs.private.Names.{AreMeant, label_meant}
 use Rattle.wi_query.proofs.names.labels_named.Given as goal
 
 abbrev pub invariant-loop-name : goal.invariant-loop-name

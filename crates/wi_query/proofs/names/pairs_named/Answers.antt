@@ -2,7 +2,7 @@
 use Rattle.std.proofs.Common.{refl}
 use Rattle.std.proofs.lemmas.Option.{slice_get_read}
 use Rattle.std.proofs.lemmas.Result.{err_from_is_err_and}
-use Rattle.wi_query.specs.Names.{ends_meant}
+use Rattle.wi_query.specs.private.Names.{ends_meant}
 use Rattle.wi_query.specs.Unknown.{unknown_in_pair}
 use Rattle.wi_query.proofs.Lists.{first_flat}
 use Rattle.wi_query.proofs.Marks.{pair_known}

@@ -1,6 +1,6 @@
 -- Each pair so far is looked up.
 use Rattle.std.proofs.Common.{take}
-use Rattle.wi_query.specs.Names.{AreMeant, ends_meant}
+use Rattle.wi_query.specs.private.Names.{AreMeant, ends_meant}
 use Rattle.wi_query.proofs.names.pairs_named.Given as goal
 
 abbrev pub invariant-loop-pair : goal.invariant-loop-pair

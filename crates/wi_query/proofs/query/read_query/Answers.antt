@@ -2,7 +2,7 @@
 use Rattle.std.proofs.lemmas.Result.{IfOk-weaker, IfErr-weaker}
 use Rattle.wi_query.specs.Meaning.{IsQuery}
 use Rattle.wi_query.specs.Faults.{IsFault}
-use Rattle.wi_query.specs.Parts.{IsMadeOf, IsWrong}
+use Rattle.wi_query.specs.private.Parts.{IsMadeOf, IsWrong}
 use Rattle.wi_query.proofs.Queries.{query_is, wrong_fault}
 use Rattle.wi_query.proofs.query.read_query.Goals as goal
 

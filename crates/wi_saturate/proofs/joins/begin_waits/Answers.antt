@@ -1,11 +1,12 @@
 use Rattle.wi_saturate.proofs.Counts.{sum_at, sum_past}
 use Rattle.wi_saturate.proofs.Elements.{some_there}
-use Rattle.wi_saturate.specs.Tries.{rows_from, of_head}
+use Rattle.wi_saturate.specs.Tries.{rows_from}
+use Rattle.wi_saturate.specs.private.Tries.{of_head}
 use Rattle.std.proofs.Common.{arith}
 use Rattle.std.proofs.lemmas.Option.{slice_get_within}
 use Rattle.wi_saturate.proofs.Pushes.{pushed_both, two_kept}
 use Rattle.wi_saturate.proofs.joins.begin_waits.Goals as goal
-use Rattle.wi_saturate.specs.Turns.{heads_of, rules_of, rows_of}
+use Rattle.wi_saturate.specs.private.Turns.{heads_of, rules_of, rows_of}
 use borrow.Author.Count.{below_more}
 
 pub loop-n-preserved : goal.loop-n-preserved

@@ -2,11 +2,11 @@ use Rattle.wi_saturate.proofs.Counts.{sum_starts, sum_goes_on, sum_ends, place_e
 use Rattle.std.specs.Prelude.{◌==◌}
 use Rattle.std.proofs.Common.{◌≡◌, ◌+◌, ◌-◌, ◌<◌, ◌≤◌, Some, slice_get, subst, arith, length, ◌∙◌, ap, sym, refl}
 use Rattle.wi_saturate.specs.declared.waits.Wait.{Wait}
-use Rattle.wi_saturate.specs.Searches.{HasTwo}
+use Rattle.wi_saturate.specs.private.Searches.{HasTwo}
 use Rattle.wi_saturate.proofs.Elements.{some_there, same_item}
 use Rattle.wi_saturate.proofs.Walks.{walk_starts, walk_goes_on, walk_falls, walk_ends}
 use Rattle.wi_saturate.proofs.Pushes.{place_within, pushed_none, pushed_both, two_kept, wait_ends, wait_there}
-use Rattle.wi_saturate.specs.Turns.{heads_of, rules_of, rows_of}
+use Rattle.wi_saturate.specs.private.Turns.{heads_of, rules_of, rows_of}
 use Rattle.wi_saturate.proofs.joins.end_waits.Goals as goal
 
 pub end-end-requires : goal.end-end-requires

@@ -3,7 +3,7 @@ use Rattle.std.proofs.lemmas.Option.{slice_get_read}
 use Rattle.wi_saturate.proofs.Elements.{on_ok}
 use Rattle.wi_saturate.proofs.Counts.{one_tries, no_one_tries}
 use Rattle.wi_saturate.proofs.Pushes.{one_first, no_one, pushed_none}
-use Rattle.wi_saturate.specs.Turns.{rules_of, rows_of}
+use Rattle.wi_saturate.specs.private.Turns.{rules_of, rows_of}
 use Rattle.wi_saturate.proofs.joins.push_if_one.Goals as goal
 
 pub push_one-requires-clause-one : goal.push_one-requires-clause-one

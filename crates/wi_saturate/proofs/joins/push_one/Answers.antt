@@ -2,7 +2,7 @@ use Rattle.std.proofs.lemmas.Option.{slice_get_within}
 use Rattle.std.proofs.Common.{rules}
 use Rattle.wi_saturate.proofs.Elements.{on_ok, on_ok_both, on_any}
 use Rattle.wi_saturate.proofs.Pushes.{pushed_one, one_pushed, rule_fits, row_fits}
-use Rattle.wi_saturate.specs.Turns.{rules_of, rows_of}
+use Rattle.wi_saturate.specs.private.Turns.{rules_of, rows_of}
 use Rattle.wi_saturate.proofs.joins.push_one.Goals as goal
 
 pub extend-weight-requires-clause-first : goal.extend-weight-requires-clause-first

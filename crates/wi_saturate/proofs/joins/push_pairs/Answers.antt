@@ -3,12 +3,12 @@ use Rattle.wi_saturate.specs.Tries.{is_from}
 use Rattle.std.proofs.lemmas.Option.{slice_get_within}
 use Rattle.std.proofs.Common.{◌<◌, ℕ, ◌≡◌, ◌+◌, ◌-◌, Some, slice_get, subst, arith, ◌∙◌, ◌≤◌, ap, sym, length}
 use Rattle.wi_saturate.specs.declared.waits.Wait.{Wait}
-use Rattle.wi_saturate.specs.Searches.{HasTwo}
+use Rattle.wi_saturate.specs.private.Searches.{HasTwo}
 use Rattle.wi_saturate.proofs.Lookups.{once}
 use Rattle.wi_saturate.proofs.Elements.{same_item, some_there}
 use Rattle.wi_saturate.proofs.Walks.{walk_starts, walk_goes_on, walk_falls, walk_ends}
 use Rattle.wi_saturate.proofs.Pushes.{pushed_none, pushed_both, two_kept, wait_meets, wait_there}
-use Rattle.wi_saturate.specs.Turns.{heads_of, rules_of, rows_of}
+use Rattle.wi_saturate.specs.private.Turns.{heads_of, rules_of, rows_of}
 use Rattle.wi_saturate.proofs.joins.push_pairs.Goals as goal
 
 pub end-end-requires : goal.end-end-requires

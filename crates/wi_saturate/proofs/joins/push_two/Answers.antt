@@ -2,7 +2,7 @@ use Rattle.std.proofs.Common.{rules}
 use Rattle.std.proofs.lemmas.Option.{slice_get_within}
 use Rattle.wi_saturate.proofs.Elements.{on_ok, on_ok_both, on_any}
 use Rattle.wi_saturate.proofs.Pushes.{pushed_one, two_pushed, rule_fits, row_fits, both_fit}
-use Rattle.wi_saturate.specs.Turns.{rules_of, rows_of}
+use Rattle.wi_saturate.specs.private.Turns.{rules_of, rows_of}
 use Rattle.wi_saturate.proofs.joins.push_two.Goals as goal
 
 pub offset_bounds-turn-j : goal.offset_bounds-turn-j

@@ -10,7 +10,7 @@ use Rattle.wi_saturate.specs.declared.refused.LeastRefused.TheVariants.{Memory}
 use Rattle.wi_saturate.specs.Refusals.{IsRefusal}
 use Rattle.std.proofs.lemmas.Bool.{false≢true}
 use Rattle.wi_saturate.specs.declared.row.Row.{Row}
-use Rattle.wi_saturate.specs.Searches.{IsSearch}
+use Rattle.wi_saturate.specs.private.Searches.{IsSearch}
 use Rattle.wi_saturate.proofs.Settle.{ends, settled_more, reaches, stays_open, overflows, closed_at_end, closed_at_turn}
 use Rattle.wi_saturate.proofs.Elements.{if_err}
 use Rattle.wi_saturate.proofs.Searching.{last_head}

@@ -1,8 +1,8 @@
-use Rattle.wi_saturate.specs.Tries.{all_ways}
+use Rattle.wi_saturate.specs.private.Tries.{all_ways}
 use Rattle.std.proofs.Common.{◌≡◌, [], ◌+◌, ◌-◌, length, ◌^◌, vec_len, option_map, ◌≤◌}
 use Rattle.wi_saturate.specs.Rows.{EachAfter, Settled}
 use Rattle.wi_saturate.specs.LeastTables.{IsSettled}
-use Rattle.wi_saturate.specs.Searches.{IsSearch}
+use Rattle.wi_saturate.specs.private.Searches.{IsSearch}
 use Rattle.wi_saturate.proofs.saturation.settle.Given as goal
 
 abbrev pub invariant-turns : goal.invariant-turns

@@ -1,6 +1,6 @@
 use Rattle.std.proofs.Common.{length}
 use Rattle.std.specs.Str.{IsUtf8}
-use Rattle.wi_script.specs.Reading.{names_of}
+use Rattle.wi_script.specs.private.Reading.{names_of}
 use Rattle.wi_script.proofs.Labels.{Turns}
 use Rattle.wi_script.proofs.line.labels.Given as goal
 

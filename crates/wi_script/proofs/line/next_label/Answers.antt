@@ -1,5 +1,5 @@
 use Rattle.std.proofs.Common.{rules}
-use Rattle.wi_script.specs.Reading.{label_in}
+use Rattle.wi_script.specs.private.Reading.{label_in}
 use Rattle.wi_script.proofs.line.next_label.Goals as goal
 
 pub returns : goal.returns

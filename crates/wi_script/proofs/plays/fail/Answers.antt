@@ -1,6 +1,6 @@
 use Rattle.std.proofs.Common.{◌∙◌, ap, sym, arith}
 use Rattle.wi_net.specs.RiskGroups.{union}
-use Rattle.wi_script.specs.Moments.{seen}
+use Rattle.wi_script.specs.private.Moments.{seen}
 use Rattle.wi_script.proofs.PlayLemmas.{fails_too_many, fails_now}
 use Rattle.wi_script.proofs.plays.fail.Goals as goal
 

@@ -1,6 +1,6 @@
 use Rattle.std.proofs.Common.{◌∙◌, ap, sym}
 use Rattle.wi_net.specs.LinkSet.{outside}
-use Rattle.wi_script.specs.Moments.{seen}
+use Rattle.wi_script.specs.private.Moments.{seen}
 use Rattle.wi_script.proofs.PlayLemmas.{repairs_now}
 use Rattle.wi_script.proofs.plays.repair.Goals as goal
 

@@ -1,5 +1,5 @@
 use Rattle.std.proofs.Common.{◌+◌, arith}
-use Rattle.wi_script.specs.Moments.{seen}
+use Rattle.wi_script.specs.private.Moments.{seen}
 use Rattle.wi_script.proofs.PlayLemmas.{states_more, noted_on, refused_on}
 use Rattle.wi_script.proofs.plays.states_from.Goals as goal
 

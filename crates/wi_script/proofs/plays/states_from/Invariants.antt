@@ -2,7 +2,7 @@ use Rattle.std.proofs.Common.{◌≡◌, ◌+◌, ◌++◌, drop, true}
 use Rattle.std.specs.List.{list_all}
 use Rattle.std.specs.Option.{option_map}
 use Rattle.wi_script.specs.Plays.{states_of, first_refused, is_state_of}
-use Rattle.wi_script.specs.Moments.{seen, is_moment_of}
+use Rattle.wi_script.specs.private.Moments.{seen, is_moment_of}
 use Rattle.wi_script.proofs.plays.states_from.Given as goal
 
 abbrev pub invariant-loop-i : goal.invariant-loop-i

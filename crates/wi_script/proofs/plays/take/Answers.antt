@@ -1,5 +1,5 @@
 use Rattle.std.proofs.Common.{Ok, ap, sym, ◌∙◌}
-use Rattle.wi_script.specs.Moments.{seen}
+use Rattle.wi_script.specs.private.Moments.{seen}
 use Rattle.wi_script.proofs.PlayLemmas.{hops_now}
 use Rattle.wi_script.proofs.plays.take.Goals as goal
 

@@ -1,5 +1,5 @@
 use Rattle.std.proofs.Common.{length}
-use Rattle.wi_script.specs.Meaning.{AreEvents}
+use Rattle.wi_script.specs.private.Meaning.{AreEvents}
 use Rattle.wi_script.proofs.read.more_lines.Given as goal
 
 abbrev pub invariant-loop-left : goal.invariant-loop-left

@@ -1,5 +1,5 @@
 use Rattle.std.proofs.Common.{subst}
-use Rattle.wi_syntax.specs.Reading.{IsReadTo}
+use Rattle.wi_syntax.specs.private.Reading.{IsReadTo}
 use Rattle.wi_syntax.proofs.Texts.{fault_is}
 use Rattle.wi_syntax.proofs.reader.read_written.Goals as goal
 

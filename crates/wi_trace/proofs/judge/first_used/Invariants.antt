@@ -1,5 +1,5 @@
 use Rattle.std.proofs.Common.{◌≡◌, drop}
-use Rattle.wi_trace.specs.Hops.{used_in}
+use Rattle.wi_trace.specs.private.Hops.{used_in}
 use Rattle.wi_trace.proofs.judge.first_used.Given as goal
 
 abbrev pub invariant-loop-step : goal.invariant-loop-step

@@ -1,5 +1,5 @@
 use Rattle.std.proofs.Common.{◌≡◌, drop}
-use Rattle.wi_trace.specs.Hops.{gathered}
+use Rattle.wi_trace.specs.private.Hops.{gathered}
 use Rattle.wi_trace.proofs.judge.gather.Given as goal
 
 abbrev pub invariant-loop-step : goal.invariant-loop-step

@@ -1,7 +1,7 @@
 use Rattle.std.proofs.Common.{◌≡◌, ◌+◌, ◌++◌, drop}
 use Rattle.wi_world.specs.Runs.{locations}
 use Rattle.wi_trace.specs.Replays.{first_fault}
-use Rattle.wi_trace.specs.Hops.{cause_in}
+use Rattle.wi_trace.specs.private.Hops.{cause_in}
 use Rattle.wi_trace.proofs.replays.walk.Given as goal
 
 abbrev pub invariant-loop-i : goal.invariant-loop-i

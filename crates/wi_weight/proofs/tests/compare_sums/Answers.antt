@@ -1,4 +1,4 @@
-use Rattle.wi_weight.specs.Order.{order_plus_right}
+use Rattle.wi_weight.specs.lemmas.Order.{order_plus_right}
 use Rattle.wi_weight.proofs.tests.compare_sums.Goals as goal
 
 pub returns : goal.returns

@@ -1,7 +1,7 @@
 use Rattle.std.proofs.Common.{◌≡◌, ◌++◌}
 use Rattle.wi_rules.specs.Rules.{build_rules}
 use Rattle.wi_build.specs.Encodings.{encoding_of}
-use Rattle.wi_build.specs.Rows.{rules_for}
+use Rattle.wi_build.specs.private.Rows.{rules_for}
 use Rattle.wi_build.proofs.RowLemmas.{up_to}
 use Rattle.wi_build.proofs.lazy.LazySystem.push_build.Given as goal
 

@@ -1,5 +1,5 @@
 use Rattle.std.proofs.Common.{◌≡◌, arith}
-use Rattle.wi_build.specs.Needs.{may_be_down}
+use Rattle.wi_build.specs.private.Needs.{may_be_down}
 use Rattle.wi_build.proofs.HopLemmas.{entry_read, group_room, next_first, next_needs, next_rules, stop_there}
 use Rattle.wi_build.proofs.lazy.LazySystem.push_entry.Goals as goal
 

@@ -3,8 +3,8 @@ use Rattle.wi_net.specs.Net.{entry}
 use Rattle.wi_net.specs.Tables.{group_members, members_before}
 use Rattle.wi_rules.specs.Rules.{entry_rules}
 use Rattle.wi_build.specs.Encodings.{encoding_of}
-use Rattle.wi_build.specs.Needs.{no_needs, with_groups}
-use Rattle.wi_build.specs.Rows.{rules_for}
+use Rattle.wi_build.specs.private.Needs.{no_needs, with_groups}
+use Rattle.wi_build.specs.private.Rows.{rules_for}
 use Rattle.wi_build.proofs.HopLemmas.{later_rules}
 use Rattle.wi_build.proofs.lazy.LazySystem.push_entry.Given as goal
 

@@ -1,6 +1,6 @@
 use Rattle.std.proofs.Common.{◌≡◌, ◌++◌}
 use Rattle.wi_build.specs.Encodings.{encoding_of}
-use Rattle.wi_build.specs.Rows.{rules_for}
+use Rattle.wi_build.specs.private.Rows.{rules_for}
 use Rattle.wi_build.proofs.RowLemmas.{up_to, setting_out}
 use Rattle.wi_build.proofs.lazy.LazySystem.push_first_links.Given as goal
 

@@ -2,7 +2,7 @@ use Rattle.std.proofs.Common.{◌≡◌, ℕ, ◌++◌, drop}
 use Rattle.wi_net.specs.declared.parts.Member.{Member}
 use Rattle.wi_rules.specs.Rules.{each_at, hop_rules}
 use Rattle.wi_build.specs.Encodings.{encoding_of}
-use Rattle.wi_build.specs.Rows.{rules_for, group_rules}
+use Rattle.wi_build.specs.private.Rows.{rules_for, group_rules}
 use Rattle.wi_build.proofs.lazy.LazySystem.push_group.Given as goal
 
 abbrev pub invariant-loop-i : goal.invariant-loop-i

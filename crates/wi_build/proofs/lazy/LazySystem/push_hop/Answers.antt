@@ -1,6 +1,6 @@
 use Rattle.std.proofs.Common.{◌≡◌, Some, ◌∙◌}
 use Rattle.wi_rules.specs.Rules.{first_written}
-use Rattle.wi_build.specs.Needs.{may_be_up}
+use Rattle.wi_build.specs.private.Needs.{may_be_up}
 use Rattle.wi_build.specs.Encodings.{encoding_of}
 use Rattle.wi_build.proofs.RowLemmas.{on_ok, none_made}
 use Rattle.wi_build.proofs.HopLemmas.{member_known, no_hop, hop_row, needs_few}

@@ -1,5 +1,5 @@
 use Rattle.std.proofs.Common.{◌≡◌, drop}
-use Rattle.wi_build.specs.Needs.{with_members}
+use Rattle.wi_build.specs.private.Needs.{with_members}
 use Rattle.wi_build.proofs.needs.Needs.add_members.Given as goal
 
 abbrev pub invariant-loop-member : goal.invariant-loop-member

@@ -1,6 +1,6 @@
 use Rattle.std.proofs.Common.{◌≡◌, ◌≤◌, drop, length}
 use Rattle.wi_labels.specs.Header.{outcome}
-use Rattle.wi_labels.specs.Rewrite.{rewritten}
+use Rattle.wi_labels.specs.private.Rewrite.{rewritten}
 use Rattle.wi_labels.proofs.header.Header.apply.Given as goal
 
 abbrev pub invariant-loop-i : goal.invariant-loop-i

@@ -1,6 +1,6 @@
 use Rattle.std.proofs.Common.{◌∙◌, ap, List, ℕ}
 use Rattle.wi_net.specs.declared.parts.Link.{Link}
-use Rattle.wi_net.specs.Ends.{out_key}
+use Rattle.wi_net.specs.private.Ends.{out_key}
 use Rattle.wi_net.proofs.FindingLemmas.{pair_found}
 use Rattle.wi_net.proofs.links.Links.find_out.Goals as goal
 

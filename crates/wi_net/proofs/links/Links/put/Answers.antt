@@ -3,7 +3,8 @@ use Rattle.std.specs.Prelude.{◌&&◌, ◌==◌}
 use Rattle.std.proofs.lemmas.Result.{IfOk-at_ok}
 use Rattle.indexmap.specs.IndexSet.{insert_key}
 use Rattle.wi_net.specs.declared.parts.Link.{Link}
-use Rattle.wi_net.specs.Ends.{is_out, is_in, out_key, in_key}
+use Rattle.wi_net.specs.Ends.{is_out, is_in}
+use Rattle.wi_net.specs.private.Ends.{out_key, in_key}
 use Rattle.wi_net.proofs.FindingLemmas.{pair_added}
 use Rattle.wi_net.proofs.links.Links.put.Goals as goal
 

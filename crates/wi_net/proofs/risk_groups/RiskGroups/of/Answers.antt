@@ -1,7 +1,7 @@
 use Rattle.std.proofs.Common.{◌≡◌, ◌∙◌, ap, refl, sym, List, length, slice_set, ◌<◌, arith}
 use Rattle.wi_net.specs.declared.parts.LinkId.{LinkId}
 use Rattle.wi_net.specs.LinkSet.{with_link}
-use Rattle.wi_net.specs.RiskGroups.{named_by}
+use Rattle.wi_net.specs.private.RiskGroups.{named_by}
 use Rattle.wi_net.proofs.IndexLemmas.{risk_place, shared_next}
 use Rattle.wi_net.proofs.risk_groups.RiskGroups.of.Goals as goal
 

@@ -1,6 +1,7 @@
 use Rattle.std.proofs.Common.{◌≡◌, ◌∙◌, ◌+◌, ◌++◌, ◌∷◌, [], ap, None, position, List, ℕ, map}
 use Rattle.wi_net.specs.declared.parts.TableRow.{TableRow}
-use Rattle.wi_net.specs.Tables.{is_row, row_key, row_members, group_members}
+use Rattle.wi_net.specs.Tables.{is_row, row_members, group_members}
+use Rattle.wi_net.specs.private.Tables.{row_key}
 use Rattle.wi_net.proofs.FindingLemmas.{pair_added}
 use Rattle.wi_net.proofs.TableLemmas.{tables_added}
 use Rattle.wi_net.proofs.tables.Tables.add.Goals as goal

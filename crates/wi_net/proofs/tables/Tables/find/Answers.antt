@@ -1,5 +1,5 @@
 use Rattle.std.proofs.Common.{◌∙◌}
-use Rattle.wi_net.specs.Tables.{row_key}
+use Rattle.wi_net.specs.private.Tables.{row_key}
 use Rattle.wi_net.proofs.FindingLemmas.{pair_found}
 use Rattle.wi_net.proofs.tables.Tables.find.Goals as goal
 

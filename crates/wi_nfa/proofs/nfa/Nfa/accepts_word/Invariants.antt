@@ -1,7 +1,8 @@
 use Rattle.std.proofs.Common.{◌↔◌, drop}
 use Rattle.wi_nfa.specs.Automata.{AcceptsFrom}
 use Rattle.wi_nfa.specs.Rows.{automaton_of}
-use Rattle.wi_nfa.specs.Sets.{symbols, AcceptedFrom}
+use Rattle.wi_nfa.specs.Sets.{symbols}
+use Rattle.wi_nfa.specs.private.Sets.{AcceptedFrom}
 use Rattle.wi_nfa.proofs.nfa.Nfa.accepts_word.Given as goal
 
 abbrev pub invariant-loop-symbol : goal.invariant-loop-symbol

@@ -1,6 +1,6 @@
 use Rattle.std.proofs.Common.{ℕ, ◌≡◌, ◌↔◌, false, IsTrue, vec_len, slice_index_or}
 use Rattle.wi_nfa.specs.Rows.{automaton_of}
-use Rattle.wi_nfa.specs.Sets.{LedFrom}
+use Rattle.wi_nfa.specs.private.Sets.{LedFrom}
 use Rattle.wi_nfa.proofs.nfa.Nfa.led.Given as goal
 
 abbrev pub invariant-loop-p : goal.invariant-loop-p

@@ -1,6 +1,6 @@
 -- The frame around takes what stands in the bracket as an item.
 use Rattle.std.proofs.Common.{refl}
-use Rattle.wi_query.specs.Frames.{finished, grouped}
+use Rattle.wi_query.specs.private.Frames.{finished, grouped}
 use Rattle.wi_query.proofs.Stacks.{grouped_part, frames_closed}
 use Rattle.wi_query.proofs.tree.Reading.closed.Goals as goal
 

@@ -1,7 +1,7 @@
 use Rattle.std.proofs.Common.{◌≡◌, ◌∙◌, ◌<◌, refl, ap, sym, subst, length, map, Some, slice_get, option_map, List, ℕ}
 use Rattle.std.proofs.lemmas.List.{length-map}
 use Rattle.std.proofs.lemmas.Option.{slice_get_read, slice_get-map}
-use Rattle.wi_saturate.specs.Chains.{IsEnd}
+use Rattle.wi_saturate.specs.private.Chains.{IsEnd}
 use Rattle.wi_saturate.proofs.chains.Chains.end_before.Goals as goal
 
 pub returns : goal.returns

@@ -1,6 +1,6 @@
 use Rattle.std.proofs.Common.{◌≡◌, ◌∙◌, ℕ, List, Some, slice_get, refl, ap, sym, subst}
-use Rattle.wi_saturate.specs.Rulings.{RulesView}
-use Rattle.wi_saturate.specs.Indexes.{AreBegins}
+use Rattle.wi_saturate.specs.private.Rulings.{RulesView}
+use Rattle.wi_saturate.specs.private.Indexes.{AreBegins}
 use Rattle.wi_saturate.proofs.Lookups.{rule_named}
 use Rattle.wi_saturate.proofs.index.Index.add_head.Goals as goal
 

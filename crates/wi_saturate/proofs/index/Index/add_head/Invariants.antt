@@ -1,5 +1,5 @@
 use Rattle.std.proofs.Common.{◌≡◌, ◌++◌, drop}
-use Rattle.wi_saturate.specs.Indexes.{ruled_from, AreBegins}
+use Rattle.wi_saturate.specs.private.Indexes.{ruled_from, AreBegins}
 use Rattle.wi_saturate.proofs.index.Index.add_head.Given as goal
 
 abbrev pub invariant-loop-at : goal.invariant-loop-at

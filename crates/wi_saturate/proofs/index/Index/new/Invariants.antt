@@ -1,5 +1,5 @@
 use Rattle.std.proofs.Common.{◌≡◌, ◌++◌, drop}
-use Rattle.wi_saturate.specs.Indexes.{ruled, AreBegins}
+use Rattle.wi_saturate.specs.private.Indexes.{ruled, AreBegins}
 use Rattle.wi_saturate.proofs.index.Index.new.Given as goal
 
 abbrev pub invariant-loop-head : goal.invariant-loop-head

@@ -4,7 +4,7 @@ use Rattle.std.proofs.lemmas.Option.{slice_get_within}
 use Rattle.wi_saturate.proofs.Lookups.{once}
 use Rattle.wi_saturate.proofs.Elements.{on_ok_both, on_ok, on_err}
 use Rattle.wi_saturate.proofs.Searching.{waits_longer, places_longer, row_taken_in, last_there}
-use Rattle.wi_saturate.specs.Turns.{heads_of, rules_of, rows_of}
+use Rattle.wi_saturate.specs.private.Turns.{heads_of, rules_of, rows_of}
 use Rattle.wi_saturate.proofs.search.Search.extend.Goals as goal
 
 pub add-requires : goal.add-requires

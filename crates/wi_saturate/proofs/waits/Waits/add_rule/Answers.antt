@@ -1,10 +1,10 @@
 use Rattle.wi_saturate.proofs.Counts.{more_none_pub, more_one}
-use Rattle.wi_saturate.specs.Tries.{begun}
+use Rattle.wi_saturate.specs.private.Tries.{begun}
 use Rattle.std.proofs.lemmas.Option.{slice_get_read, slice_get_within}
 use Rattle.std.proofs.Common.{◌<◌, ℕ, sym, subst, ◌≡◌, ◌+◌, arith, length, refl, ap}
 use Rattle.wi_saturate.proofs.Elements.{on_ok_both, on_ok}
 use Rattle.wi_saturate.proofs.Waiting.{no_head, more_keeps, more_length, waits_now, more_wait, same_word}
-use Rattle.wi_saturate.specs.Turns.{heads_of, rules_of, rows_of}
+use Rattle.wi_saturate.specs.private.Turns.{heads_of, rules_of, rows_of}
 use Rattle.wi_saturate.proofs.waits.Waits.add_rule.Goals as goal
 
 pub add-requires : goal.add-requires

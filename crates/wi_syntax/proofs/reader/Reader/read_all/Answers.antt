@@ -1,5 +1,5 @@
 use Rattle.std.proofs.Common.{◌∙◌, ap}
-use Rattle.wi_syntax.specs.Parsing.{goes}
+use Rattle.wi_syntax.specs.private.Parsing.{goes}
 use Rattle.wi_syntax.proofs.Texts.{first_place, next_place, stop_place, last_place}
 use Rattle.wi_syntax.proofs.reader.Reader.read_all.Goals as goal
 

@@ -1,5 +1,5 @@
 use Rattle.std.proofs.Common.{◌∙◌, sym}
-use Rattle.wi_weight.specs.Sums.{plus-append, each_below_first, each_below_second}
+use Rattle.wi_weight.specs.lemmas.Sums.{plus-append, each_below_first, each_below_second}
 use Rattle.wi_weight.proofs.kinds.PairDomain.extend.Goals as goal
 
 pub extend-requires-clause-first : goal.extend-requires-clause-first

@@ -1,5 +1,5 @@
 use Rattle.std.proofs.Common.{◌≡◌, ◌∙◌, true, false, sym}
-use Rattle.wi_weight.specs.Sums.{each_below_first, each_below_second, each_below_both}
+use Rattle.wi_weight.specs.lemmas.Sums.{each_below_first, each_below_second, each_below_both}
 use Rattle.wi_weight.proofs.kinds.PairDomain.fits.Goals as goal
 
 false_not_true : false ≡ true → ⊥

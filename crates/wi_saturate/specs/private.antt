@@ -1,0 +1,11 @@
+-- What only private contracts and proofs use: no public contract reaches it.
+pub mod Candidates
+pub mod Chains
+pub mod WaitLists
+pub mod Rulings
+pub mod SmallRules
+pub mod Indexes
+pub mod Searches
+pub mod Tries
+pub mod Turns
+pub mod Questions

@@ -1,0 +1,16 @@
+pub mod Cases
+pub mod LineLemmas
+pub mod NumberLemmas
+pub mod EndLemmas
+pub mod MarkLemmas
+pub mod ReadingLemmas
+pub mod TellingLemmas
+pub mod FormLemmas
+pub mod BlockLemmas
+pub mod ShownLemmas
+pub mod ClosedLemmas
+pub mod SoundLemmas
+pub mod CompleteLemmas
+pub mod TextLemmas
+pub mod DecodeLemmas
+pub mod WritingLemmas

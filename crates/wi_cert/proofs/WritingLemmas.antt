@@ -1,0 +1,65 @@
+-- Writing, piece by piece.
+use Rattle.std.specs.Prelude.{◌≡◌, ℕ, suc, ◌+◌, ◌<◌, ◌≤◌, List, [], ◌∷◌, ◌++◌, Result, Ok, Err, OnOk, length, map, codes, refl}
+use Rattle.std.specs.List.{All, flat_map}
+use Rattle.std.proofs.Common.{sym, ap, ◌∙◌, subst, take, drop, get_or, add-one, drop-cons, append_assoc, append-nil}
+use Rattle.std.proofs.lemmas.Grind.{flat_map-append}
+use Rattle.std.proofs.lemmas.List.{take_all}
+use Rattle.wi_weight.specs.Weights.{EachBelow}
+use Rattle.wi_cert.specs.declared.certificate.Certificate.{Certificate}
+use Rattle.wi_cert.specs.declared.closed.Closed.{Closed}
+use Rattle.wi_cert.specs.declared.row.Row.{Row}
+use Rattle.wi_cert.specs.Numbers.{count_line}
+use Rattle.wi_cert.specs.Shown.{pair_line, shown_lines}
+use Rattle.wi_cert.specs.Closed.{row_line, closed_lines}
+use Rattle.wi_cert.specs.Text.{ended, text}
+
+-- a list was gone through
+pub all_gone : {A : Type 0} (P : A → Type 0) (xs : List A) (i : ℕ) → length xs ≤ i → All P (take i xs) → All P xs
+all_gone P xs i h all = subst (All P) (take_all i xs h) all
+
+-- every number is in the range of its type
+pub each_below : (bound : ℕ) (ns : List ℕ) → ((i : ℕ) → get_or ns i 0 < bound) → EachBelow bound ns
+each_below bound [] h = tt
+each_below bound (n ∷ ns) h = (h 0, each_below bound ns (λ i. h (suc i)))
+
+item_first : {A : Type 0} (xs : List A) (i : ℕ) (d : A) → i < length xs → drop i xs ≡ get_or xs i d ∷ drop (i + 1) xs
+item_first xs i d h = rw (add-one, drop-cons xs i d) refl
+
+-- one line more
+pub line_more : {A : Type 0} (line_of : A → List ℕ) (xs : List A) (i : ℕ) (d : A) (out new whole : List ℕ) → i < length xs → new ≡ out ++ ended (line_of (get_or xs i d))
+    → out ++ flat_map ended (map line_of (drop i xs)) ≡ whole → new ++ flat_map ended (map line_of (drop (i + 1) xs)) ≡ whole
+line_more line_of xs i d out new whole h e w =
+    ap (λ x. x ++ flat_map ended (map line_of (drop (i + 1) xs))) e
+    ∙ append_assoc out (ended (line_of (get_or xs i d))) (flat_map ended (map line_of (drop (i + 1) xs)))
+    ∙ ap (λ ys. out ++ flat_map ended (map line_of ys)) (sym (item_first xs i d h))
+    ∙ w
+
+flat_parts : (x : List ℕ) (xs : List (List ℕ)) (y : List ℕ) (ys : List (List ℕ)) (z : List ℕ) (zs : List (List ℕ))
+    → flat_map ended (x ∷ (xs ++ y ∷ (ys ++ z ∷ zs))) ≡ ended x ++ (flat_map ended xs ++ (ended y ++ (flat_map ended ys ++ (ended z ++ flat_map ended zs))))
+flat_parts x xs y ys z zs = simp (flat_map-append, append_assoc) refl
+
+six_pieces : (out a b d e f new h hs p ps r rs : List ℕ) → a ≡ out ++ h → b ≡ a ++ hs → d ≡ b ++ p → e ≡ d ++ ps → f ≡ e ++ r → new ≡ f ++ rs → new ≡ out ++ (h ++ (hs ++ (p ++ (ps ++ (r ++ rs)))))
+six_pieces out a b d e f new h hs p ps r rs i j k l m n = rw (n, m, l, k, j, i) (simp append_assoc refl)
+
+-- three lists, each behind its count
+pub lists_put : {E : Type 0} (c : Closed) (heads pairs : List (ℕ × ℕ)) (rows : List Row) (out a b d e f new : List ℕ) (answer : Result (Unit {0}) E)
+    → heads ≡ c.heads → pairs ≡ c.pairs → rows ≡ c.rows
+    → a ≡ out ++ ended (count_line (codes "heads ") (length heads)) → b ≡ a ++ flat_map ended (map pair_line heads)
+    → d ≡ b ++ ended (count_line (codes "pairs ") (length pairs)) → e ≡ d ++ flat_map ended (map pair_line pairs)
+    → f ≡ e ++ ended (count_line (codes "rows ") (length rows)) → OnOk answer (new ≡ f ++ flat_map ended (map row_line rows))
+    → OnOk answer (new ≡ out ++ flat_map ended (closed_lines c))
+lists_put c heads pairs rows out a b d e f new (Ok done) h p r i j k l m n =
+    six_pieces out a b d e f new (ended (count_line (codes "heads ") (length heads))) (flat_map ended (map pair_line heads)) (ended (count_line (codes "pairs ") (length pairs))) (flat_map ended (map pair_line pairs)) (ended (count_line (codes "rows ") (length rows))) (flat_map ended (map row_line rows)) i j k l m n
+    ∙ ap (λ x. out ++ x) (sym (flat_parts (count_line (codes "heads ") (length heads)) (map pair_line heads) (count_line (codes "pairs ") (length pairs)) (map pair_line pairs) (count_line (codes "rows ") (length rows)) (map row_line rows)))
+    ∙ ap (λ x. out ++ flat_map ended x) (ap (λ (x : Closed). closed_lines x) (same h p r))
+  where
+    same : heads ≡ c.heads → pairs ≡ c.pairs → rows ≡ c.rows → record { heads = heads; pairs = pairs; rows = rows } ≡ c
+    same h p r = rw (h, p, r) refl
+lists_put c heads pairs rows out a b d e f new (Err why) h p r i j k l m n = tt
+
+-- the whole text
+pub text_put : (c : Certificate) (start a b d e : List ℕ) → start ≡ [] → a ≡ start ++ codes "mpls-whatif-certificate 1\n" → b ≡ a ++ flat_map ended (shown_lines c.shown) → d ≡ b ++ flat_map ended (closed_lines c.closed) → e ≡ d ++ codes "end\n" → e ≡ text c
+text_put c start a b d e h i j k l = rw (l, k, j, i, h) (sym (parts (shown_lines c.shown) (closed_lines c.closed)))
+  where
+    parts : (s l : List (List ℕ)) → flat_map ended (codes "mpls-whatif-certificate 1" ∷ (s ++ (l ++ codes "end" ∷ []))) ≡ [] ++ codes "mpls-whatif-certificate 1\n" ++ flat_map ended s ++ flat_map ended l ++ codes "end\n"
+    parts s l = simp (flat_map-append, append_assoc, append-nil) refl

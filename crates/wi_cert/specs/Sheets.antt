@@ -1,0 +1,36 @@
+-- A certificate line by line: what each line of the form asked in its place adds.
+use Rattle.std.specs.Prelude.{ℕ, if◌then◌else◌, List, Option, Some, None, codes, option_map, option_and_then, [], ◌∷◌}
+use Rattle.std.specs.Option.{option_map_or}
+use Rattle.std.specs.Str.{bytes_eq}
+use Rattle.wi_cert.specs.declared.certificate.Certificate.{Certificate}
+use Rattle.wi_cert.specs.declared.certificate.Place.{Place}
+use Rattle.wi_cert.specs.declared.certificate.Place.TheVariants as places
+use Rattle.wi_cert.specs.declared.shown.ShownPlace.TheVariants.{Terms}
+use Rattle.wi_cert.specs.declared.closed.ClosedPlace.TheVariants.{HeadCount}
+use Rattle.wi_cert.specs.Shown.{asked_shown, blank_shown}
+use Rattle.wi_cert.specs.Closed.{asked_closed, blank_closed}
+
+-- what the lines so far leave: the place of the next line, and the certificate so far
+pub record Sheet : Type 0 where
+  pub place : Place
+  pub certificate : Certificate
+
+abbrev pub sheet : Place → Certificate → Sheet
+sheet place certificate = record { place = place; certificate = certificate }
+
+-- the sheet before the first line
+abbrev pub blank : Sheet
+blank = sheet places.Title (record { shown = blank_shown; closed = blank_closed })
+
+-- The sheet after a line of the form asked in its place. None: the line isn't of that form.
+abbrev pub asked : Place → Certificate → List ℕ → Option Sheet
+asked places.Title c line = if bytes_eq line (codes "mpls-whatif-certificate 1") then Some (sheet (places.Shown Terms) c) else None
+asked (places.Shown place) c line = option_map (λ s. sheet (option_map_or places.Shown s.0 (places.Closed HeadCount)) (record c { shown = s.1 })) (asked_shown place c.shown line)
+asked (places.Closed place) c line = option_map (λ s. sheet (option_map_or places.Closed s.0 places.End) (record c { closed = s.1 })) (asked_closed c.shown place c.closed line)
+asked places.End c line = if bytes_eq line (codes "end") then Some (sheet places.Done c) else None
+asked places.Done c line = None
+
+-- the sheet after lines that are each of the form asked in its place
+abbrev pub filled : Sheet → List (List ℕ) → Option Sheet
+filled s [] = Some s
+filled s (line ∷ lines) = option_and_then (λ next. filled next lines) (asked s.place s.certificate line)

@@ -1,0 +1,51 @@
+-- The text of a certificate, and its first bad line.
+use Rattle.std.specs.Prelude.{◌≡◌, ℕ, ◌+◌, true, List, [], ◌∷◌, ◌++◌, length, codes, Some, None, Contains}
+use Rattle.std.specs.List.{flat_map}
+use Rattle.wi_cert.specs.declared.certificate.Certificate.{Certificate}
+use Rattle.wi_cert.specs.Shown.{shown_lines, IsShown, HasShownRanges}
+use Rattle.wi_cert.specs.Closed.{closed_lines, IsClosed, HasClosedRanges}
+use Rattle.wi_cert.specs.Sheets.{Sheet, blank, asked, filled}
+use Rattle.wi_cert.specs.Reading.{is_done}
+
+abbrev pub ended : List ℕ → List ℕ
+ended line = line ++ 10 ∷ []
+
+abbrev pub lines_of : Certificate → List (List ℕ)
+lines_of c = codes "mpls-whatif-certificate 1" ∷ (shown_lines c.shown ++ (closed_lines c.closed ++ codes "end" ∷ []))
+
+-- the lines, each with its end
+abbrev pub text : Certificate → List ℕ
+text c = flat_map ended (lines_of c)
+
+-- a certificate that can be written, but for the ranges of its numbers
+pub record IsWritable (c : Certificate) : Type 0 where
+  pub shown : IsShown c.shown
+  pub closed : IsClosed c.shown c.closed
+
+-- the ranges that a certificate's numbers have by their types
+pub record HasRanges (c : Certificate) : Type 0 where
+  pub shown : HasShownRanges c.shown
+  pub closed : HasClosedRanges c.closed
+
+-- The bytes are the text of the certificate.
+pub record IsText (c : Certificate) (bytes : List ℕ) : Type 0 where
+  pub writable : IsWritable c
+  pub ranges : HasRanges c
+  pub is : bytes ≡ text c
+
+-- what follows whole lines begins with no line that is asked: its first line isn't of that form, or has no end
+abbrev pub BeginsBadly : Sheet → List ℕ → Type 0
+BeginsBadly s rest = (line after : List ℕ) → rest ≡ ended line ++ after → (Contains line 10 → ⊥) → asked s.place s.certificate line ≡ None
+
+-- Line n of the bytes is the first that isn't of the form asked in its place, judged by it and the lines before it. A line that
+-- is missing counts, and so does one without its end.
+pub record IsBadLine (bytes : List ℕ) (n : ℕ) : Type 0 where
+  pub lines : List (List ℕ)
+  pub rest : List ℕ
+  pub sheet : Sheet
+  pub is : bytes ≡ flat_map ended lines ++ rest
+  pub whole : (line : List ℕ) → Contains lines line → Contains line 10 → ⊥
+  pub number : n ≡ length lines + 1
+  pub good : filled blank lines ≡ Some sheet
+  pub bad : BeginsBadly sheet rest
+  pub unfinished : is_done sheet.place ≡ true → rest ≡ [] → ⊥

@@ -1,0 +1,55 @@
+//! Why a certificate isn't believed. Nothing here makes a refusal: the checker does, and this crate only names what it may say.
+use wi_weight::{Effort, Pair, Terms};
+
+/// A weight as the checker counts it: the terms, of which the unused ones are 0, and then the effort. Only the terms that the
+/// certificate has are shown in texts.
+pub type Weight = Pair<Terms, Effort>;
+
+/// A part of the run that is shown.
+#[derive(Clone, Copy, Debug, PartialEq, Eq)]
+pub enum Part {
+    /// The header in which the packet comes.
+    First,
+    /// The links that it goes along.
+    Path,
+    /// The header in which it ends.
+    Last,
+}
+
+/// Why a certificate with a text isn't believed. Where several causes stand together, the first in this order is told, but a head
+/// and a pair that are missing stand in one place of the order.
+#[derive(Clone, Copy, Debug, PartialEq, Eq)]
+pub enum CheckRefused {
+    /// The certificate has so many terms, and so many were asked for.
+    TermsDiffer {
+        shown: u32,
+        asked: u32,
+    },
+    /// The first step, from 1, that can't be taken as it is written, at the query's number of failures; 0 is the start.
+    StepNotInTable(u64),
+    /// This part of the run that is shown, the first of them, isn't in its expression of the query.
+    NoMatch(Part),
+    /// The run that is shown doesn't weigh what the certificate says.
+    WeightDiffers {
+        shown: Weight,
+        counted: Weight,
+    },
+    /// The answer is yes and the run that is shown doesn't fit the query's bounds, or inconclusive and it does.
+    WrongAnswer,
+    /// The heads aren't closed: they lack this spot with this symbol. The start is asked for first, and then what the rules of the
+    /// listed heads lead to, by head, by rule, and by lower symbol.
+    HeadMissing(u64, u32),
+    /// The pairs aren't closed: they lack this one, the upper symbol first. It is asked for in its turn among the heads.
+    PairMissing(u32, u32),
+    /// There is a row of this weight from the start to the goal.
+    GoalBelow(Weight),
+    /// The rows aren't closed: a rule of this head, with rows for its right side, sums up to less than the run that is shown, and
+    /// there is no row from the head to this spot of at most that sum. It is the first by head, by rule, and by rows.
+    NotClosed {
+        head: (u64, u32),
+        target: u64,
+        sum: Weight,
+    },
+    /// Memory ran out.
+    Memory,
+}

@@ -1,0 +1,374 @@
+//! Texts of certificates by example, and texts that give none.
+use crate::{Claim, Closed, DecodeRefused, Feeder, Row, Shown, decode, encode};
+use std::alloc::Global;
+use std::process::Abort;
+use std::test::Fail;
+use wi_base::NoMemory;
+
+// The lines of a yes, without their ends: spot 0 is the start and spot 1 the goal.
+const YES: &[&str] = &[
+    "mpls-whatif-certificate 1",
+    "terms 0",
+    "answer yes",
+    "weight 8",
+    "first 1 1 2",
+    "steps 0",
+    "heads 8",
+    "0 0",
+    "2 2",
+    "3 3",
+    "4 0",
+    "5 2",
+    "6 3",
+    "7 0",
+    "11 2",
+    "pairs 2",
+    "2 3",
+    "3 0",
+    "rows 7",
+    "2 2 6 3",
+    "3 3 7 5",
+    "4 0 1 7",
+    "5 2 6 1",
+    "6 3 7 1",
+    "7 0 1 1",
+    "11 2 6 2",
+    "end",
+];
+
+const HEADS: &[(u64, u32)] = &[
+    (0, 0),
+    (2, 2),
+    (3, 3),
+    (4, 0),
+    (5, 2),
+    (6, 3),
+    (7, 0),
+    (11, 2),
+];
+
+const ROWS: &[(u64, u32, u64, u64)] = &[
+    (2, 2, 6, 3),
+    (3, 3, 7, 5),
+    (4, 0, 1, 7),
+    (5, 2, 6, 1),
+    (6, 3, 7, 1),
+    (7, 0, 1, 1),
+    (11, 2, 6, 2),
+];
+
+// The lines of a no.
+const NO: &[&str] = &[
+    "mpls-whatif-certificate 1",
+    "terms 0",
+    "answer no",
+    "weight none",
+    "first none",
+    "steps 0",
+    "heads 3",
+    "0 0",
+    "3 3",
+    "4 0",
+    "pairs 1",
+    "3 0",
+    "rows 0",
+    "end",
+];
+
+// Lines, by their numbers from 1, and what stands in their place.
+type Edits<'a> = &'a [(usize, &'a str)];
+
+// The text of the lines, but for some.
+fn edited(alloc: Global, lines: &[&str], edits: Edits) -> Result<Vec<u8>, NoMemory> {
+    let mut text = Vec::new(alloc);
+    for (i, line) in lines.iter().enumerate() {
+        let number = i + 1;
+        match edits.iter().find(|edit| edit.0 == number) {
+            Some(edit) => text.extend_from_slice(edit.1.as_bytes())?,
+            None => {
+                text.extend_from_slice(line.as_bytes())?;
+                text.push(b'\n')?;
+            }
+        }
+    }
+    Ok(text)
+}
+
+// The text of the certificate that the text gives.
+fn again(alloc: Global, text: &[u8]) -> Result<Vec<u8>, DecodeRefused> {
+    let certificate = decode(alloc, text)?;
+    let written = encode(alloc, &certificate);
+    drop(certificate);
+    Ok(written?)
+}
+
+// Texts that give a certificate.
+const GOOD: &[(&[&str], Edits)] = &[
+    (YES, &[]),
+    (NO, &[]),
+    (YES, &[(3, "answer inconclusive\n")]),
+    (YES, &[(5, "first 0 4294967295 2 7\n")]),
+    (YES, &[(6, "steps 2\n2 1\n4294967295 1\n")]),
+    (YES, &[(7, "heads 9\n"), (14, "7 0\n9 2\n")]),
+    (YES, &[(15, "18446744073709551615 4294967295\n")]),
+    (YES, &[(19, "rows 8\n0 0 1 7\n")]),
+    (YES, &[(19, "rows 8\n"), (25, "7 0 1 1\n9 1 0 1\n")]),
+    (
+        YES,
+        &[
+            (3, "answer no\n"),
+            (4, "weight none\n"),
+            (5, "first none\n"),
+            (22, "4 0 1 18446744073709551615\n"),
+        ],
+    ),
+    (NO, &[(7, "heads 0\n"), (8, ""), (9, ""), (10, "")]),
+    (NO, &[(13, "rows 1\n4 0 1 18446744073709551615\n")]),
+    (
+        NO,
+        &[
+            (2, "terms 5\n"),
+            (13, "rows 1\n0 0 1 0 1 2 3 4 18446744073709551615\n"),
+        ],
+    ),
+    (
+        NO,
+        &[
+            (2, "terms 1\n"),
+            (3, "answer yes\n"),
+            (4, "weight 3 5\n"),
+            (5, "first 1 1\n"),
+            (13, "rows 3\n2 2 6 0 9\n2 2 7 3 4\n2 3 0 3 4\n"),
+        ],
+    ),
+];
+
+fn comes_back(rt: &impl Abort, alloc: Global, lines: &[&str], edits: Edits) -> Result<(), Fail> {
+    let text = edited(alloc, lines, edits)?;
+    assert_eq!(rt; again(alloc, &text)?.as_slice(), text.as_slice());
+    Ok(())
+}
+
+#[test]
+fn texts_come_back_byte_for_byte(rt: HostRuntime) -> Result<(), Fail> {
+    for (lines, edits) in GOOD {
+        comes_back(&rt, rt.alloc(), lines, edits)?;
+    }
+    Ok(())
+}
+
+// Texts that give none, and their first bad lines.
+const BAD: &[(&[&str], Edits, u128)] = &[
+    (&[], &[], 1),
+    (YES, &[(1, "mpls-whatif-certificate 2\n")], 1),
+    (YES, &[(1, "mpls-whatif-certificate 1\r\n")], 1),
+    (YES, &[(2, "terms 6\n")], 2),
+    (YES, &[(2, "terms 00\n")], 2),
+    (YES, &[(2, "terms +0\n")], 2),
+    (YES, &[(2, "terms  0\n")], 2),
+    (YES, &[(2, "terms 0 \n")], 2),
+    (YES, &[(2, "terms \n")], 2),
+    (YES, &[(2, "terms 1\n")], 4),
+    (YES, &[(3, "answer maybe\n")], 3),
+    (YES, &[(3, "answer yes\r\n")], 3),
+    (YES, &[(3, "answer no\n")], 4),
+    (YES, &[(4, "weight 08\n")], 4),
+    (YES, &[(4, "weight -8\n")], 4),
+    (YES, &[(4, "weight none\n")], 4),
+    (YES, &[(4, "weight 8 8\n")], 4),
+    (YES, &[(4, "weight 18446744073709551616\n")], 4),
+    (YES, &[(5, "first none\n")], 5),
+    (YES, &[(5, "first 1\n")], 5),
+    (YES, &[(5, "first 1  1\n")], 5),
+    (YES, &[(5, "first 1 4294967296\n")], 5),
+    (YES, &[(6, "steps 1\n")], 7),
+    (YES, &[(6, "steps 1\n0 1\n")], 7),
+    (YES, &[(6, "steps 1\n1 0\n")], 7),
+    (YES, &[(6, "steps 1\n1 4294967296\n")], 7),
+    (YES, &[(6, "steps 1\n1\n")], 7),
+    (YES, &[(7, "heads 7\n")], 15),
+    (YES, &[(7, "heads 9\n")], 16),
+    (YES, &[(8, "00 0\n")], 8),
+    (YES, &[(9, "0 0\n")], 9),
+    (YES, &[(10, "2 1\n")], 10),
+    (YES, &[(15, "11 4294967296\n")], 15),
+    (YES, &[(15, "18446744073709551616 2\n")], 15),
+    (YES, &[(16, "pairs 1\n")], 18),
+    (YES, &[(16, "pairs 3\n")], 19),
+    (YES, &[(18, "2 3\n")], 18),
+    (YES, &[(18, "1 9\n")], 18),
+    (YES, &[(18, "4294967296 0\n")], 18),
+    (YES, &[(19, "rows 6\n")], 26),
+    (YES, &[(19, "rows 8\n")], 27),
+    (YES, &[(19, "rows 8\n2 2 6 3\n")], 21),
+    (YES, &[(20, "2 2 6 8\n")], 20),
+    (YES, &[(20, "2 2 6 9\n")], 20),
+    (YES, &[(20, "2 2 6\n")], 20),
+    (YES, &[(20, "2 2 6 3 0\n")], 20),
+    (YES, &[(20, "2 4294967296 6 3\n")], 20),
+    (YES, &[(22, "3 3 6 7\n")], 22),
+    (
+        YES,
+        &[
+            (3, "answer no\n"),
+            (4, "weight none\n"),
+            (5, "first none\n"),
+            (22, "4 0 1 18446744073709551616\n"),
+        ],
+        22,
+    ),
+    (YES, &[(27, "end")], 27),
+    (YES, &[(27, "END\n")], 27),
+    (YES, &[(27, "")], 27),
+    (YES, &[(27, "end\nx")], 28),
+    (YES, &[(27, "end\n\n")], 28),
+    (NO, &[(4, "weight 0\n")], 4),
+    (NO, &[(5, "first 1 1\n")], 5),
+    (NO, &[(6, "steps 1\n")], 6),
+    (NO, &[(13, "rows 1\n4 0 1 18446744073709551616\n")], 14),
+];
+
+fn is_refused(
+    rt: &impl Abort,
+    alloc: Global,
+    lines: &[&str],
+    edits: Edits,
+    line: u128,
+) -> Result<(), Fail> {
+    let text = edited(alloc, lines, edits)?;
+    assert_eq!(rt; line_of(again(alloc, &text).err()), Some(line));
+    Ok(())
+}
+
+#[test]
+fn other_texts_have_a_first_bad_line(rt: HostRuntime) -> Result<(), Fail> {
+    for (lines, edits, line) in BAD {
+        is_refused(&rt, rt.alloc(), lines, edits, *line)?;
+    }
+    Ok(())
+}
+
+fn row_is(row: &Row, wanted: &(u64, u32, u64, u64)) -> bool {
+    row.p == wanted.0
+        && row.g == wanted.1
+        && row.q == wanted.2
+        && row.weight.as_slice() == [wanted.3].as_slice()
+}
+
+fn rows_are(rows: &[Row], wanted: &[(u64, u32, u64, u64)]) -> bool {
+    rows.len() == wanted.len()
+        && rows
+            .iter()
+            .zip(wanted)
+            .all(|(row, wanted)| row_is(row, wanted))
+}
+
+fn shows_the_yes(shown: &Shown) -> bool {
+    shown.terms == 0
+        && shown.claim == Claim::Yes
+        && shown.weight.as_slice() == [8].as_slice()
+        && shown.first.as_slice() == [1, 1, 2].as_slice()
+        && shown.steps.as_slice().is_empty()
+}
+
+fn bounds_the_yes(closed: &Closed) -> bool {
+    closed.heads.as_slice() == HEADS
+        && closed.pairs.as_slice() == [(2, 3), (3, 0)].as_slice()
+        && rows_are(closed.rows.as_slice(), ROWS)
+}
+
+fn feed_in(feeder: &mut Feeder, text: &[u8], size: usize) -> Result<(), DecodeRefused> {
+    for piece in text.chunks(size.max(1)) {
+        feeder.feed(piece)?;
+    }
+    Ok(())
+}
+
+// Read in pieces of that size, the text gives the yes.
+fn gives_the_yes(alloc: Global, text: &[u8], size: usize) -> bool {
+    let mut feeder = Feeder::new(alloc);
+    if feed_in(&mut feeder, text, size).is_err() {
+        drop(feeder);
+        return false;
+    }
+    match feeder.finish() {
+        Ok(certificate) => {
+            let shown = shows_the_yes(&certificate.shown);
+            let closed = bounds_the_yes(&certificate.closed);
+            drop(certificate);
+            shown && closed
+        }
+        Err(_) => false,
+    }
+}
+
+#[test]
+fn pieces_give_what_the_whole_gives(rt: HostRuntime) -> Result<(), Fail> {
+    let text = edited(rt.alloc(), YES, &[])?;
+    for size in [1, 7, 100, text.len()] {
+        assert!(rt; gives_the_yes(rt.alloc(), &text, size));
+    }
+    Ok(())
+}
+
+fn line_of(refused: Option<DecodeRefused>) -> Option<u128> {
+    match refused {
+        Some(DecodeRefused::BadLine(line)) => Some(line),
+        _ => None,
+    }
+}
+
+// The line that is told at the end, where none is told before.
+fn line_at_the_end(alloc: Global, text: &[u8]) -> Option<u128> {
+    let mut feeder = Feeder::new(alloc);
+    if feed_in(&mut feeder, text, 5).is_err() {
+        drop(feeder);
+        return None;
+    }
+    line_of(feeder.finish().err())
+}
+
+fn is_bad_at_the_end(
+    rt: &impl Abort,
+    alloc: Global,
+    lines: &[&str],
+    edits: Edits,
+    line: u128,
+) -> Result<(), Fail> {
+    let text = edited(alloc, lines, edits)?;
+    assert_eq!(rt; line_at_the_end(alloc, &text), Some(line));
+    Ok(())
+}
+
+#[test]
+fn a_line_that_is_missing_is_told_at_the_end(rt: HostRuntime) -> Result<(), Fail> {
+    let (begun, _) = YES.split_at(15);
+    is_bad_at_the_end(&rt, rt.alloc(), begun, &[], 16)?;
+    is_bad_at_the_end(&rt, rt.alloc(), YES, &[(27, "end")], 27)?;
+    is_bad_at_the_end(&rt, rt.alloc(), YES, &[(27, "end\nx")], 28)
+}
+
+const BAD_FOURTH: Result<(), DecodeRefused> = Err(DecodeRefused::BadLine(4));
+
+// How many of the pieces are answered by the fourth line.
+fn count_bad(feeder: &mut Feeder, pieces: &[&[u8]]) -> usize {
+    pieces
+        .iter()
+        .filter(|piece| feeder.feed(piece) == BAD_FOURTH)
+        .count()
+}
+
+// Whether all was well up to the end of the fourth line, how many pieces were answered by it from there on, and the line told at
+// the end.
+fn after_a_bad_line(alloc: Global) -> (bool, usize, Option<u128>) {
+    let mut feeder = Feeder::new(alloc);
+    let begun = b"mpls-whatif-certificate 1\nterms 0\nanswer yes\nweight 08";
+    let fed = feed_in(&mut feeder, begun, 1).is_ok();
+    let bad = count_bad(&mut feeder, &[b"\n", b"first 1 1 2\n", b""]);
+    (fed, bad, line_of(feeder.finish().err()))
+}
+
+#[test]
+fn a_bad_line_is_told_from_its_end_on(rt: HostRuntime) {
+    assert_eq!(rt; after_a_bad_line(rt.alloc()), (true, 3, Some(4)));
+}

@@ -127,7 +127,8 @@ fn decides(
     requires { AreBounds net.now query.now.bounds }
 {
     match decide(alloc, net, query, vector) {
-        Ok(answer) => {
+        Ok((answer, certificate)) => {
+            drop(certificate);
             answer_is(rt, &answer, shown);
             drop(answer);
         }
@@ -388,8 +389,8 @@ fn refuses(
     requires { AreBounds net.now query.now.bounds }
 {
     match decide(alloc, net, query, vector) {
-        Ok(answer) => {
-            drop(answer);
+        Ok(found) => {
+            drop(found);
             assert!(rt; false);
         }
         Err(refused) => assert!(rt; refused == expected),

@@ -16,7 +16,7 @@ use Rattle.wi_world.specs.Holds.{Holds, Question, Weighing}
 use Rattle.wi_quantity.specs.Weighing.{components}
 use Rattle.wi_trace.specs.declared.answer.Answer.{Answer}
 use Rattle.wi_build.specs.Problems.{Problem, asks, weighs}
-use Rattle.wi_decide.specs.Decided.{IsDecided}
+use Rattle.wi_accept.specs.Answers.{IsDecided}
 use Rattle.wi_report.specs.Reports.{IsKnownRun}
 use Rattle.wi_app.specs.Asked.{IsReported, status_for}
 use Rattle.wi_app.specs.Run.{MayEnd}

@@ -14,7 +14,7 @@ use Rattle.wi_quantity.specs.Faults.{Means, IsFault as IsWeightsFault}
 use Rattle.wi_quantity.specs.Weighing.{components}
 use Rattle.wi_trace.specs.declared.answer.Answer.{Answer}
 use Rattle.wi_build.specs.Problems.{Problem, problem_of}
-use Rattle.wi_decide.specs.Decided.{IsDecided}
+use Rattle.wi_accept.specs.Answers.{IsDecided}
 use Rattle.wi_decide.specs.Refusals.{IsOverflowing, IsTooLong, IsUnrefused}
 use Rattle.wi_report.specs.QueryFaults.{query_fault_text}
 use Rattle.wi_report.specs.Reports.{report_of}

@@ -96,7 +96,9 @@ fn reported<'a>(
 {
     net.keeps();
     match decide(alloc, net, query, vector) {
-        Ok(answer) => {
+        Ok((answer, certificate)) => {
+            // No option asks for it.
+            drop(certificate);
             let text = report(alloc, net, query, vector, &answer)?;
             let status = status_for(answer.word);
             Ok(Printed { status, text })

@@ -112,7 +112,7 @@ group_room problem at j first members k i = record {
 }
 
 -- a member of an entry stands in one of its groups
-member_there : (gs : List (List Member)) (j i : ℕ) (member : Member) → member_in gs j i ≡ Some member → (g : List Member) × (slice_get gs j ≡ Some g) × (slice_get g i ≡ Some member)
+pub member_there : (gs : List (List Member)) (j i : ℕ) (member : Member) → member_in gs j i ≡ Some member → (g : List Member) × (slice_get gs j ≡ Some g) × (slice_get g i ≡ Some member)
 member_there gs j i member e = go (slice_get gs j) refl
   where
     go : (o : Option (List Member)) → slice_get gs j ≡ o → (g : List Member) × (slice_get gs j ≡ Some g) × (slice_get g i ≡ Some member)

@@ -15,3 +15,4 @@ pub mod KindLemmas
 pub mod LawLemmas
 pub mod ListLemmas
 pub mod FitLemmas
+pub mod SameRules

@@ -1,13 +1,21 @@
 -- The rules of a network and a query as those of a pushdown system (Schwoon 2002), and their list.
 use Rattle.std.specs.Prelude.{ℕ, suc, ◌+◌, ◌*◌, List, length, map, slice_index}
 use Rattle.std.specs.List.{flat_map, range_with_len}
+use Rattle.wi_weight.specs.Weights.{Scale}
+use Rattle.wi_weight.specs.Kinds.{pair_scale, terms_scale, effort_scale}
 use Rattle.wi_weight.specs.declared.kinds.Pair.{Pair}
 use Rattle.wi_weight.specs.declared.kinds.Terms.{Terms}
 use Rattle.wi_weight.specs.declared.kinds.Effort.{Effort}
 use Rattle.wi_pds.specs.declared.rule.Rule.{Rule}
 use Rattle.wi_rules.specs.Rules.{Encoding}
 use Rattle.wi_rules.specs.Numbers.{Layout, NumberedRule, layout_of, rules_at_number}
+use Rattle.wi_build.specs.Problems.{Problem}
+use Rattle.wi_build.specs.Encodings.{encoding_of}
 use Rattle.wi_build.specs.Tags.{tag_of}
+
+-- how weights compare: by five terms, and then by the effort
+abbrev pub scale : Scale
+scale = pair_scale terms_scale effort_scale
 
 -- the weight of six components
 abbrev pub weight : List ℕ → Pair Terms Effort
@@ -29,6 +37,10 @@ rule_at n g r = record { from = n; top = g; to = r.to; word = r.word; weight = w
 -- the rules of a head, in order
 abbrev pub rules_by : Encoding → ℕ → ℕ → List (Rule (Pair Terms Effort))
 rules_by s n g = map (λ r. rule_at n g r) (rules_at_number s n g)
+
+-- the rules of a problem, head by head
+abbrev pub rules : Problem → ℕ → ℕ → List (Rule (Pair Terms Effort))
+rules problem = rules_by (encoding_of problem)
 
 -- how many numbers of spots there are
 abbrev pub spot_count : Layout → ℕ

@@ -14,8 +14,8 @@ mod weights;
 
 pub use laws::{
     goal_runs_answer_the_query, goal_runs_are_matching_runs, heads_have_few_rules,
-    lists_have_the_rules, problems_have_encodings, rules_are_few_and_fit, systems_have_the_rules,
-    weights_fit,
+    lists_have_the_rules, problems_have_encodings, readings_have_the_same_rules,
+    rules_are_few_and_fit, systems_have_the_rules, weights_fit,
 };
 pub use layout::Layout;
 pub use lazy::LazySystem;

@@ -1,4 +1,5 @@
 //! Why a certificate isn't believed. Nothing here makes a refusal: the checker does, and this crate only names what it may say.
+use wi_base::NoMemory;
 use wi_weight::{Effort, Pair, Terms};
 
 /// A weight as the checker counts it: the terms, of which the unused ones are 0, and then the effort. Only the terms that the
@@ -52,4 +53,15 @@ pub enum CheckRefused {
     },
     /// Memory ran out.
     Memory,
+}
+
+impl From<NoMemory> for CheckRefused {
+    ghost use Rattle.std.specs.Prelude.{◌≡◌};
+    ghost use Rattle.wi_cert.specs.declared.check_refused.CheckRefused.{CheckRefused};
+
+    ghost from_gives = { λ _ r. r ≡ CheckRefused.Memory };
+
+    fn from(_error: NoMemory) -> Self {
+        CheckRefused::Memory
+    }
 }

@@ -1,6 +1,5 @@
 -- What a table of least summaries says of the runs of the network.
-use Rattle.std.proofs.Common.{◌≡◌, ℕ, ◌<◌, ◌≤◌, ◌^◌, List, [], ◌∷◌, ◌++◌, Option, Some, None, length, map, replicate, slice_get, slice_index_or, refl, arith, ap, sym, ◌∙◌, subst, length-append}
-use Rattle.std.proofs.lemmas.List.{length-take-le}
+use Rattle.std.proofs.Common.{◌≡◌, ℕ, ◌<◌, ◌≤◌, ◌^◌, List, [], ◌∷◌, ◌++◌, Option, Some, None, length, slice_get, slice_index_or, refl, arith, ap, sym, ◌∙◌, subst}
 use Rattle.std.specs.Prelude.{IfSome, IsSome, MatchOption, option_map}
 use Rattle.wi_weight.specs.declared.kinds.Pair.{Pair}
 use Rattle.wi_weight.specs.declared.kinds.Terms.{Terms}
@@ -9,18 +8,17 @@ use Rattle.wi_weight.specs.Weights.{EachBelow}
 use Rattle.wi_net.specs.Net.{Net}
 use Rattle.wi_net.specs.Network.{IsNetwork}
 use Rattle.wi_world.specs.declared.run.Run.{Run}
-use Rattle.wi_world.specs.declared.run.Quantity.{Quantity}
 use Rattle.wi_world.specs.declared.answer.Verdict.{Verdict}
 use Rattle.wi_world.specs.Moves.{AreBounds}
 use Rattle.wi_world.specs.Moving.{IsMovingRun}
-use Rattle.wi_world.specs.Runs.{effort_of, quantity_of, verdict_of}
+use Rattle.wi_world.specs.Runs.{effort_of, verdict_of}
 use Rattle.wi_world.specs.Holds.{Holds, IsNo, Matches, NoneMovingLess}
 use Rattle.wi_world.specs.private.Holds.{word_for}
 use Rattle.wi_world.proofs.HoldsLaws.{no_from_moving, answer_by_verdict}
 use Rattle.wi_query.specs.declared.query.Query.{Query}
 use Rattle.wi_query.specs.Meaning.{question_of}
 use Rattle.wi_quantity.specs.declared.vector.Part.{Part}
-use Rattle.wi_quantity.specs.Weighing.{components, term_value, term_values, weight_of}
+use Rattle.wi_quantity.specs.Weighing.{components, weight_of}
 use Rattle.wi_pds.specs.declared.rule.Rule.{Rule}
 use Rattle.wi_pds.specs.declared.rule.RuleId.{RuleId}
 use Rattle.wi_pds.specs.Runs.{Least, Pops}
@@ -33,31 +31,15 @@ use Rattle.wi_rules.specs.Numbers.{Layout, layout_of}
 use Rattle.wi_build.specs.Problems.{IsAnswering, Problem, IsProblem, problem_of}
 use Rattle.wi_build.specs.Encodings.{encoding_of}
 use Rattle.wi_build.specs.Systems.{rules_by}
-use Rattle.wi_decide.specs.Spelled.{AreRulesFor, scale}
+use Rattle.wi_decide.specs.Spelled.{AreRulesFor}
+use Rattle.wi_build.specs.Systems.{scale}
 use Rattle.wi_decide.specs.declared.refused.DecideRefused.{DecideRefused}
 use Rattle.wi_decide.specs.declared.refused.DecideRefused.TheVariants.{Overflow, TooLong, Memory}
-use Rattle.wi_decide.specs.private.Tables.{HasTable, IsLeastRun, IsNotShown}
+use Rattle.wi_decide.specs.private.Tables.{HasTable, IsLeastRun, IsNotShown, IsTable}
 use Rattle.wi_decide.specs.Refusals.{AllFit, IsTooLong, IsUndecided}
-use Rattle.wi_decide.proofs.OrderLemmas.{not_less}
-use Rattle.wi_decide.proofs.RuleLemmas.{answers_pop, pops_answer}
-
--- a run weighs five values, and then its effort
-five_values : (f : Quantity → ℕ) (vector : List (List Part)) → length (term_values f vector) ≡ 5
-five_values f vector = length-take-le 5 (map (term_value f) vector ++ replicate 5 0) (omega (arith, length-append (map (term_value f) vector) (replicate 5 0)))
-
-six_components : (net : Net) (vector : List (List Part)) (run : Run) → length (weight_of net vector run) ≡ 6
-six_components net vector run =
-    let values = five_values (λ q. quantity_of q net run) vector in
-    omega (arith, length-append (term_values (λ q. quantity_of q net run) vector) (effort_of net run ∷ []), values)
-
-last_at : (xs : List ℕ) (e : ℕ) → slice_index_or (xs ++ e ∷ []) (length xs) 0 ≡ e
-last_at [] e = refl
-last_at (x ∷ xs) e = last_at xs e
-
-effort_at : (net : Net) (vector : List (List Part)) (run : Run) → slice_index_or (weight_of net vector run) 5 0 ≡ effort_of net run
-effort_at net vector run =
-    let values = five_values (λ q. quantity_of q net run) vector in
-    ap (λ (n : ℕ). slice_index_or (weight_of net vector run) n 0) (sym values) ∙ last_at (term_values (λ q. quantity_of q net run) vector) (effort_of net run)
+use Rattle.wi_accept.proofs.OrderLemmas.{not_less}
+use Rattle.wi_accept.proofs.RuleLemmas.{answers_pop, pops_answer}
+use Rattle.wi_accept.proofs.WeightLemmas.{six_components, effort_at}
 
 -- a system that is asked so has its table, and its rules
 pub asked_table : (net : Net) (query : Query) (vector : List (List Part)) (system : Problem) (table : TableView (Pair Terms Effort)) → system ≡ problem_of net query vector → HasTable system table → HasTable (problem_of net query vector) table
@@ -160,14 +142,16 @@ pub there : {A : Type 0} (P : A → Type 0) (o : Option A) → IsSome o → IfSo
 there P None some h = cc
 there P (Some a) some h = (a, h)
 
--- the goal's effort has 64 bits, since its row fits
-pub effort_fits : (problem : Problem) (table : TableView (Pair Terms Effort)) (b : Pair Terms Effort) → HasTable problem table → table.best ≡ Some b → b.second.count < 2 ^ 64
-effort_fits problem table b has some =
+-- the goal's weight has components of 64 bits, since its row fits
+pub goal_fits : (problem : Problem) (heads : List (ℕ × ℕ)) (table : TableView (Pair Terms Effort)) (b : Pair Terms Effort) → IsTable problem heads table → table.best ≡ Some b → EachBelow (2 ^ 64) (components b)
+goal_fits problem heads table b is some =
     let P : Option (Pair Terms Effort) → Type 0 = λ o. IfSome (option_map components o) (λ w. (front : List (Row (Pair Terms Effort))) × (row : Row (Pair Terms Effort)) × (table.rows ≡ front ++ row ∷ []) × IsFor 0 0 1 row × (components row.weight ≡ w)) in
-    let last = subst P some has.least.last in
+    let last = subst P some is.last in
     let there : slice_get table.rows (length last.0) ≡ Some last.1 = ap (λ (rows : List (Row (Pair Terms Effort))). slice_get rows (length last.0)) last.2 ∙ get_last last.0 last.1 in
-    let fits : EachBelow (2 ^ 64) (components b) = subst (λ (w : List ℕ). EachBelow (2 ^ 64) w) last.4 (has.least.settled (length last.0) last.1 there).fits in
-    fits.1.1.1.1.1.0
+    subst (λ (w : List ℕ). EachBelow (2 ^ 64) w) last.4 (is.settled (length last.0) last.1 there).fits
+
+pub effort_fits : (problem : Problem) (table : TableView (Pair Terms Effort)) (b : Pair Terms Effort) → HasTable problem table → table.best ≡ Some b → b.second.count < 2 ^ 64
+effort_fits problem table b has some = (goal_fits problem has.heads table b has.least some).1.1.1.1.1.0
 
 -- and so does an effort that is shown as too long
 pub long_fits : (problem : Problem) (table : TableView (Pair Terms Effort)) (limit shown : ℕ) → HasTable problem table → IsSome table.best

@@ -1,5 +1,9 @@
-pub mod OrderLemmas
 pub mod SpellingLemmas
 pub mod RuleLemmas
 pub mod AnswerLemmas
 pub mod ShownLemmas
+pub mod WrittenLemmas
+pub mod RisingLemmas
+pub mod ShowingLemmas
+pub mod RowLemmas
+pub mod MakerLemmas

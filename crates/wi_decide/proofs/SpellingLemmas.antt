@@ -1,5 +1,5 @@
 -- What the rules of a goal run tell is a run of the network.
-use Rattle.std.proofs.Common.{◌≡◌, ℕ, ◌<◌, true, false, ◌&&◌, nat_lt, List, [], ◌∷◌, ◌++◌, map, reverse, length, slice_get, Option, Some, None, refl, arith, ap, sym, ◌∙◌, subst, append_assoc}
+use Rattle.std.proofs.Common.{◌≡◌, ℕ, ◌<◌, true, false, ◌&&◌, nat_lt, List, [], ◌∷◌, ◌++◌, map, reverse, length, slice_get, Option, Some, refl, arith, ap, sym, ◌∙◌, subst, append_assoc}
 use Rattle.std.specs.Prelude.{not}
 use Rattle.std.specs.List.{list_all}
 use Rattle.std.specs.Option.{option_map_or}
@@ -29,9 +29,10 @@ use Rattle.wi_rules.proofs.Ops.{class_known}
 use Rattle.wi_build.specs.Problems.{IsAnswering, Problem, IsProblem}
 use Rattle.wi_build.specs.Encodings.{encoding_of}
 use Rattle.wi_build.specs.Systems.{rules_by}
-use Rattle.wi_decide.specs.Spelled.{AreRulesFor, origin, scale}
+use Rattle.wi_decide.specs.Spelled.{AreRulesFor, origin}
+use Rattle.wi_build.specs.Systems.{scale}
 use Rattle.wi_decide.specs.private.Spelled.{IsSpelledRun, Spelled, classed, is_named, is_origin_of, named, unspelled, with_origin, with_rules}
-use Rattle.wi_decide.proofs.RuleLemmas.{rules_tell}
+use Rattle.wi_accept.proofs.RuleLemmas.{rules_tell}
 
 -- what is told of a whole run
 abbrev pub whole : Run → Spelled
@@ -43,10 +44,10 @@ with_all net s [] = s
 with_all net s (o ∷ os) = with_all net (with_origin net s o) os
 
 -- a label that the network knows has its class there, and a name
-classed_is : (net : Net) (l : Entry) → label_known net.classes l ≡ true → classed net l.0 ≡ l
+pub classed_is : (net : Net) (l : Entry) → label_known net.classes l ≡ true → classed net l.0 ≡ l
 classed_is net l h = rw (class_known net.classes l h) refl
 
-known_there : (net : Net) (l : Entry) → IsNetwork net → label_known net.classes l ≡ true → l.0.0 < length net.labels
+pub known_there : (net : Net) (l : Entry) → IsNetwork net → label_known net.classes l ≡ true → l.0.0 < length net.labels
 known_there net l k h = let within = slice_get_within net.classes l.0.0 l.1 (class_known net.classes l h) in omega (arith, within, k.classes)
 
 module _ (net : Net) where

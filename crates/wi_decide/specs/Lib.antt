@@ -1,4 +1,3 @@
 pub mod Spelled
-pub mod Decided
 pub mod Refusals
 pub mod private

@@ -5,23 +5,13 @@ use Rattle.wi_world.specs.Moving.{IsMovingRun}
 use Rattle.wi_world.specs.Runs.{effort_of}
 use Rattle.wi_world.specs.Holds.{Matches, NoneMovingLess}
 use Rattle.wi_quantity.specs.Weighing.{components}
-use Rattle.wi_weight.specs.declared.kinds.Pair.{Pair}
-use Rattle.wi_weight.specs.declared.kinds.Terms.{Terms}
-use Rattle.wi_weight.specs.declared.kinds.Effort.{Effort}
-use Rattle.wi_pds.specs.declared.rule.Rule.{Rule}
 use Rattle.wi_trace.specs.declared.answer.Answer.{Answer}
-use Rattle.wi_reduce.specs.Least.{AreLeastClosed}
+use Rattle.wi_pds.specs.LeastClosed.{AreLeastClosed}
 use Rattle.wi_saturate.specs.LeastTables.{IsOverflow}
 use Rattle.wi_build.specs.Problems.{Problem, asks, weighs}
-use Rattle.wi_build.specs.Encodings.{encoding_of}
-use Rattle.wi_build.specs.Systems.{rules_by}
+use Rattle.wi_build.specs.Systems.{scale, rules}
 use Rattle.wi_decide.specs.declared.refused.DecideRefused.{DecideRefused}
 use Rattle.wi_decide.specs.declared.refused.DecideRefused.TheVariants.{Overflow, TooLong, Memory}
-use Rattle.wi_decide.specs.Spelled.{scale}
-
--- the rules of a problem
-abbrev pub rules : Problem → ℕ → ℕ → List (Rule (Pair Terms Effort))
-rules problem = rules_by (encoding_of problem)
 
 -- a summary of the least closed heads that doesn't fit and that no run to the goal is lighter than; none of these is lighter
 pub record IsOverflowing (problem : Problem) (w : List ℕ) : Type 0 where

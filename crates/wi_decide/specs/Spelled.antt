@@ -3,8 +3,6 @@ use Rattle.std.specs.Prelude.{◌≡◌, ℕ, List}
 use Rattle.wi_weight.specs.declared.kinds.Pair.{Pair}
 use Rattle.wi_weight.specs.declared.kinds.Terms.{Terms}
 use Rattle.wi_weight.specs.declared.kinds.Effort.{Effort}
-use Rattle.wi_weight.specs.Weights.{Scale}
-use Rattle.wi_weight.specs.Kinds.{pair_scale, terms_scale, effort_scale}
 use Rattle.wi_net.specs.Net.{Net}
 use Rattle.wi_pds.specs.declared.rule.Rule.{Rule}
 use Rattle.wi_rules.specs.declared.spot.Origin.{Origin}
@@ -13,10 +11,6 @@ use Rattle.wi_build.specs.Tags.{origin_of}
 use Rattle.wi_build.specs.Problems.{Problem, IsProblem}
 use Rattle.wi_build.specs.Encodings.{encoding_of}
 use Rattle.wi_build.specs.Systems.{rules_by}
-
--- how weights compare: by five terms, and then by the effort
-abbrev pub scale : Scale
-scale = pair_scale terms_scale effort_scale
 
 -- what a rule stands for
 abbrev pub origin : Rule (Pair Terms Effort) → Origin

@@ -12,11 +12,14 @@ ghost use Rattle.wi_witness.specs.GoalRuns.{IsNamedRun};
 ghost use Rattle.wi_build.specs.Problems.{Problem, IsProblem, problem_of};
 ghost use Rattle.wi_build.specs.Encodings.{encoding_of};
 ghost use Rattle.wi_build.specs.Systems.{rules_by};
-ghost use Rattle.wi_decide.specs.Spelled.{scale};
+ghost use Rattle.wi_build.specs.Systems.{scale};
 ghost use Rattle.wi_decide.specs.private.Tables.{IsTable, HasTable, IsNoTable, IsNotShown, IsLeastRun};
-ghost use Rattle.wi_decide.specs.Decided.{IsDecided};
+ghost use Rattle.wi_accept.specs.Answers.{IsDecided};
+ghost use Rattle.wi_accept.specs.Causes.{IsAccepted};
+ghost use Rattle.wi_accept.specs.Makers.{IsMaker};
 ghost use Rattle.wi_decide.specs.Refusals.{IsUndecided, IsUnrefused};
 
+use crate::certificate::{closed_of, shown_of};
 use crate::refused::DecideRefused;
 use crate::spelling::run_of;
 use std::alloc::Global;
@@ -24,6 +27,7 @@ use std::marker::Brand;
 use std::sync::ledger::{Blank, Ledger};
 use wi_base::NoMemory;
 use wi_build::{Layout, LazySystem};
+use wi_cert::Certificate;
 use wi_net::Network;
 use wi_pds::{Heads, RuleId};
 use wi_quantity::{Vector, Weight};
@@ -37,17 +41,21 @@ use wi_world::{Run, Verdict, Word};
 /// The most rules that a goal run may have whose run is shown.
 const EFFORT_LIMIT: u64 = 4_096;
 
-/// The answer to a query of the network; runs weigh what the vector says. A run is shown where its effort is at most 4,096.
+/// The answer to a query of the network, and the certificate that shows it; runs weigh what the vector says. A run is shown where
+/// its effort is at most 4,096. The certificate has the least closed heads and pairs, and the rows that weigh less than that run; of
+/// a no, all rows.
 pub fn decide(
     alloc: Global,
     net: &Network,
     query: &Query,
     vector: &Vector,
-) -> Result<Answer, DecideRefused>
+) -> Result<(Answer, Certificate), DecideRefused>
     requires { AreBounds net.now query.now.bounds }
-    ensures decided { IfOk result (λ answer. IsDecided (problem_of net.now query.now vector.now) answer) }
+    ensures decided { IfOk result (λ found. IsDecided (problem_of net.now query.now vector.now) found.0) }
+    ensures made { IfOk result (λ found. IsMaker (problem_of net.now query.now vector.now) found.0 found.1) }
+    ensures accepted { IfOk result (λ found. IsAccepted (problem_of net.now query.now vector.now) found.1) }
     ensures refused { IfErr result (λ refused. IsUndecided (problem_of net.now query.now vector.now) refused) }
-    ensures unrefused { IfOk result (λ answer. IsUnrefused (problem_of net.now query.now vector.now) answer) }
+    ensures unrefused { IfOk result (λ found. IsUnrefused (problem_of net.now query.now vector.now) found.0) }
 {
     net.keeps();
     query.keeps();
@@ -55,7 +63,11 @@ pub fn decide(
     let system = LazySystem::new(alloc, net, query, vector, &query.bounds)?;
     let heads = reach(alloc, &system)?;
     let table = table_of::<Brand, Brand>(alloc, &system, &heads, Blank::new(1), Blank::new(1))?;
-    answer_of(alloc, net, query, &system, &table)
+    let answer = answer_of(alloc, net, query, &system, &table)?;
+    let terms = vector.len() as u32;
+    let shown = shown_of(alloc, terms, &answer)?;
+    let closed = closed_of(alloc, terms, heads, &table)?;
+    Ok((answer, Certificate { shown, closed }))
 }
 
 // The least summaries of heads, up to the goal. How many rows are settled and how many candidates are tried is counted by the
@@ -107,6 +119,7 @@ fn answer_of(
     requires problem { IsProblem (problem_of net.now query.now system.now.vector) }
     requires system { system.now ≡ problem_of net.now query.now system.now.vector }
     requires table { HasTable system.now table.now }
+    ensures weight { IfOk result (λ answer. answer.weight ≡ table.now.best) }
     ensures decided { IfOk result (λ answer. IsDecided (problem_of net.now query.now system.now.vector) answer) }
     ensures refused { IfErr result (λ refused. IsUndecided (problem_of net.now query.now system.now.vector) refused) }
     ensures unrefused { IfOk result (λ answer. IsUnrefused (problem_of net.now query.now system.now.vector) answer) }
@@ -168,6 +181,7 @@ fn judged(
     run: Run,
 ) -> Result<Answer, NoMemory>
     requires { AreBounds net.now query.now.bounds }
+    ensures weight { IfOk result (λ answer. answer.weight ≡ Some weight) }
     ensures run { IfOk result (λ answer. answer.run ≡ Some run) }
     ensures decided { IfOk result (λ answer. (vector : List (List Part)) → IsLeastRun (problem_of net.now query.now vector) (components weight) run → IsDecided (problem_of net.now query.now vector) answer) }
 {

@@ -1,6 +1,7 @@
 //! The answer to a query: whether a packet can take such a route while links fail, by what least run, and how that run fares.
 #![tactic(auto)]
 
+mod certificate;
 mod decision;
 mod laws;
 mod refused;

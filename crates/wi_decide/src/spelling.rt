@@ -8,7 +8,8 @@ ghost use Rattle.wi_quantity.specs.Weighing.{components};
 ghost use Rattle.wi_rules.specs.Goals.{origins_for};
 ghost use Rattle.wi_rules.specs.Numbers.{origins_by};
 ghost use Rattle.wi_build.specs.Problems.{IsAnswering, Problem};
-ghost use Rattle.wi_decide.specs.Spelled.{scale, origin, AreRulesFor};
+ghost use Rattle.wi_decide.specs.Spelled.{origin, AreRulesFor};
+ghost use Rattle.wi_build.specs.Systems.{scale};
 ghost use Rattle.wi_decide.specs.private.Spelled.{unspelled, with_origin, named, with_rules, is_origin_of, is_named, IsSpelledRun};
 
 use std::alloc::Global;

@@ -2,4 +2,5 @@ pub mod Pairs
 pub mod Rules
 pub mod Runs
 pub mod Closed
+pub mod LeastClosed
 pub mod lemmas

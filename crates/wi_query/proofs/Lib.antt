@@ -9,3 +9,4 @@ pub mod Known
 pub mod Numbers
 pub mod Queries
 pub mod Fine
+pub mod Alike

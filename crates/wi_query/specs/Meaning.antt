@@ -1,5 +1,5 @@
 -- What a query means.
-use Rattle.std.specs.Prelude.{◌≡◌, ℕ, ◌≤◌, Bool, true, false, nat_lt, List, [], length, Option, Some, None}
+use Rattle.std.specs.Prelude.{◌≡◌, ◌↔◌, ℕ, ◌≤◌, Bool, true, false, nat_lt, List, [], length, Option, Some, None}
 use Rattle.std.specs.List.{list_any}
 use Rattle.std.specs.Str.Parse.{digits_value}
 use Rattle.wi_regex.specs.declared.regex.Regex.{Regex}
@@ -79,3 +79,10 @@ question_of query = record {
   last = Matches holds query.last.regex;
   bounds = query.bounds;
 }
+
+-- two queries ask the same: their expressions match the same words, within the same bounds
+pub record AskTheSame (q r : Query) : Type 0 where
+  pub first : (w : List ℕ) → Matches holds q.first.regex w ↔ Matches holds r.first.regex w
+  pub path : (w : List ℕ) → Matches holds q.path.regex w ↔ Matches holds r.path.regex w
+  pub last : (w : List ℕ) → Matches holds q.last.regex w ↔ Matches holds r.last.regex w
+  pub bounds : q.bounds ≡ r.bounds

@@ -6,7 +6,7 @@ ghost use Rattle.wi_net.specs.Net.{Net};
 ghost use Rattle.wi_query.specs.declared.fault.QueryFault.{QueryFault};
 ghost use Rattle.wi_query.specs.declared.fault.QueryFault.TheVariants.{Memory};
 ghost use Rattle.wi_query.specs.declared.query.Query.{Query};
-ghost use Rattle.wi_query.specs.Meaning.{IsQuery};
+ghost use Rattle.wi_query.specs.Meaning.{IsQuery, AskTheSame};
 ghost use Rattle.wi_query.specs.Faults.{IsFault};
 
 /// The text of a query has no fault.
@@ -17,4 +17,9 @@ pub fn a_query_has_no_fault()
 /// The signs of an expression are those of one tree, so they mean one language.
 pub fn signs_have_one_tree<A>()
     ensures { (t u : Tree A) → is_tree (λ a. true) AnExpression t ≡ true → is_tree (λ a. true) AnExpression u ≡ true → signs_of t [] ≡ signs_of u [] → t ≡ u }
+{}
+
+/// Two readings of a text ask the same.
+pub fn a_text_asks_one_thing()
+    ensures { (net : Net) (text : List ℕ) (q r : Query) → IsQuery net text q → IsQuery net text r → AskTheSame q r }
 {}

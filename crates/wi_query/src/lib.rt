@@ -14,6 +14,6 @@ mod tree;
 
 pub use expression::Expression;
 pub use fault::QueryFault;
-pub use laws::{a_query_has_no_fault, signs_have_one_tree};
+pub use laws::{a_query_has_no_fault, a_text_asks_one_thing, signs_have_one_tree};
 pub use query::{Query, read_query};
 pub use symbols::SymbolSet;

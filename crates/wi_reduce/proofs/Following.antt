@@ -4,7 +4,7 @@ use Rattle.std.specs.List.{Contains}
 use Rattle.std.proofs.Common.{sym, ap, subst, arith}
 use Rattle.std.proofs.lemmas.List.Elements.{Contains-append_left}
 use Rattle.wi_pds.specs.declared.rule.Rule.{Rule}
-use Rattle.wi_reduce.specs.Least.{IsReached}
+use Rattle.wi_pds.specs.LeastClosed.{IsReached}
 use Rattle.wi_reduce.specs.declared.search.Search.{Search}
 use Rattle.wi_reduce.specs.private.Worklists.{seconds, IsTaken}
 use Rattle.wi_reduce.specs.private.Searches.{noted_all, pair_followed, pop_followed, swap_followed}

@@ -1,7 +1,7 @@
 //! Each thing that is found is followed once, so that what leads on only together meets once, when the later of the two is
 //! followed. While it runs, a head is kept twice and a pair three times; both lists are sorted once, at the end.
 ghost use Rattle.std.specs.Prelude.{ℕ, IfOk};
-ghost use Rattle.wi_reduce.specs.Least.{AreLeastClosed, IsReached};
+ghost use Rattle.wi_pds.specs.LeastClosed.{AreLeastClosed, IsReached};
 ghost use Rattle.wi_reduce.specs.private.Kept.{IsSearch, IsStep, AreSame};
 
 use crate::search::Search;

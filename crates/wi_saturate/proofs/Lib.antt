@@ -11,3 +11,4 @@ pub mod Made
 pub mod Searching
 pub mod Counts
 pub mod Shown
+pub mod BelowLaws

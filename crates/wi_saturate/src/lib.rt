@@ -14,6 +14,7 @@ mod chains;
 mod heap;
 mod index;
 mod joins;
+mod laws;
 mod pairs;
 mod refused;
 mod row;
@@ -26,6 +27,7 @@ mod turn;
 mod waits;
 
 pub use heap::{Candidate, Heap};
+pub use laws::rows_below_a_weight_are_closed;
 pub use refused::LeastRefused;
 pub use row::Row;
 pub use saturation::least;

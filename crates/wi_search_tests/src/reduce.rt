@@ -1,6 +1,6 @@
 //! What can be reached, by example.
 ghost use Rattle.std.specs.Prelude.{ℕ};
-ghost use Rattle.wi_reduce.specs.Least.{IsReached};
+ghost use Rattle.wi_pds.specs.LeastClosed.{IsReached};
 
 use crate::systems::{efforts, rule};
 use std::alloc::Global;
@@ -38,7 +38,7 @@ impl System<Effort> for Scarce<'_> {
     ghost use Rattle.std.specs.Prelude.{ℕ, List};
     ghost use Rattle.wi_pds.specs.Rules.{rules_at};
     ghost use Rattle.wi_pds.specs.lemmas.Rules.{listed_name_heads};
-    ghost use Rattle.wi_reduce.specs.Least.{IsReached};
+    ghost use Rattle.wi_pds.specs.LeastClosed.{IsReached};
 
     ghost start_head = { λ s. s.list.start };
 

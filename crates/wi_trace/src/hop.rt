@@ -4,7 +4,7 @@
 ghost use Rattle.std.specs.Prelude.{◌≡◌, ℕ, true, false, IfOk, IfErr, OnErr, OnOk};
 ghost use Rattle.wi_world.specs.Moves.{groups_at, moved};
 ghost use Rattle.wi_trace.specs.declared.cause.Cause.{Cause};
-ghost use Rattle.wi_trace.specs.Replays.{hop_cause};
+ghost use Rattle.wi_trace.specs.Replays.{hop_cause, moving_cause};
 ghost use Rattle.wi_trace.specs.private.Hops.{named, is_first, fixed_against, moving_against, against, cause_in, Goes};
 
 use crate::cause::{Cause, ReplayRefused};
@@ -38,7 +38,7 @@ pub(crate) fn twin_of(header: &Header) -> Result<Header, NoMemory>
 }
 
 /// The groups that the tables have for a place.
-pub(crate) fn groups_of<'a>(net: &'a Network, at: &Location) -> &'a [Group]
+pub fn groups_of<'a>(net: &'a Network, at: &Location) -> &'a [Group]
     ensures { result.now ≡ groups_at net.now at.now.0 at.now.1 }
 {
     match at.1.at(0) {
@@ -179,8 +179,29 @@ pub fn hop_under(
     }
 }
 
+/// Takes a step, if it can be made at some moment of a course of failures, repairs and hops that keeps within the bounds. If it
+/// can't, the answer is its first cause, and the packet is where it was; so it is where memory runs out.
+pub fn hop_within(
+    alloc: Global,
+    net: &Network,
+    bounds: &Bounds,
+    at: &mut Location,
+    step: Step,
+) -> Result<Option<Cause>, NoMemory>
+    ensures cause { IfOk result (λ cause. cause ≡ moving_cause net.now bounds.now at.old step) }
+    ensures on { result ≡ Ok None → moved net.now at.old step ≡ Some at.new }
+    ensures kept { (cause : Cause) → result ≡ Ok (Some cause) → at.new ≡ at.old }
+    ensures err { OnErr result (at.new ≡ at.old) }
+{
+    match hop(alloc, net, &World::Moving(bounds), at, 0, step) {
+        Ok(()) => Ok(None),
+        Err(ReplayRefused::Fault { step: _, cause }) => Ok(Some(cause)),
+        Err(ReplayRefused::Memory) => Err(NoMemory::Memory),
+    }
+}
+
 /// Where a step leads, whatever is failed. It answers whether it leads on.
-pub(crate) fn follow(net: &Network, at: &mut Location, step: Step) -> Result<bool, NoMemory>
+pub fn follow(net: &Network, at: &mut Location, step: Step) -> Result<bool, NoMemory>
     ensures on { result ≡ Ok true → moved net.now at.old step ≡ Some at.new }
     ensures off { result ≡ Ok false → moved net.now at.old step ≡ None }
 {

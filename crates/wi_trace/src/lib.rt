@@ -12,11 +12,12 @@ mod start;
 
 pub use answer::Answer;
 pub use cause::{Cause, ReplayRefused};
-pub use hop::{Location, hop_under};
+pub use hop::{Location, follow, groups_of, hop_under, hop_within};
 pub use judge::{needs, verdict};
 pub use laws::{a_run_without_a_fault_is_a_trace, a_run_without_a_moving_fault_is_possible};
 pub use replays::{Trace, replay, replay_moving};
 pub use sets::{insert_all, nth};
+pub use start::is_start;
 pub use wi_world::{Run, Step, Verdict, Word};
 
 #[cfg(test)]

@@ -10,7 +10,7 @@ use wi_net::{FailSet, LinkId, Network};
 use wi_world::Run;
 
 /// Whether a packet may set out: on a link outside the set, with a valid header of the network's labels. It takes no memory.
-pub(crate) fn is_start(net: &Network, fails: &FailSet, run: &Run) -> bool
+pub fn is_start(net: &Network, fails: &FailSet, run: &Run) -> bool
     ensures { result ≡ is_start net.now fails.now run.now.first run.now.header }
 {
     run.first.0 < net.counts().links

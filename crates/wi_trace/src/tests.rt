@@ -12,8 +12,8 @@ use crate::Cause::{
 };
 use crate::sets::first_in;
 use crate::{
-    Cause, Location, ReplayRefused, Run, Step, Trace, Verdict, hop_under, insert_all, needs,
-    replay, replay_moving, verdict,
+    Cause, Location, ReplayRefused, Run, Step, Trace, Verdict, follow, groups_of, hop_under,
+    hop_within, insert_all, is_start, needs, replay, replay_moving, verdict,
 };
 use std::alloc::{AllocError, Global};
 use std::process::Abort;
@@ -506,7 +506,19 @@ const NO_STARTS: &[(LocationOf, &[u32])] = &[
     ((2, &[(Label(4), Class::Ip)]), &[]),
 ];
 
+fn sets_out(alloc: Global, net: &Network, from: LocationOf, fails: &[u32]) -> Result<bool, Fail> {
+    let run = run(alloc, from, DIRECT)?;
+    let fails = set(alloc, fails)?;
+    let found = is_start(net, &fails, &run);
+    drop(fails);
+    drop(run);
+    Ok(found)
+}
+
 fn no_starts(rt: &impl Abort, alloc: Global, net: &Network) -> Result<(), Fail> {
+    let free = sets_out(alloc, net, FROM_X, &[1])?;
+    let failed = sets_out(alloc, net, FROM_X, &[0])?;
+    assert_eq!(rt; (free, failed), (true, false));
     for (from, fails) in NO_STARTS {
         case_holds(
             rt,
@@ -758,6 +770,86 @@ fn all_hop(rt: &impl Abort, alloc: Global, net: &Network) -> Result<(), Fail> {
 fn a_packet_that_may_not_hop_is_where_it_was(rt: HostRuntime) -> Result<(), Fail> {
     let net = small(rt.alloc(), None)?;
     let said = all_hop(&rt, rt.alloc(), &net);
+    discard(net);
+    said
+}
+
+// How many may fail, a step from x, what stands against it within these bounds, and where the packet is then.
+type HopWithin<'a> = (u32, (u32, u32), Option<Cause>, LocationOf<'a>);
+
+const HOPS_WITHIN: &[HopWithin] = &[
+    (0, (0, 0), None, (1, &[S10, IP1])),
+    (1, (1, 0), None, (2, &[L30, S10, IP1])),
+    (0, (1, 0), Some(TooManyBefore(1)), (0, &[IP1])),
+    (1, (2, 0), Some(NoGroup), (0, &[IP1])),
+];
+
+fn hops_within(
+    rt: &impl Abort,
+    alloc: Global,
+    net: &Network,
+    case: &HopWithin,
+) -> Result<(), Fail> {
+    let (k, (group, member), against, to) = case;
+    let mut at = location(alloc, FROM_X)?;
+    let bounds = Bounds {
+        k: *k,
+        down: FailSet::new(alloc),
+        up: FailSet::new(alloc),
+    };
+    let step = Step {
+        group: *group,
+        member: *member,
+    };
+    let found = hop_within(alloc, net, &bounds, &mut at, step);
+    drop(bounds);
+    assert_eq!(rt; found, Ok(*against));
+    location_is(rt, &at, to);
+    drop(at);
+    Ok(())
+}
+
+fn all_hop_within(rt: &impl Abort, alloc: Global, net: &Network) -> Result<(), Fail> {
+    for case in HOPS_WITHIN {
+        hops_within(rt, alloc, net, case)?;
+    }
+    Ok(())
+}
+
+#[test]
+fn a_packet_hops_where_what_comes_before_may_fail(rt: HostRuntime) -> Result<(), Fail> {
+    let net = small(rt.alloc(), None)?;
+    let said = all_hop_within(&rt, rt.alloc(), &net);
+    discard(net);
+    said
+}
+
+// Which way the tables lead from x, whatever is failed, and how many groups they have there.
+fn follows(rt: &impl Abort, alloc: Global, net: &Network) -> Result<(), Fail> {
+    let mut at = location(alloc, FROM_X)?;
+    let groups = groups_of(net, &at).len();
+    let third = Step {
+        group: 2,
+        member: 0,
+    };
+    let second = Step {
+        group: 1,
+        member: 0,
+    };
+    let stays = follow(net, &mut at, third);
+    let goes = follow(net, &mut at, second);
+    location_is(rt, &at, &(2, &[L30, S10, IP1]));
+    drop(at);
+    assert_eq!(rt; groups, 2);
+    assert_eq!(rt; stays, Ok(false));
+    assert_eq!(rt; goes, Ok(true));
+    Ok(())
+}
+
+#[test]
+fn a_step_leads_on_whatever_is_failed(rt: HostRuntime) -> Result<(), Fail> {
+    let net = small(rt.alloc(), None)?;
+    let said = follows(&rt, rt.alloc(), &net);
     discard(net);
     said
 }

@@ -6,7 +6,7 @@ use Rattle.wi_weight.specs.declared.kinds.Effort.{Effort}
 use Rattle.wi_world.specs.declared.run.Run.{Run}
 use Rattle.wi_world.specs.Holds.{NoneMovingLess}
 use Rattle.wi_quantity.specs.Weighing.{components}
-use Rattle.wi_reduce.specs.Least.{AreLeastClosed}
+use Rattle.wi_pds.specs.LeastClosed.{AreLeastClosed}
 use Rattle.wi_saturate.specs.Rows.{TableView}
 use Rattle.wi_saturate.specs.LeastTables.{IsLeastTable, IsOverflow}
 use Rattle.wi_build.specs.Problems.{Problem, IsAnswering, asks, weighs}
@@ -14,7 +14,7 @@ use Rattle.wi_build.specs.Encodings.{encoding_of}
 use Rattle.wi_build.specs.Systems.{rules_by}
 use Rattle.wi_decide.specs.declared.refused.DecideRefused.{DecideRefused}
 use Rattle.wi_decide.specs.declared.refused.DecideRefused.TheVariants.{Overflow, TooLong, Memory}
-use Rattle.wi_decide.specs.Spelled.{scale}
+use Rattle.wi_build.specs.Systems.{scale}
 
 -- least summaries of these heads, up to the goal: from the start with the bottom alone to the end
 abbrev pub IsTable : Problem → List (ℕ × ℕ) → TableView (Pair Terms Effort) → Type 0

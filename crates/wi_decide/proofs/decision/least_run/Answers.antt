@@ -3,7 +3,7 @@ use Rattle.wi_quantity.specs.Weighing.{components}
 use Rattle.wi_witness.specs.GoalRuns.{IsNamedRun}
 use Rattle.wi_build.specs.Encodings.{encoding_of}
 use Rattle.wi_build.specs.Systems.{rules_by}
-use Rattle.wi_decide.specs.Spelled.{scale}
+use Rattle.wi_build.specs.Systems.{scale}
 use Rattle.wi_build.specs.Problems.{problem_of}
 use Rattle.wi_decide.proofs.AnswerLemmas.{asked_table, rules_for, spelled_least, there}
 use Rattle.wi_decide.proofs.decision.least_run.Goals as goal

@@ -1,0 +1,15 @@
+pub mod Finding
+pub mod ListLemmas
+pub mod NeedLemmas
+pub mod Covering
+pub mod ClosedLaws
+pub mod RuleLemmas
+pub mod OrderLemmas
+pub mod WeightLemmas
+pub mod DemandWeights
+pub mod MatchLemmas
+pub mod LeastLemmas
+pub mod AcceptedLemmas
+pub mod MakerLemmas
+pub mod UnusedTerms
+pub mod FirstRefusals

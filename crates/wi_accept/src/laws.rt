@@ -1,0 +1,39 @@
+//! Why an accepted certificate can be believed, and why a maker's is accepted. The laws are about the definitions alone, so they
+//! hold whoever makes a certificate and whoever checks it. They run no code.
+ghost use Rattle.std.specs.Prelude.{◌≡◌, ◌<◌, ◌≤◌, ℕ, List, true, length, Contains, slice_index};
+ghost use Rattle.wi_weight.specs.declared.kinds.Pair.{Pair};
+ghost use Rattle.wi_weight.specs.declared.kinds.Terms.{Terms};
+ghost use Rattle.wi_weight.specs.declared.kinds.Effort.{Effort};
+ghost use Rattle.wi_world.specs.declared.run.Run.{Run};
+ghost use Rattle.wi_quantity.specs.Weighing.{components};
+ghost use Rattle.wi_trace.specs.declared.answer.Answer.{Answer};
+ghost use Rattle.wi_pds.specs.declared.rule.Rule.{Rule};
+ghost use Rattle.wi_build.specs.Problems.{Problem, IsProblem, weighs};
+ghost use Rattle.wi_build.specs.Systems.{rules};
+ghost use Rattle.wi_cert.specs.declared.certificate.Certificate.{Certificate};
+ghost use Rattle.wi_cert.specs.declared.check_refused.CheckRefused.{CheckRefused};
+ghost use Rattle.wi_cert.specs.Text.{IsWritable};
+ghost use Rattle.wi_accept.specs.Answers.{IsDecided, answer_of};
+ghost use Rattle.wi_accept.specs.Causes.{IsRefusal, IsAccepted};
+ghost use Rattle.wi_accept.specs.Makers.{IsMaker};
+
+/// The answer of a certificate that nothing speaks against holds, whoever wrote it.
+pub fn an_accepted_answer_holds()
+    ensures { (problem : Problem) (c : Certificate) → IsProblem problem → IsWritable c → IsAccepted problem c → IsDecided problem (answer_of problem c.shown) }
+{}
+
+/// Nothing speaks against the certificate that a maker writes for an answer that holds.
+pub fn makers_certificates_are_accepted()
+    ensures { (problem : Problem) (answer : Answer) (c : Certificate) → IsProblem problem → IsDecided problem answer → IsMaker problem answer c → IsAccepted problem c }
+{}
+
+/// A certificate is refused for one cause: there are no two first ones.
+pub fn a_certificate_has_one_first_refusal()
+    ensures { (problem : Problem) (c : Certificate) (r s : CheckRefused) → IsRefusal problem c r → IsRefusal problem c s → r ≡ s }
+{}
+
+/// The terms that a vector hasn't are 0 in what every rule and every run weighs, so the other terms and the effort tell a weight.
+pub fn unused_terms_weigh_nothing()
+    ensures rules { (problem : Problem) (p g i : ℕ) (r : Rule (Pair Terms Effort)) → IsProblem problem → Contains (rules problem p g) r → length problem.vector ≤ i → i < 5 → slice_index (components r.weight) i ≡ 0 }
+    ensures runs { (problem : Problem) (run : Run) (i : ℕ) → length problem.vector ≤ i → i < 5 → slice_index (weighs problem run) i ≡ 0 }
+{}

@@ -1,0 +1,12 @@
+//! What a certificate is refused for, as definitions below both the search that makes certificates and the checker that judges
+//! them, with the laws that tie them to what an answer means. It has no code that runs.
+#![tactic(auto)]
+
+mod laws;
+mod need;
+
+pub use laws::{
+    a_certificate_has_one_first_refusal, an_accepted_answer_holds,
+    makers_certificates_are_accepted, unused_terms_weigh_nothing,
+};
+pub use need::Need;

@@ -1,0 +1,10 @@
+pub mod WalkLemmas
+pub mod MatchLemmas
+pub mod WeightLemmas
+pub mod StartLemmas
+pub mod Rising
+pub mod Search
+pub mod Segments
+pub mod Parts
+pub mod RowLemmas
+pub mod StageLemmas

@@ -1,0 +1,70 @@
+-- A list whose items each stand above the one before rises: each item stands below all that come after it.
+use Rattle.std.specs.Prelude.{◌≡◌, ℕ, zero, suc, ◌+◌, ◌-◌, ◌≤◌, Bool, true, List, [], ◌∷◌, ◌++◌, Some, length, slice_get}
+use Rattle.std.specs.List.{All}
+use Rattle.std.specs.Option.{option_map_or}
+use Rattle.std.proofs.Common.{sym, ap, ◌∙◌, subst, arith, length-append}
+use Rattle.std.proofs.lemmas.Bool.Decides.{nat_tests}
+use Rattle.std.proofs.lemmas.Option.{same_Some}
+use Rattle.wi_net.proofs.KeptLists.{get_last}
+use Rattle.wi_cert.specs.declared.certificate.Certificate.{Certificate}
+use Rattle.wi_cert.specs.declared.row.Row.{Row}
+use Rattle.wi_cert.specs.Order.{pair_below, row_below, last_of, is_next, EachAdded}
+use Rattle.wi_cert.specs.Closed.{IsRow}
+use Rattle.wi_cert.specs.Text.{IsWritable}
+use Rattle.wi_check.specs.declared.rows.Rows.{Rows}
+use Rattle.wi_check.specs.private.Lists.{Rises}
+use Rattle.wi_check.specs.private.Rows.{HaveTerms, AreRows}
+
+last_added : {A : Type 0} (before : List A) (x : A) → last_of (before ++ x ∷ []) ≡ Some x
+last_added before x =
+    let end : length (before ++ x ∷ []) - 1 ≡ length before = omega (arith, length-append before (x ∷ [])) in
+    ap (λ n. slice_get (before ++ x ∷ []) n) end ∙ get_last before x
+
+module _ {A : Type 0} (below : A → A → Bool) (MayFollow : List A → A → Type 0)
+    (trans : (a b c : A) → below a b ≡ true → below b c ≡ true → below a c ≡ true) (next : (before : List A) (x : A) → MayFollow before x → is_next below before x ≡ true) where
+  above_last : (before xs : List A) (last : A) → last_of before ≡ Some last → EachAdded MayFollow before xs → (k : ℕ) (b : A) → slice_get xs k ≡ Some b → below last b ≡ true
+  above_last before [] last at each k b here = cc
+  above_last before (x ∷ xs) last at each zero b here =
+      let up : below last x ≡ true = ap (λ o. option_map_or (λ y. below y x) o true) (sym at) ∙ next before x each.0 in
+      subst (λ y. below last y ≡ true) (same_Some x b here) up
+  above_last before (x ∷ xs) last at each (suc k) b here =
+      let up : below last x ≡ true = ap (λ o. option_map_or (λ y. below y x) o true) (sym at) ∙ next before x each.0 in
+      trans last x b up (above_last (before ++ x ∷ []) xs x (last_added before x) each.1 k b here)
+
+  -- what each added item keeps, where an order is transitive and each item stands above the last before it
+  pub rises : (before xs : List A) → EachAdded MayFollow before xs → Rises below xs
+  rises before [] each i j a b less at there = cc
+  rises before (x ∷ xs) each i zero a b less at there = absurd (omega arith)
+  rises before (x ∷ xs) each zero (suc j) a b less at there =
+      subst (λ y. below y b ≡ true) (same_Some x a at) (above_last (before ++ x ∷ []) xs x (last_added before x) each.1 j b there)
+  rises before (x ∷ xs) each (suc i) (suc j) a b less at there = rises (before ++ x ∷ []) xs each.1 i j a b (omega arith) at there
+
+-- what holds of each item that may follow holds of all
+pub each_has : {A : Type 0} (MayFollow : List A → A → Type 0) (P : A → Type 0) → ((before : List A) (x : A) → MayFollow before x → P x) → (before xs : List A) → EachAdded MayFollow before xs → All P xs
+each_has MayFollow P has before [] each k d within = absurd (omega arith)
+each_has MayFollow P has before (x ∷ xs) each zero d within = has before x each.0
+each_has MayFollow P has before (x ∷ xs) each (suc k) d within = each_has MayFollow P has (before ++ x ∷ []) xs each.1 k d (omega arith)
+
+pub pair_below_trans : (a b c : ℕ × ℕ) → pair_below a b ≡ true → pair_below b c ≡ true → pair_below a c ≡ true
+pair_below_trans a b c h k = grind (arith, nat_tests)
+
+pub row_below_trans : (a b c : Row) → row_below a b ≡ true → row_below b c ≡ true → row_below a c ≡ true
+row_below_trans a b c h k = grind (arith, nat_tests)
+
+added_pairs : (xs : List (ℕ × ℕ)) → EachAdded (λ before x. is_next pair_below before x ≡ true) [] xs → Rises pair_below xs
+added_pairs xs each = rises pair_below (λ before x. is_next pair_below before x ≡ true) pair_below_trans (λ before x h. h) [] xs each
+
+-- heads, pairs and rows of a certificate that has a text
+pub heads_rise : (c : Certificate) (heads : List (ℕ × ℕ)) → IsWritable c → heads ≡ c.closed.heads → Rises pair_below heads
+heads_rise c heads is same = subst (Rises pair_below) (sym same) (added_pairs c.closed.heads is.closed.heads)
+
+pub pairs_rise : (c : Certificate) (pairs : List (ℕ × ℕ)) → IsWritable c → pairs ≡ c.closed.pairs → Rises pair_below pairs
+pairs_rise c pairs is same = subst (Rises pair_below) (sym same) (added_pairs c.closed.pairs is.closed.pairs)
+
+pub rows_are : (c : Certificate) (rows : Rows) → IsWritable c → rows.terms ≡ c.shown.terms → rows.rows.now ≡ c.closed.rows → AreRows rows
+rows_are c rows is terms same = record {
+  few = subst (λ n. n ≤ 5) (sym terms) is.shown.terms;
+  terms = subst (λ n. HaveTerms n rows.rows.now) (sym terms) (subst (HaveTerms c.shown.terms) (sym same)
+      (each_has (IsRow c.shown) (λ (r : Row). length r.weight ≡ c.shown.terms + 1) (λ before r may. may.weight) [] c.closed.rows is.closed.rows));
+  rise = subst (Rises row_below) (sym same) (rises row_below (IsRow c.shown) row_below_trans (λ before r may. may.next) [] c.closed.rows is.closed.rows);
+}

@@ -1,0 +1,10 @@
+use Rattle.std.proofs.Common.{◌<◌, length, arith, subst, sym}
+use Rattle.wi_world.specs.declared.run.Run.{Run}
+use Rattle.wi_check.specs.private.Stages.{problem_in}
+use Rattle.wi_check.proofs.StartLemmas.{begins}
+use Rattle.wi_check.proofs.shown.check_weight.Goals as goal
+
+pub weighed-requires : goal.weighed-requires
+weighed-requires c =
+    subst (λ (run : Run). run.first.0 < length c.args.asked.net.now.links) (sym c.requires.run)
+    (begins (problem_in c.args.asked) c.args.certificate.now 3 (omega arith) c.requires.before c.requires.shows)

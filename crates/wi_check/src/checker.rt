@@ -1,0 +1,87 @@
+//! This is the drat-trim of a what-if search: whoever has this crate and those below it need trust no search. It implements
+//! `IsAccepted` and `IsRefused` of `wi_accept`: the causes for which a certificate isn't believed, in the order in which they are
+//! told. That an accepted answer holds is a law there, and that what `decide` writes is accepted is another.
+//!
+//! What it costs: the run that is shown is walked along four times, each time with one header that moves in place. Then each
+//! listed head is asked for its rules twice, once for heads and pairs and once for rows; what a rule leads to, and each row that
+//! it demands, is looked up by halves in the certificate's own sorted lists, of which no copy is made. Besides the certificate it
+//! keeps the run's links, its steps and what one head's rules are.
+ghost use Rattle.std.specs.Prelude.{◌≡◌, IfOk, IfErr, OnOk};
+ghost use Rattle.wi_world.specs.Moves.{AreBounds};
+ghost use Rattle.wi_build.specs.Problems.{IsProblem};
+ghost use Rattle.wi_cert.specs.Text.{IsWritable};
+ghost use Rattle.wi_accept.specs.Answers.{IsDecided, answer_of, word_of};
+ghost use Rattle.wi_accept.specs.Causes.{IsAccepted, IsRefused};
+ghost use Rattle.wi_check.specs.private.Stages.{problem_in, NoneBefore};
+
+use crate::bounded::check_bound;
+use crate::shown::check_shown;
+use std::alloc::Global;
+use wi_build::LazySystem;
+use wi_cert::{Certificate, CheckRefused, Claim};
+use wi_net::{Bounds, Network};
+use wi_quantity::Vector;
+use wi_query::Query;
+use wi_world::Word;
+
+/// What an accepted certificate says.
+#[derive(Clone, Copy, Debug, PartialEq, Eq)]
+pub struct Accepted {
+    /// The word of its answer, and that answer holds.
+    pub word: Word,
+}
+
+/// What is asked of a network.
+#[derive(Clone, Copy)]
+pub(crate) struct Asked<'a> {
+    pub net: &'a Network,
+    pub query: &'a Query,
+    pub vector: &'a Vector,
+    pub bounds: &'a Bounds,
+}
+
+/// Whether a certificate can be believed, for a query of the network within bounds of it; runs weigh what the vector says. The
+/// bounds are the query's own for a certificate that answers the query. The first cause against it is told, with what it is about.
+/// Any numbers may stand in it.
+pub fn check(
+    alloc: Global,
+    net: &Network,
+    query: &Query,
+    vector: &Vector,
+    bounds: &Bounds,
+    certificate: &Certificate,
+) -> Result<Accepted, CheckRefused>
+    requires bounds { AreBounds net.now bounds.now }
+    requires text { IsWritable certificate.now }
+    ensures accepted { OnOk result (IsAccepted (record { net = net.now; query = query.now; vector = vector.now; bounds = bounds.now }) certificate.now) }
+    ensures word { IfOk result (λ accepted. accepted.word ≡ word_of certificate.now.shown.claim) }
+    ensures holds { OnOk result (IsDecided (record { net = net.now; query = query.now; vector = vector.now; bounds = bounds.now }) (answer_of (record { net = net.now; query = query.now; vector = vector.now; bounds = bounds.now }) certificate.now.shown)) }
+    ensures refused { IfErr result (IsRefused (record { net = net.now; query = query.now; vector = vector.now; bounds = bounds.now }) certificate.now) }
+{
+    net.keeps();
+    query.keeps();
+    vector.keeps();
+    let asked = Asked {
+        net,
+        query,
+        vector,
+        bounds,
+    };
+    check_shown(alloc, asked, certificate)?;
+    let system = LazySystem::new(alloc, net, query, vector, bounds)?;
+    check_bound(alloc, &system, certificate)?;
+    Ok(Accepted {
+        word: word_of(certificate.shown.claim),
+    })
+}
+
+// The word of a claim.
+fn word_of(claim: Claim) -> Word
+    ensures { result ≡ word_of claim }
+{
+    match claim {
+        Claim::Yes => Word::Yes,
+        Claim::No => Word::No,
+        Claim::Inconclusive => Word::Inconclusive,
+    }
+}

@@ -1,0 +1,15 @@
+//! The checker of certificates: it believes nothing of the search that wrote them, and accepts only true answers.
+#![tactic(auto)]
+
+mod bounded;
+mod checker;
+mod heads;
+mod lists;
+mod matched;
+mod rows;
+mod run;
+mod shown;
+mod weighed;
+mod weights;
+
+pub use checker::{Accepted, check};

@@ -1,0 +1,120 @@
+//! The numbers of a certificate as a run, and whether each of its steps can be taken. The packet's header moves in place, so a long
+//! run costs its steps and not the heights of its headers.
+ghost use Rattle.std.specs.Prelude.{◌≡◌, ◌<◌, ℕ, Ok, Err, None, Some, IfOk, length, unwrap_or, slice_get};
+ghost use Rattle.wi_labels.specs.declared.label.Class.TheVariants.{Ip};
+ghost use Rattle.wi_world.specs.declared.run.Step.{Step};
+ghost use Rattle.wi_cert.specs.Shown.{IsShown};
+ghost use Rattle.wi_trace.specs.declared.cause.Cause.{Cause};
+ghost use Rattle.wi_trace.specs.Replays.{moving_fault, moving_cause, first_fault};
+ghost use Rattle.wi_accept.specs.Answers.{run_of, labels_of, steps_of};
+ghost use Rattle.wi_accept.specs.Causes.{ShowsRun};
+
+use std::alloc::Global;
+use wi_base::{Listed, NoMemory};
+use wi_cert::Shown;
+use wi_labels::{Class, Header, Label};
+use wi_net::{Bounds, LinkId, Network};
+use wi_trace::{Location, Run, Step, hop_within, is_start};
+
+/// The run that is shown.
+pub(crate) fn run_of(alloc: Global, net: &Network, shown: &Shown) -> Result<Run, NoMemory>
+    requires text { IsShown shown.now }
+    requires shows { ShowsRun shown.now }
+    ensures { IfOk result (λ run. run ≡ run_of net.now shown.now) }
+{
+    let numbers = shown.first.as_slice();
+    let labels = labels_of(alloc, net, &numbers[1..])?;
+    let header = match Header::from_labels(alloc, labels.as_slice()) {
+        Ok(header) => header,
+        Err(_) => return Err(NoMemory::Memory),
+    };
+    Ok(Run {
+        first: LinkId(numbers[0]),
+        header,
+        steps: Listed::of(steps_of(alloc, shown.steps.as_slice())?),
+    })
+}
+
+// Labels by their numbers, each with its class.
+fn labels_of(alloc: Global, net: &Network, numbers: &[u32]) -> Result<Vec<(Label, Class)>, NoMemory>
+    ensures { IfOk result (λ labels. labels.items ≡ labels_of net.now numbers.now) }
+{
+    let mut labels = Vec::new(alloc);
+    for number in numbers {
+        let label = Label(*number);
+        labels.push((label, class_of(net, label)))?;
+    }
+    Ok(labels)
+}
+
+// The class of a label; one that the network hasn't may have any, since no run starts with it.
+fn class_of(net: &Network, label: Label) -> Class
+    ensures { result ≡ unwrap_or (slice_get net.now.classes label.0) Ip }
+{
+    net.keeps();
+    if label.0 < net.counts().labels {
+        net.class(label)
+    } else {
+        Class::Ip
+    }
+}
+
+// Steps by the numbers of their groups and members, from 1.
+fn steps_of(alloc: Global, numbers: &[(u32, u32)]) -> Result<Vec<Step>, NoMemory>
+    ensures { IfOk result (λ steps. steps.items ≡ steps_of numbers.now) }
+{
+    let mut steps = Vec::new(alloc);
+    for (group, member) in numbers {
+        steps.push(Step {
+            group: group.saturating_sub(1),
+            member: member.saturating_sub(1),
+        })?;
+    }
+    Ok(steps)
+}
+
+/// The number of the first step that can't be taken, from 1, if there is one; 0 is the start.
+pub(crate) fn first_fault(
+    alloc: Global,
+    net: &Network,
+    bounds: &Bounds,
+    run: &Run,
+) -> Result<Option<u64>, NoMemory>
+    ensures none { result ≡ Ok None → moving_fault net.now bounds.now run.now ≡ None }
+    ensures fault { (n : ℕ) → result ≡ Ok (Some n) → (why : Cause) × (moving_fault net.now bounds.now run.now ≡ Some (n, why)) }
+{
+    if !is_start(net, &bounds.down, run) {
+        return Ok(Some(0));
+    }
+    let header = match run.header.twin() {
+        Ok(header) => header,
+        Err(_) => return Err(NoMemory::Memory),
+    };
+    fault_after(
+        alloc,
+        net,
+        bounds,
+        (run.first, header),
+        run.steps.as_slice(),
+    )
+}
+
+// The number of the first step that can't be taken, from 1, if there is one.
+#[tactic(auto, using(wi_trace::proofs::WalkLemmas::walk_laws))]
+fn fault_after(
+    alloc: Global,
+    net: &Network,
+    bounds: &Bounds,
+    mut at: Location,
+    steps: &[Step],
+) -> Result<Option<u64>, NoMemory>
+    ensures none { result ≡ Ok None → first_fault net.now (moving_cause net.now bounds.now) 1 at steps.now ≡ None }
+    ensures fault { (n : ℕ) → result ≡ Ok (Some n) → (why : Cause) × (first_fault net.now (moving_cause net.now bounds.now) 1 at steps.now ≡ Some (n, why)) }
+{
+    for (i, step) in steps.iter().enumerate() {
+        if hop_within(alloc, net, bounds, &mut at, *step)?.is_some() {
+            return Ok(Some(i as u64 + 1));
+        }
+    }
+    Ok(None)
+}

@@ -1,0 +1,102 @@
+-- A weight that is written with fewer terms is the whole weight, where the others are 0, and compares as that does.
+use Rattle.std.proofs.Common.{◌≡◌, ℕ, zero, suc, ◌+◌, ◌-◌, ◌<◌, ◌≤◌, List, [], ◌∷◌, ◌++◌, length, take, drop, replicate, refl, arith, ap, sym, ◌∙◌, length-append}
+use Rattle.std.specs.Prelude.{slice_index}
+use Rattle.std.specs.Cmp.Lexicographic.{slice_cmp}
+use Rattle.std.specs.Ordering.{nat_cmp, ordering_then}
+use Rattle.std.proofs.lemmas.List.{length-take-le}
+use Rattle.wi_weight.specs.Weights.{EachBelow}
+use Rattle.wi_quantity.specs.Weighing.{components}
+use Rattle.wi_build.specs.Systems.{scale}
+use Rattle.wi_accept.specs.Answers.{padded}
+use Rattle.wi_decide.specs.private.Certificates.{Weight, written}
+use Rattle.wi_accept.proofs.OrderLemmas.{parts_compared}
+
+-- numbers from a place on are 0
+abbrev pub AreZeroFrom : ℕ → List ℕ → Type 0
+AreZeroFrom n xs = (i : ℕ) → n ≤ i → i < length xs → slice_index xs i ≡ 0
+
+zeros_later : (n x : ℕ) (xs : List ℕ) → AreZeroFrom (suc n) (x ∷ xs) → AreZeroFrom n xs
+zeros_later n x xs h i l u = h (suc i) (omega arith) (omega arith)
+
+rest_zero : (x : ℕ) (xs : List ℕ) → AreZeroFrom zero (x ∷ xs) → AreZeroFrom zero xs
+rest_zero x xs h i l u = h (suc i) (omega arith) (omega arith)
+
+first_zero : (x : ℕ) (xs : List ℕ) → AreZeroFrom zero (x ∷ xs) → x ≡ 0
+first_zero x xs h = h zero (omega arith) (omega arith)
+
+are_zeros : (xs : List ℕ) → AreZeroFrom zero xs → replicate (length xs) 0 ≡ xs
+are_zeros [] h = refl
+are_zeros (x ∷ xs) h = rw (first_zero x xs h) (ap (λ ys. 0 ∷ ys) (are_zeros xs (rest_zero x xs h)))
+
+-- so many of some numbers and a last one, with 0 for the others
+filled : (n : ℕ) (xs : List ℕ) (last : ℕ) → n ≤ length xs → AreZeroFrom n xs
+    → take n (take n xs ++ last ∷ []) ++ (replicate (length xs - n) 0 ++ drop n (take n xs ++ last ∷ [])) ≡ xs ++ last ∷ []
+filled zero xs last few h =
+    let all : length xs - 0 ≡ length xs = omega arith in
+    ap (λ k. replicate k 0 ++ last ∷ []) all ∙ ap (λ ys. ys ++ last ∷ []) (are_zeros xs h)
+filled (suc n) [] last few h = absurd (omega (arith, few))
+filled (suc n) (x ∷ xs) last few h =
+    let less : length (x ∷ xs) - suc n ≡ length xs - n = omega arith in
+    ap (λ k. x ∷ (take n (take n xs ++ last ∷ []) ++ (replicate k 0 ++ drop n (take n xs ++ last ∷ [])))) less
+    ∙ ap (λ ys. x ∷ ys) (filled n xs last (omega (arith, few)) (zeros_later n x xs h))
+
+-- zeros and a last number compare as the last numbers do
+zeros_compared : (xs ys : List ℕ) (a b : ℕ) → length xs ≡ length ys → AreZeroFrom zero xs → AreZeroFrom zero ys
+    → slice_cmp nat_cmp (a ∷ []) (b ∷ []) ≡ slice_cmp nat_cmp (xs ++ a ∷ []) (ys ++ b ∷ [])
+zeros_compared [] [] a b same h k = refl
+zeros_compared [] (y ∷ ys) a b same h k = absurd (omega (arith, same))
+zeros_compared (x ∷ xs) [] a b same h k = absurd (omega (arith, same))
+zeros_compared (x ∷ xs) (y ∷ ys) a b same h k = rw (first_zero x xs h, first_zero y ys k) (zeros_compared xs ys a b (omega (arith, same)) (rest_zero x xs h) (rest_zero y ys k))
+
+compared : (n : ℕ) (xs ys : List ℕ) (a b : ℕ) → length xs ≡ length ys → AreZeroFrom n xs → AreZeroFrom n ys
+    → slice_cmp nat_cmp (take n xs ++ a ∷ []) (take n ys ++ b ∷ []) ≡ slice_cmp nat_cmp (xs ++ a ∷ []) (ys ++ b ∷ [])
+compared zero xs ys a b same h k = zeros_compared xs ys a b same h k
+compared (suc n) [] [] a b same h k = refl
+compared (suc n) [] (y ∷ ys) a b same h k = absurd (omega (arith, same))
+compared (suc n) (x ∷ xs) [] a b same h k = absurd (omega (arith, same))
+compared (suc n) (x ∷ xs) (y ∷ ys) a b same h k = ap (λ o. ordering_then (nat_cmp x y) o) (compared n xs ys a b (omega (arith, same)) (zeros_later n x xs h) (zeros_later n y ys k))
+
+below_more : (bound n : ℕ) (xs : List ℕ) (last : ℕ) → EachBelow bound (xs ++ last ∷ []) → EachBelow bound (take n xs ++ last ∷ [])
+below_more bound zero [] last h = h
+below_more bound (suc n) [] last h = h
+below_more bound zero (x ∷ xs) last h = below_more bound zero xs last h.1
+below_more bound (suc n) (x ∷ xs) last h = (h.0, below_more bound n xs last h.1)
+
+length_written : (n : ℕ) (xs : List ℕ) (last : ℕ) → n ≤ length xs → length (take n xs ++ last ∷ []) ≡ n + 1
+length_written n xs last h = omega (arith, length-append (take n xs) (last ∷ []), length-take-le n xs h)
+
+-- the terms of a weight
+abbrev pub terms_of : Weight → List ℕ
+terms_of w = take 5 (components w)
+
+-- its terms from a place on are 0
+abbrev pub HasTerms : ℕ → Weight → Type 0
+HasTerms n w = AreZeroFrom n (terms_of w)
+
+-- the first terms are the first components
+first_terms : (n : ℕ) (w : Weight) → n ≤ 5 → take n (components w) ≡ take n (terms_of w)
+first_terms zero w h = refl
+first_terms (suc zero) w h = refl
+first_terms (suc (suc zero)) w h = refl
+first_terms (suc (suc (suc zero))) w h = refl
+first_terms (suc (suc (suc (suc zero)))) w h = refl
+first_terms (suc (suc (suc (suc (suc zero))))) w h = refl
+first_terms (suc (suc (suc (suc (suc (suc n)))))) w h = absurd (omega (arith, h))
+
+written_is : (n : ℕ) (w : Weight) → n ≤ 5 → written n w ≡ take n (terms_of w) ++ w.second.count ∷ []
+written_is n w h = ap (λ xs. xs ++ w.second.count ∷ []) (first_terms n w h)
+
+-- what is written is the weight, with 0 for the terms that it hasn't
+pub padded_written : (n : ℕ) (w : Weight) → n ≤ 5 → HasTerms n w → padded n (written n w) ≡ components w
+padded_written n w few h = ap (padded n) (written_is n w few) ∙ filled n (terms_of w) w.second.count few h
+
+pub written_compared : (n : ℕ) (v w : Weight) → n ≤ 5 → HasTerms n v → HasTerms n w → slice_cmp nat_cmp (written n v) (written n w) ≡ scale.order (components v) (components w)
+written_compared n v w few h k =
+    rw (written_is n v few, written_is n w few) (compared n (terms_of v) (terms_of w) v.second.count w.second.count refl h k)
+    ∙ sym (parts_compared 5 (components v) (components w) refl)
+
+pub written_below : (bound n : ℕ) (w : Weight) → n ≤ 5 → EachBelow bound (components w) → EachBelow bound (written n w)
+written_below bound n w few h = rw (written_is n w few) (below_more bound n (terms_of w) w.second.count h)
+
+pub written_length : (n : ℕ) (w : Weight) → n ≤ 5 → length (written n w) ≡ n + 1
+written_length n w few = ap length (written_is n w few) ∙ length_written n (terms_of w) w.second.count few

@@ -2,7 +2,7 @@
 //! `IsAccepted` and `IsRefused` of `wi_accept`: the causes for which a certificate isn't believed, in the order in which they are
 //! told. That an accepted answer holds is a law there, and that what `decide` writes is accepted is another.
 //!
-//! What it costs: the run that is shown is walked along four times, each time with one header that moves in place. Then each
+//! What it costs: the run that is shown is walked along five times at most, each time with one header that moves in place. Then each
 //! listed head is asked for its rules twice, once for heads and pairs and once for rows; what a rule leads to, and each row that
 //! it demands, is looked up by halves in the certificate's own sorted lists, of which no copy is made. Besides the certificate it
 //! keeps the run's links, its steps and what one head's rules are.

@@ -145,7 +145,7 @@ fn certificates_of_the_search_are_accepted(rt: HostRuntime) -> Result<(), Fail> 
     accepts_all(&rt, rt.alloc(), &N3, RETURNING_CASES)?;
     accepts_all(&rt, rt.alloc(), &N4, OWN_LINK_CASES)?;
     accepts_all(&rt, rt.alloc(), &N5, UNDEFINED_CASES)?;
-    let net = doubling(rt.alloc(), 10)?;
+    let net = doubling(rt.alloc(), 11)?;
     let outcome = accepts_each(&rt, rt.alloc(), &net, LONGEST);
     drop(net);
     outcome

@@ -11,5 +11,8 @@ pub mod MatchLemmas
 pub mod LeastLemmas
 pub mod AcceptedLemmas
 pub mod MakerLemmas
+pub mod RisingRows
+pub mod OneClosed
 pub mod UnusedTerms
 pub mod FirstRefusals
+pub mod OneReading

@@ -44,11 +44,11 @@ use Rattle.wi_accept.proofs.LeastLemmas.{least_there}
 -- ---- the run that is shown
 
 -- what an answer that holds says of its run
-record IsLeastShown (problem : Problem) (claim : Claim) (w : List ℕ) (run : Run) (v : Verdict) : Type 0 where
-  moving : IsMovingRun problem.net problem.bounds run
-  matches : Matches problem.net (asks problem) run
-  weight : weighs problem run ≡ w
-  least : NoneMovingLess problem.net (asks problem) (weighs problem) w
+pub record IsLeastShown (problem : Problem) (claim : Claim) (w : List ℕ) (run : Run) (v : Verdict) : Type 0 where
+  pub moving : IsMovingRun problem.net problem.bounds run
+  pub matches : Matches problem.net (asks problem) run
+  pub weight : weighs problem run ≡ w
+  pub least : NoneMovingLess problem.net (asks problem) (weighs problem) w
   right : is_wrong claim v ≡ false
 
 least_shown : (problem : Problem) → IsProblem problem → (claim : Claim) (w : List ℕ) (run : Run) (v : Verdict) → is_no claim ≡ false
@@ -114,14 +114,14 @@ module _ (problem : Problem) (answer : Answer) (c : Certificate) (k : IsProblem 
   shown_decided : IsDecided problem (answer_of problem c.shown)
   shown_decided = subst (λ (a : Answer). IsDecided problem a) (sym maker.shows) decided
 
-  run_is_least : is_no c.shown.claim ≡ false → IsLeastShown problem c.shown.claim shown_weight shown_run shown_verdict
+  pub run_is_least : is_no c.shown.claim ≡ false → IsLeastShown problem c.shown.claim shown_weight shown_run shown_verdict
   run_is_least there =
       let holds : Holds problem.net (asks problem) (weighs problem) (word_of c.shown.claim) (Some (components (weight shown_weight))) (Some shown_run) (Some shown_verdict)
       = rw there at shown_decided in
       least_shown problem k c.shown.claim shown_weight shown_run shown_verdict there
       (subst (λ (w : List ℕ). Holds problem.net (asks problem) (weighs problem) (word_of c.shown.claim) (Some w) (Some shown_run) (Some shown_verdict)) (weight_tells shown_weight (shown_six c.shown maker.writable.shown there)) holds)
 
-  shown_no : is_no c.shown.claim ≡ true → IsNo problem.net (asks problem)
+  pub shown_no : is_no c.shown.claim ≡ true → IsNo problem.net (asks problem)
   shown_no claim = rw claim at shown_decided
 
   right : is_wrong c.shown.claim shown_verdict ≡ false

@@ -5,10 +5,14 @@ ghost use Rattle.wi_weight.specs.declared.kinds.Pair.{Pair};
 ghost use Rattle.wi_weight.specs.declared.kinds.Terms.{Terms};
 ghost use Rattle.wi_weight.specs.declared.kinds.Effort.{Effort};
 ghost use Rattle.wi_world.specs.declared.run.Run.{Run};
+ghost use Rattle.wi_net.specs.Net.{Net};
+ghost use Rattle.wi_query.specs.declared.query.Query.{Query};
+ghost use Rattle.wi_query.specs.Meaning.{IsQuery, HasAutomata};
+ghost use Rattle.wi_quantity.specs.declared.vector.Part.{Part};
 ghost use Rattle.wi_quantity.specs.Weighing.{components};
 ghost use Rattle.wi_trace.specs.declared.answer.Answer.{Answer};
 ghost use Rattle.wi_pds.specs.declared.rule.Rule.{Rule};
-ghost use Rattle.wi_build.specs.Problems.{Problem, IsProblem, weighs};
+ghost use Rattle.wi_build.specs.Problems.{Problem, IsProblem, problem_of, weighs};
 ghost use Rattle.wi_build.specs.Systems.{rules};
 ghost use Rattle.wi_cert.specs.declared.certificate.Certificate.{Certificate};
 ghost use Rattle.wi_cert.specs.declared.check_refused.CheckRefused.{CheckRefused};
@@ -25,6 +29,17 @@ pub fn an_accepted_answer_holds()
 /// Nothing speaks against the certificate that a maker writes for an answer that holds.
 pub fn makers_certificates_are_accepted()
     ensures { (problem : Problem) (answer : Answer) (c : Certificate) → IsProblem problem → IsDecided problem answer → IsMaker problem answer c → IsAccepted problem c }
+{}
+
+/// Two makers' certificates of a problem list the same heads, pairs and rows: what bounds every run doesn't depend on which least
+/// run is shown.
+pub fn makers_certificates_close_alike()
+    ensures { (problem : Problem) (a b : Answer) (c d : Certificate) → IsProblem problem → IsDecided problem a → IsDecided problem b → IsMaker problem a c → IsMaker problem b d → c.closed ≡ d.closed }
+{}
+
+/// What is accepted for a query is accepted however the query's text was read.
+pub fn readings_accept_the_same()
+    ensures { (net : Net) (text : List ℕ) (q r : Query) (vector : List (List Part)) (c : Certificate) → IsQuery net text q → IsQuery net text r → HasAutomata q → HasAutomata r → IsAccepted (problem_of net q vector) c → IsAccepted (problem_of net r vector) c }
 {}
 
 /// A certificate is refused for one cause: there are no two first ones.

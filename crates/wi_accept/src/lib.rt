@@ -7,6 +7,7 @@ mod need;
 
 pub use laws::{
     a_certificate_has_one_first_refusal, an_accepted_answer_holds,
-    makers_certificates_are_accepted, unused_terms_weigh_nothing,
+    makers_certificates_are_accepted, makers_certificates_close_alike, readings_accept_the_same,
+    unused_terms_weigh_nothing,
 };
 pub use need::Need;

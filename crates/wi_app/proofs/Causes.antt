@@ -32,5 +32,5 @@ too_big_calls {T} answer why name before after e is calls =
     subst Q is (subst P e calls)
 
 -- which refusal it is
-pub too_big : {T : Type 0} (answer : Result T FetchRefused) (why : FetchRefused) → answer ≡ Err why → why ≡ TooBig → answer ≡ Err TooBig
-too_big answer why e is = rw (e, is) refl
+pub is_err : {T E : Type 0} (answer : Result T E) (why known : E) → answer ≡ Err why → why ≡ known → answer ≡ Err known
+is_err answer why known e is = rw (e, is) refl

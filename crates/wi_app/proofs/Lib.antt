@@ -1,3 +1,5 @@
 pub mod Answers
 pub mod Causes
 pub mod Outcomes
+pub mod Parts
+pub mod Written

@@ -1,8 +1,11 @@
 -- From what is found to what the program does.
-use Rattle.std.proofs.Common.{◌≡◌, ℕ, ◌<◌, ◌≤◌, nat_eq, ◌⊎◌, inl, inr, Bool, true, false, List, [], ◌∷◌, ◌++◌, length, length-append, Option, Some, None, Result, Ok, Err, refl, sym, ap, subst, ◌∙◌, arith}
+use Rattle.std.proofs.Common.{◌≡◌, ◌≢◌, ℕ, ◌<◌, ◌≤◌, nat_eq, ◌⊎◌, inl, inr, Bool, true, false, List, [], ◌∷◌, ◌++◌, length, length-append, Option, Some, None, Result, Ok, Err, refl, sym, ap, subst, ◌∙◌, arith}
 use Rattle.std.specs.Prelude.{codes, IfOk, IfErr}
 use Rattle.std.specs.Result.{IsErrAnd}
-use Rattle.wi_base.specs.declared.shelf.CallKind.TheVariants.{Fetch}
+use Rattle.std.specs.Str.{bytes_eq}
+use Rattle.std.proofs.lemmas.Slice.Eq.{bytes_eq-Decides}
+use Rattle.wi_base.specs.declared.shelf.CallKind.TheVariants.{Fetch, Store}
+use Rattle.wi_base.specs.declared.no_memory.NoMemory.{NoMemory}
 use mathlib.Core.Path.{fun_ext}
 use Rattle.wi_base.specs.declared.shelf.CallKind.{CallKind}
 use Rattle.wi_base.specs.Shelf.{ShelfSeen, IsLonger}
@@ -24,16 +27,30 @@ use Rattle.wi_script.specs.declared.script.ScriptRefused.{ScriptRefused}
 use Rattle.wi_script.specs.declared.script.ScriptRefused.TheVariants.{BadLine, Memory as ScriptMemory}
 use Rattle.wi_script.proofs.Unique.{script_one, script_fine}
 use Rattle.wi_script.specs.Plays.{begin, states_of}
-use Rattle.wi_build.specs.Problems.{problem_of}
-use Rattle.wi_words.specs.Commands.{Command, Verify, Play, command_of}
+use Rattle.wi_quantity.proofs.OneVector.{one_vector}
+use Rattle.wi_trace.specs.declared.answer.Answer.{Answer}
+use Rattle.wi_build.specs.Problems.{Problem, IsProblem, problem_of}
+use Rattle.wi_cert.specs.declared.certificate.Certificate.{Certificate}
+use Rattle.wi_cert.specs.Text.{IsText, IsBadLine}
+use Rattle.wi_cert.proofs.TextLemmas.{one_text, text_is_decoded}
+use Rattle.wi_cert.proofs.TellingLemmas.{bad_line_told}
+use Rattle.wi_accept.specs.Answers.{IsDecided, word_of}
+use Rattle.wi_accept.specs.Causes.{IsAccepted, IsCause}
+use Rattle.wi_accept.proofs.OneReading.{accept_the_same}
+use Rattle.wi_decide.specs.Refusals.{IsUnrefused}
+use Rattle.wi_report.specs.Reports.{accepted_text, report_of}
+use Rattle.wi_words.specs.Commands.{Command, Verify, Check, Play, command_of}
 use Rattle.wi_app.specs.Texts.{text_of, status_of, IsPutTogether}
 use Rattle.wi_app.specs.Edges.{Says, SaysWhy, kept}
-use Rattle.wi_app.specs.Asked.{FromDecision, FromTexts, IsAnswer, IsAsked, IsBadQuery, IsBadWeights, IsReported, WeighsBy}
-use Rattle.wi_app.specs.Run.{AreAnswered, IsAnswered, IsStatus, HoldsNetwork, IsPlay, IsCalm, FileHasFault, FromNetwork, IsBadScript, FromScript, FromCommand, FromWords, CanBeAnswered, Prints, Completes}
-use Rattle.wi_app.specs.private.Run.{FromBytes}
+use Rattle.wi_app.specs.Shelves.{AllStand, IsCalm, OthersStand}
+use Rattle.wi_app.specs.Asked.{AreBadTexts, ForAsked, IsAsked, IsBadQuery, IsBadWeights, WeighsBy}
+use Rattle.wi_app.specs.Certificates.{FromCertificate, FromStore, IsAcceptedText, IsCertificate, IsCertificateFile, IsStored}
+use Rattle.wi_app.specs.Decided.{FromDecision, FromTexts, IsAnswer, IsReported, status_for}
+use Rattle.wi_app.specs.Run.{AreAnswered, IsAnswered, IsStatus, HoldsNetwork, IsPlay, FileHasFault, FromNetwork, IsBadScript, FromScript, FromCommand, FromWords, CanBeAnswered, IsLeft, Prints, Completes}
+use Rattle.wi_app.specs.private.Stages.{FromAnswering, FromBytes, FromChecking, FromDeciding, IsBelieved, IsKept, IsNotBelieved, IsNotKept}
 use Rattle.wi_app.specs.declared.answer.Printed.{Printed}
 use Rattle.wi_app.specs.declared.refusal.Refusal.{Refusal}
-use Rattle.wi_app.specs.declared.refusal.Refusal.TheVariants.{Usage, CannotRead, Network, Query as BadQuery, Weights as BadWeights, Overflow, TooLong, Script, LongScript, CannotPrint, Memory}
+use Rattle.wi_app.specs.declared.refusal.Refusal.TheVariants.{CannotRead, CannotWrite, Network, Query as BadQuery, Weights as BadWeights, Overflow, TooLong, Script, LongScript, LargeCertificate, BadLine as BadCertificateLine, NotAccepted, NotWritten, Memory}
 use Rattle.wi_app.proofs.Answers.{answer_ends}
 
 -- ---- from the parts of a command to the whole
@@ -56,35 +73,147 @@ same_shelf a b told file failed =
     ∙ ap (λ (f : List ℕ → Option (List ℕ)). shelf b.told f a.failed) (fun_ext file)
     ∙ ap (λ (calls : List (CallKind × List ℕ)). shelf b.told b.file calls) failed
 
--- an answer on a network is one to a command
-pub verify_answered : (r : Result Printed Refusal) (held : ShelfSeen) (name query : List ℕ) (weights : Option (List ℕ)) (net : Net) → (held.told ≡ true → HoldsNetwork (held.file name) net)
-    → IfOk r (λ printed. IsAnswer net query weights printed.status printed.text) → IfOk r (λ printed. IsAnswered held (Verify name query weights) printed.status printed.text)
-verify_answered (Ok printed) held name query weights net holds answer = (net, holds, answer)
-verify_answered (Err refusal) held name query weights net holds answer = tt
+-- where each file but one stands, and that one too, all do
+pub all_stand : (old new : ShelfSeen) (name : List ℕ) → ((other : List ℕ) → other ≢ name → new.file other ≡ old.file other) → new.file name ≡ old.file name → AllStand old new
+all_stand old new name others here other = by_test (bytes_eq other name) refl
+  where
+    by_test : (b : Bool) → bytes_eq other name ≡ b → new.file other ≡ old.file other
+    by_test true e = let same : other ≡ name = (bytes_eq-Decides other name).0 e in subst (λ n. new.file n ≡ old.file n) (sym same) here
+    by_test false e = others other (λ same. let yes : bytes_eq other name ≡ true = (bytes_eq-Decides other name).1 same in cc)
 
-pub verify_refused : (r : Result Printed Refusal) (old new : ShelfSeen) (name query : List ℕ) (weights : Option (List ℕ)) (net : Net) → (old.told ≡ true → HoldsNetwork (old.file name) net) → IsCalm old new
-    → IfErr r (λ refusal. FromTexts net query weights refusal) → IfErr r (λ refusal. FromCommand old new (Verify name query weights) refusal)
-verify_refused (Ok printed) old new name query weights net holds calm cause = tt
-verify_refused (Err refusal) old new name query weights net holds calm cause = inr (net, holds, cause, calm)
+-- where each file but one stands before, and all later, each but that one stands in the end
+pub others_later : (file : Option (List ℕ)) (old later new : ShelfSeen) → later ≡ old → OthersStand file later new → OthersStand file old new
+others_later file old later new same stand = subst (λ s. OthersStand file s new) same stand
+
+pub left_later : {T : Type 0} (r : Result T Refusal) (old later new : ShelfSeen) → later ≡ old → IfErr r (λ refusal. IsLeft refusal later new) → IfErr r (λ refusal. IsLeft refusal old new)
+left_later r old later new same left = subst (λ s. IfErr r (λ refusal. IsLeft refusal s new)) same left
+
+-- where every file stands, each but one does, whatever is refused
+pub left_all : (old new : ShelfSeen) (refusal : Refusal) → AllStand old new → IsLeft refusal old new
+left_all old new (CannotWrite name) stand = λ other _. stand other
+left_all old new refusal stand = stand
+
+pub all_left : {T : Type 0} (r : Result T Refusal) (old new : ShelfSeen) → AllStand old new → IfErr r (λ refusal. IsLeft refusal old new)
+all_left (Ok x) old new stand = tt
+all_left (Err refusal) old new stand = left_all old new refusal stand
+
+-- ---- verify
+
+-- an answer on a network is one to a command. The fetch of the network left the shelf as it was
+pub verify_answered : (r : Result Printed Refusal) (old new : ShelfSeen) (name query : List ℕ) (weights file : Option (List ℕ)) (net : Net) → (old.told ≡ true → HoldsNetwork (old.file name) net)
+    → IfOk r (λ printed. IsAnswer net query weights file new printed.status printed.text) → IfOk r (λ printed. IsAnswered old new (Verify name query weights file) printed.status printed.text)
+verify_answered (Ok printed) old new name query weights file net holds answer = (net, holds, answer)
+verify_answered (Err refusal) old new name query weights file net holds answer = tt
+
+pub verify_refused : (r : Result Printed Refusal) (old later new : ShelfSeen) (name query : List ℕ) (weights file : Option (List ℕ)) (net : Net) → later ≡ old → (old.told ≡ true → HoldsNetwork (old.file name) net)
+    → IfErr r (λ refusal. FromAnswering later new net query weights file refusal) → IfErr r (λ refusal. FromCommand old new (Verify name query weights file) refusal)
+verify_refused (Ok printed) old later new name query weights file net same holds cause = tt
+verify_refused (Err refusal) old later new name query weights file net same holds cause = elim (subst (λ (s : ShelfSeen). FromAnswering s new net query weights file refusal) same cause) [
+  | inl texts ↦ inr (inl (net, holds, texts.0, texts.1))
+  | inr store ↦ inr (inr (net, holds, store))
+]
 
 -- what texts ask is answered, or the answer is refused
-pub asked_answered : (r : Result Printed Refusal) (net : Net) (text : List ℕ) (weights : Option (List ℕ)) (query : Query) (vector : List (List Part)) → IsAsked net text weights query vector
-    → IfOk r (λ printed. IsReported (problem_of net query vector) printed.status printed.text) → IfOk r (λ printed. IsAnswer net text weights printed.status printed.text)
-asked_answered (Ok printed) net text weights query vector asked reported = record { query = query; vector = vector; asked = asked; reported = reported }
-asked_answered (Err refusal) net text weights query vector asked reported = tt
+pub asked_answered : (r : Result Printed Refusal) (net : Net) (text : List ℕ) (weights file : Option (List ℕ)) (shelf : ShelfSeen) (query : Query) (vector : List (List Part)) → IsAsked net text weights query vector
+    → IfOk r (λ printed. IsReported (problem_of net query vector) file shelf printed.status printed.text) → IfOk r (λ printed. IsAnswer net text weights file shelf printed.status printed.text)
+asked_answered (Ok printed) net text weights file shelf query vector asked reported = record { query = query; vector = vector; asked = asked; reported = reported }
+asked_answered (Err refusal) net text weights file shelf query vector asked reported = tt
 
-pub asked_refused : (r : Result Printed Refusal) (net : Net) (text : List ℕ) (weights : Option (List ℕ)) (query : Query) (vector : List (List Part)) → IsAsked net text weights query vector
-    → IfErr r (λ refusal. FromDecision (problem_of net query vector) refusal) → IfErr r (λ refusal. FromTexts net text weights refusal)
-asked_refused (Ok printed) net text weights query vector asked cause = tt
-asked_refused (Err refusal) net text weights query vector asked cause = inr (inr (query, vector, asked, cause))
+pub asked_refused : (r : Result Printed Refusal) (old new : ShelfSeen) (net : Net) (text : List ℕ) (weights file : Option (List ℕ)) (query : Query) (vector : List (List Part)) → IsAsked net text weights query vector
+    → IfErr r (λ refusal. FromDeciding old new (problem_of net query vector) file refusal) → IfErr r (λ refusal. FromAnswering old new net text weights file refusal)
+asked_refused (Ok printed) old new net text weights file query vector asked cause = tt
+asked_refused (Err refusal) old new net text weights file query vector asked cause = elim cause [
+  | inl undecided ↦ inl (inr (query, vector, asked, undecided.0), undecided.1)
+  | inr store ↦ inr (query, vector, asked, store)
+]
+
+-- a certificate that is kept is stored
+kept_stored : (file : Option (List ℕ)) (shelf : ShelfSeen) (problem : Problem) (answer : Answer) (c : Certificate) → IsCertificate problem answer c → IsKept file shelf c → IsStored file shelf problem answer
+kept_stored None shelf problem answer c is kept = tt
+kept_stored (Some name) shelf problem answer c is kept = (kept.0, record { certificate = c; is = is; text = kept.1; short = kept.2 }, kept.3)
+
+pub decided_reported : (r : Result Printed Refusal) (problem : Problem) (file : Option (List ℕ)) (shelf : ShelfSeen) (answer : Answer) (c : Certificate) (status : ℕ) (text : Result (List ℕ) NoMemory)
+    → IsDecided problem answer → IsUnrefused problem answer → IsCertificate problem answer c → status ≡ status_for answer.word → IfOk text (λ t. t ≡ report_of problem.net problem.bounds (length problem.vector) answer)
+    → IfOk r (λ printed. printed.status ≡ status) → IfOk r (λ printed. text ≡ Ok printed.text) → IfOk r (λ _. IsKept file shelf c) → IfOk r (λ printed. IsReported problem file shelf printed.status printed.text)
+decided_reported (Err refusal) problem file shelf answer c status text holds shown is due told same made kept = tt
+decided_reported (Ok printed) problem file shelf answer c status text holds shown is due told same made kept = record {
+  answer = answer;
+  holds = holds;
+  shown = shown;
+  stored = kept_stored file shelf problem answer c is kept;
+  status_is = same ∙ due;
+  report_is = subst (λ (t : Result (List ℕ) NoMemory). IfOk t (λ t. t ≡ report_of problem.net problem.bounds (length problem.vector) answer)) made told;
+}
+
+not_kept : (old new : ShelfSeen) (problem : Problem) (file : Option (List ℕ)) (answer : Answer) (c : Certificate) (refusal : Refusal) → IsDecided problem answer → IsCertificate problem answer c → IsNotKept old new file c refusal
+    → FromStore old new problem file refusal
+not_kept old new problem file answer c NotWritten holds is cause = (cause.0, cause.1, record { answer = answer; holds = holds; certificate = c; is = is; long = cause.2 })
+not_kept old new problem file answer c (CannotWrite named) holds is cause = cause
+not_kept old new problem file answer c Memory holds is cause = cause
+not_kept old new problem file answer c refusal holds is cause = elim cause [ ]
+
+pub decided_refused : (r : Result Printed Refusal) (old new : ShelfSeen) (problem : Problem) (file : Option (List ℕ)) (answer : Answer) (c : Certificate) → IsDecided problem answer → IsCertificate problem answer c
+    → IfErr r (λ refusal. IsNotKept old new file c refusal) → IfErr r (λ refusal. FromDeciding old new problem file refusal)
+decided_refused (Ok printed) old new problem file answer c holds is cause = tt
+decided_refused (Err refusal) old new problem file answer c holds is cause = inr (not_kept old new problem file answer c refusal holds is cause)
+
+-- ---- check
+
+-- a certificate that is accepted for what texts ask of a network is an answer to a command
+pub check_answered : (r : Result Printed Refusal) (old later new : ShelfSeen) (name query file : List ℕ) (weights : Option (List ℕ)) (net : Net) → later ≡ old → (old.told ≡ true → HoldsNetwork (old.file name) net)
+    → IfOk r (λ printed. printed.status ≡ 0)
+    → IfOk r (λ printed. (bytes : List ℕ) × (c : Certificate) × IsCertificateFile later file bytes × IsAcceptedText net query weights bytes c × (printed.text ≡ accepted_text (word_of c.shown.claim)))
+    → IfOk r (λ printed. IsAnswered old new (Check name query file weights) printed.status printed.text)
+check_answered (Ok printed) old later new name query file weights net same holds status accepted =
+    (net, accepted.0, accepted.1, holds, subst (λ (s : ShelfSeen). IsCertificateFile s file accepted.0) same accepted.2, accepted.3, status, accepted.4)
+check_answered (Err refusal) old later new name query file weights net same holds status accepted = tt
+
+pub check_refused : (r : Result Printed Refusal) (old later new : ShelfSeen) (name query file : List ℕ) (weights : Option (List ℕ)) (net : Net) → later ≡ old → (old.told ≡ true → HoldsNetwork (old.file name) net)
+    → IfErr r (λ refusal. FromChecking later new net query file weights refusal) → IfErr r (λ refusal. FromCommand old new (Check name query file weights) refusal)
+check_refused (Ok printed) old later new name query file weights net same holds cause = tt
+check_refused (Err refusal) old later new name query file weights net same holds cause = elim (subst (λ (s : ShelfSeen). FromChecking s new net query file weights refusal) same cause) [
+  | inl texts ↦ inr (inl (net, holds, texts.0, texts.1))
+  | inr certificate ↦ inr (inr (net, holds, certificate))
+]
+
+pub believed_accepted : (r : Result Printed Refusal) (shelf : ShelfSeen) (net : Net) (text file : List ℕ) (weights : Option (List ℕ)) (query : Query) (vector : List (List Part)) → IsAsked net text weights query vector
+    → IfOk r (λ printed. (bytes : List ℕ) × (c : Certificate) × IsCertificateFile shelf file bytes × IsText c bytes × IsBelieved (problem_of net query vector) c printed.text)
+    → IfOk r (λ printed. (bytes : List ℕ) × (c : Certificate) × IsCertificateFile shelf file bytes × IsAcceptedText net text weights bytes c × (printed.text ≡ accepted_text (word_of c.shown.claim)))
+believed_accepted (Ok printed) shelf net text file weights query vector asked found =
+    let b = found.4 in
+    (found.0, found.1, found.2, record { query = query; vector = vector; asked = asked; problem_is = b.problem_is; reads = found.3; accepted = b.accepted; holds = b.holds }, b.text_is)
+believed_accepted (Err refusal) shelf net text file weights query vector asked found = tt
+
+pub file_believed : (r : Result Printed Refusal) (shelf : ShelfSeen) (problem : Problem) (file bytes : List ℕ) (c : Certificate) → IsCertificateFile shelf file bytes → IsText c bytes → IfOk r (λ printed. IsBelieved problem c printed.text)
+    → IfOk r (λ printed. (bytes : List ℕ) × (c : Certificate) × IsCertificateFile shelf file bytes × IsText c bytes × IsBelieved problem c printed.text)
+file_believed (Ok printed) shelf problem file bytes c held reads b = (bytes, c, held, reads, b)
+file_believed (Err refusal) shelf problem file bytes c held reads b = tt
+
+not_believed : (old new : ShelfSeen) (problem : Problem) (file bytes : List ℕ) (c : Certificate) (refusal : Refusal) → IsProblem problem → IsCalm old new → IsCertificateFile old file bytes → IsText c bytes → IsNotBelieved problem c refusal
+    → FromCertificate old new problem file refusal
+not_believed old new problem file bytes c (NotAccepted fault terms) is calm held reads cause = (calm, cause.0, record { problem_is = is; bytes = bytes; held = held; certificate = c; reads = reads; refusal = cause.1 })
+not_believed old new problem file bytes c Memory is calm held reads cause = calm
+not_believed old new problem file bytes c refusal is calm held reads cause = elim cause [ ]
+
+pub file_not_believed : (r : Result Printed Refusal) (old new : ShelfSeen) (problem : Problem) (file bytes : List ℕ) (c : Certificate) → IsProblem problem → IsCalm old new → IsCertificateFile old file bytes → IsText c bytes
+    → IfErr r (λ refusal. IsNotBelieved problem c refusal) → IfErr r (λ refusal. FromCertificate old new problem file refusal)
+file_not_believed (Ok printed) old new problem file bytes c is calm held reads cause = tt
+file_not_believed (Err refusal) old new problem file bytes c is calm held reads cause = not_believed old new problem file bytes c refusal is calm held reads cause
+
+pub certificate_refused : (r : Result Printed Refusal) (old new : ShelfSeen) (net : Net) (text file : List ℕ) (weights : Option (List ℕ)) (query : Query) (vector : List (List Part)) → IsAsked net text weights query vector
+    → IfErr r (λ refusal. FromCertificate old new (problem_of net query vector) file refusal) → IfErr r (λ refusal. FromChecking old new net text file weights refusal)
+certificate_refused (Ok printed) old new net text file weights query vector asked cause = tt
+certificate_refused (Err refusal) old new net text file weights query vector asked cause = inr (query, vector, asked, cause)
+
+-- ---- play
 
 -- the states on a network are an answer to a command. The fetch of the network left the shelf as it was
-pub play_answered : (r : Result Printed Refusal) (old later : ShelfSeen) (name script : List ℕ) (k : ℕ) (net : Net) → later ≡ old → (old.told ≡ true → HoldsNetwork (old.file name) net)
+pub play_answered : (r : Result Printed Refusal) (old later new : ShelfSeen) (name script : List ℕ) (k : ℕ) (net : Net) → later ≡ old → (old.told ≡ true → HoldsNetwork (old.file name) net)
     → IfOk r (λ printed. printed.status ≡ 0) → IfOk r (λ printed. (bytes : List ℕ) × (later.told ≡ true → later.file script ≡ Some bytes) × IsPlay net k bytes printed.text)
-    → IfOk r (λ printed. IsAnswered old (Play name script k) printed.status printed.text)
-play_answered (Ok printed) old later name script k net same holds status played =
+    → IfOk r (λ printed. IsAnswered old new (Play name script k) printed.status printed.text)
+play_answered (Ok printed) old later new name script k net same holds status played =
     (net, played.0, holds, subst (λ (s : ShelfSeen). s.told ≡ true → s.file script ≡ Some played.0) same played.1, played.2, status)
-play_answered (Err refusal) old later name script k net same holds status played = tt
+play_answered (Err refusal) old later new name script k net same holds status played = tt
 
 pub play_refused : (r : Result Printed Refusal) (old later new : ShelfSeen) (name script : List ℕ) (k : ℕ) (net : Net) → later ≡ old → (old.told ≡ true → HoldsNetwork (old.file name) net)
     → IfErr r (λ refusal. FromScript later new net script k refusal) → IfErr r (λ refusal. FromCommand old new (Play name script k) refusal)
@@ -99,17 +228,9 @@ bytes_played (Err refusal) told file net k bytes read same held play = tt
 
 from_bytes : (old new : ShelfSeen) (net : Net) (name : List ℕ) (k : ℕ) (bytes : List ℕ) (refusal : Refusal) → (old.told ≡ true → old.file name ≡ Some bytes) → length bytes ≤ 1048576 → IsCalm old new → FromBytes net k bytes refusal
     → FromScript old new net name k refusal
-from_bytes old new net name k bytes Usage held short calm cause = elim cause [ ]
-from_bytes old new net name k bytes (CannotRead named) held short calm cause = elim cause [ ]
-from_bytes old new net name k bytes (Network f) held short calm cause = elim cause [ ]
-from_bytes old new net name k bytes (BadQuery text) held short calm cause = elim cause [ ]
-from_bytes old new net name k bytes (BadWeights f) held short calm cause = elim cause [ ]
-from_bytes old new net name k bytes (Overflow w terms) held short calm cause = elim cause [ ]
-from_bytes old new net name k bytes (TooLong effort) held short calm cause = elim cause [ ]
 from_bytes old new net name k bytes (Script refused) held short calm cause = (calm, (bytes, held, short, cause))
-from_bytes old new net name k bytes LongScript held short calm cause = elim cause [ ]
-from_bytes old new net name k bytes CannotPrint held short calm cause = elim cause [ ]
 from_bytes old new net name k bytes Memory held short calm cause = calm
+from_bytes old new net name k bytes refusal held short calm cause = elim cause [ ]
 
 pub bytes_refused : (r : Result Printed Refusal) (old new : ShelfSeen) (net : Net) (name : List ℕ) (k : ℕ) (bytes read : List ℕ) → read ≡ bytes → (old.told ≡ true → old.file name ≡ Some bytes) → length bytes ≤ 1048576 → IsCalm old new
     → IfErr r (λ refusal. FromBytes net k read refusal) → IfErr r (λ refusal. FromScript old new net name k refusal)
@@ -132,7 +253,8 @@ said_made refusal known status old new result is status_is made (inr wants) =
 -- memory may run out whatever the words are
 pub words_memory : (held : ShelfSeen) (command : Option Command) → FromWords held held command Memory
 words_memory held None = refl
-words_memory held (Some (Verify name query weights)) = inl refl
+words_memory held (Some (Verify name query weights file)) = inl refl
+words_memory held (Some (Check name query file weights)) = inl refl
 words_memory held (Some (Play name script k)) = inl refl
 
 -- ---- where all is fine, only memory is wanting
@@ -187,17 +309,10 @@ no_fault_in None net why h has = elim h [ ]
 no_fault_in (Some bytes) net why h has = fails_not why net (subst (λ (x : Result Net NetFault). Fails why x) h has)
 
 network_wants : (old new : ShelfSeen) (name : List ℕ) (refusal : Refusal) (net : Net) → old.told ≡ true → HoldsNetwork (old.file name) net → IsCalm old new → FromNetwork old new name refusal → status_of refusal ≡ 11
-network_wants old new name Usage net t h calm cause = elim cause [ ]
 network_wants old new name (CannotRead named) net t h calm cause = absurd (longer old.failed (Fetch, name) (sym cause.1 ∙ calm))
 network_wants old new name (Network f) net t h calm cause = subst (λ (x : NetFault). status_of (Network x) ≡ 11) (sym (no_fault_in (old.file name) net f h (cause.1 t))) refl
-network_wants old new name (BadQuery text) net t h calm cause = elim cause [ ]
-network_wants old new name (BadWeights f) net t h calm cause = elim cause [ ]
-network_wants old new name (Overflow w terms) net t h calm cause = elim cause [ ]
-network_wants old new name (TooLong effort) net t h calm cause = elim cause [ ]
-network_wants old new name (Script refused) net t h calm cause = elim cause [ ]
-network_wants old new name LongScript net t h calm cause = elim cause [ ]
-network_wants old new name CannotPrint net t h calm cause = elim cause [ ]
 network_wants old new name Memory net t h calm cause = refl
+network_wants old new name refusal net t h calm cause = elim cause [ ]
 
 -- a file is one network's
 one_network : (file : Option (List ℕ)) (net other : Net) → HoldsNetwork file net → HoldsNetwork file other → net ≡ other
@@ -212,57 +327,71 @@ wanting : (held : ShelfSeen) (command : Command) (refusal : Refusal) → status_
 wanting held command refusal is = (rw is refl, inl is)
 
 query_wants : (net : Net) (text : List ℕ) (query : Query) (refusal : Refusal) → IsQuery net text query → IsBadQuery net text refusal → status_of refusal ≡ 11
-query_wants net text query Usage reads cause = elim cause [ ]
-query_wants net text query (CannotRead named) reads cause = elim cause [ ]
-query_wants net text query (Network f) reads cause = elim cause [ ]
 query_wants net text query (BadQuery said) reads cause = absurd (cause.due (query_fine net text query cause.fault reads cause.first))
-query_wants net text query (BadWeights f) reads cause = elim cause [ ]
-query_wants net text query (Overflow w terms) reads cause = elim cause [ ]
-query_wants net text query (TooLong effort) reads cause = elim cause [ ]
-query_wants net text query (Script refused) reads cause = elim cause [ ]
-query_wants net text query LongScript reads cause = elim cause [ ]
-query_wants net text query CannotPrint reads cause = elim cause [ ]
 query_wants net text query Memory reads cause = refl
+query_wants net text query refusal reads cause = elim cause [ ]
 
 vector_wants : (given : Option (List ℕ)) (vector : List (List Part)) (refusal : Refusal) → WeighsBy given vector → IsBadWeights given refusal → status_of refusal ≡ 11
 vector_wants given vector (BadWeights f) weighs cause =
     let means : Means cause.0 vector = subst (λ o. WeighsBy o vector) cause.1 weighs in
     subst (λ (x : WeightFault). status_of (BadWeights x) ≡ 11) (sym (text_fine cause.0 vector f means cause.2)) refl
 vector_wants given vector Memory weighs cause = refl
-vector_wants given vector Usage weighs cause = elim cause [ ]
-vector_wants given vector (CannotRead named) weighs cause = elim cause [ ]
-vector_wants given vector (Network f) weighs cause = elim cause [ ]
-vector_wants given vector (BadQuery said) weighs cause = elim cause [ ]
-vector_wants given vector (Overflow w terms) weighs cause = elim cause [ ]
-vector_wants given vector (TooLong effort) weighs cause = elim cause [ ]
-vector_wants given vector (Script refused) weighs cause = elim cause [ ]
-vector_wants given vector LongScript weighs cause = elim cause [ ]
-vector_wants given vector CannotPrint weighs cause = elim cause [ ]
+vector_wants given vector refusal weighs cause = elim cause [ ]
+
+-- texts that can be read aren't the cause
+texts_want : (net : Net) (text : List ℕ) (given : Option (List ℕ)) (query : Query) (vector : List (List Part)) (refusal : Refusal) → IsAsked net text given query vector → AreBadTexts net text given refusal → status_of refusal ≡ 11
+texts_want net text given query vector refusal asked (inl bad) = query_wants net text query refusal asked.reads bad
+texts_want net text given query vector refusal asked (inr bad) = vector_wants given vector refusal asked.weighs bad.2
 
 -- a problem that isn't decided ends with its refusal
-decision_ends : (held : ShelfSeen) (name text : List ℕ) (given : Option (List ℕ)) (net : Net) (query : Query) (vector : List (List Part)) (refusal : Refusal) → HoldsNetwork (held.file name) net → IsAsked net text given query vector
-    → FromDecision (problem_of net query vector) refusal → Ends held (Verify name text given) refusal
-decision_ends held name text given net query vector Usage holds asked cause = elim cause [ ]
-decision_ends held name text given net query vector (CannotRead named) holds asked cause = elim cause [ ]
-decision_ends held name text given net query vector (Network f) holds asked cause = elim cause [ ]
-decision_ends held name text given net query vector (BadQuery said) holds asked cause = elim cause [ ]
-decision_ends held name text given net query vector (BadWeights f) holds asked cause = elim cause [ ]
-decision_ends held name text given net query vector (Overflow w terms) holds asked cause = (refl, inr (net, holds, (query, vector, asked, inr (inr (inr (inl (refl, (components w, cause.0))))))))
-decision_ends held name text given net query vector (TooLong effort) holds asked cause = (refl, inr (net, holds, (query, vector, asked, inr (inr (inr (inr (refl, (effort, cause))))))))
-decision_ends held name text given net query vector (Script refused) holds asked cause = elim cause [ ]
-decision_ends held name text given net query vector LongScript holds asked cause = elim cause [ ]
-decision_ends held name text given net query vector CannotPrint holds asked cause = elim cause [ ]
-decision_ends held name text given net query vector Memory holds asked cause = (refl, inl refl)
+decision_ends : (held : ShelfSeen) (name text : List ℕ) (given file : Option (List ℕ)) (net : Net) (query : Query) (vector : List (List Part)) (refusal : Refusal) → HoldsNetwork (held.file name) net → IsAsked net text given query vector
+    → FromDecision (problem_of net query vector) refusal → Ends held (Verify name text given file) refusal
+decision_ends held name text given file net query vector (Overflow w terms) holds asked cause = (refl, inr (net, holds, (query, vector, asked, inr (inr (inr (inl (refl, (components w, cause.0))))))))
+decision_ends held name text given file net query vector (TooLong effort) holds asked cause = (refl, inr (net, holds, (query, vector, asked, inr (inr (inr (inr (inl (refl, (effort, cause)))))))))
+decision_ends held name text given file net query vector Memory holds asked cause = (refl, inl refl)
+decision_ends held name text given file net query vector refusal holds asked cause = elim cause [ ]
 
-texts_end : (held : ShelfSeen) (name text : List ℕ) (given : Option (List ℕ)) (net : Net) (query : Query) (vector : List (List Part)) (refusal : Refusal) → HoldsNetwork (held.file name) net → IsAsked net text given query vector
-    → FromTexts net text given refusal → Ends held (Verify name text given) refusal
-texts_end held name text given net query vector refusal holds asked cause = elim cause [
-  | inl bad ↦ wanting held (Verify name text given) refusal (query_wants net text query refusal asked.reads bad)
-  | inr rest ↦ elim rest [
-    | inl bad ↦ wanting held (Verify name text given) refusal (vector_wants given vector refusal asked.weighs bad.2)
-    | inr undecided ↦ decision_ends held name text given net undecided.0 undecided.1 refusal holds undecided.2 undecided.3
-  ]
-]
+-- and so does one whose certificate isn't stored
+store_ends : (old new : ShelfSeen) (name text : List ℕ) (given file : Option (List ℕ)) (net : Net) (query : Query) (vector : List (List Part)) (refusal : Refusal) → HoldsNetwork (old.file name) net → IsAsked net text given query vector
+    → IsCalm old new → FromStore old new (problem_of net query vector) file refusal → Ends old (Verify name text given file) refusal
+store_ends old new name text given file net query vector NotWritten holds asked calm cause = (refl, inr (net, holds, (query, vector, asked, inr (inr (inr (inr (inr (refl, cause.1, cause.2))))))))
+store_ends old new name text given file net query vector (CannotWrite named) holds asked calm cause = absurd (longer old.failed (Store, named.now) (sym cause.1 ∙ calm))
+store_ends old new name text given file net query vector Memory holds asked calm cause = (refl, inl refl)
+store_ends old new name text given file net query vector refusal holds asked calm cause = elim cause [ ]
+
+-- a certificate that is accepted isn't the cause
+believed_again : (net : Net) (text : List ℕ) (given : Option (List ℕ)) (q r : Query) (v u : List (List Part)) (c : Certificate) → IsAsked net text given q v → IsAsked net text given r u → IsProblem (problem_of net q v) → IsProblem (problem_of net r u)
+    → IsAccepted (problem_of net q v) c → IsAccepted (problem_of net r u) c
+believed_again net text given q r v u c asked again is other accepted =
+    subst (λ w. IsAccepted (problem_of net r w) c) (one_vector_weighs given v u asked.weighs again.weighs) (accept_the_same net text q r v c asked.reads again.reads is.automata other.automata accepted)
+  where
+    one_vector_weighs : (given : Option (List ℕ)) (v u : List (List Part)) → WeighsBy given v → WeighsBy given u → v ≡ u
+    one_vector_weighs None v u first second = first ∙ sym second
+    one_vector_weighs (Some text) v u first second = one_vector text v u first second
+
+one_held : (file : Option (List ℕ)) (a b : List ℕ) → file ≡ Some a → file ≡ Some b → a ≡ b
+one_held file a b first second = let both : Some a ≡ Some b = sym first ∙ second in cc
+
+certificate_wants : (old new : ShelfSeen) (net : Net) (text file : List ℕ) (given : Option (List ℕ)) (query : Query) (vector : List (List Part)) (bytes : List ℕ) (c : Certificate) (refusal : Refusal) → old.told ≡ true → IsCalm old new
+    → IsCertificateFile old file bytes → IsAcceptedText net text given bytes c → IsAsked net text given query vector → FromCertificate old new (problem_of net query vector) file refusal → status_of refusal ≡ 11
+certificate_wants old new net text file given query vector bytes c (CannotRead named) t calm held good asked cause = absurd (longer old.failed (Fetch, file) (sym cause.1 ∙ calm))
+certificate_wants old new net text file given query vector bytes c LargeCertificate t calm held good asked cause =
+    let long : 268435456 < length bytes = subst (λ f. IsLonger f 268435456) (held.held t) (cause.1 t) in
+    absurd (omega (arith, long, held.short))
+certificate_wants old new net text file given query vector bytes c (BadCertificateLine n) t calm held good asked cause =
+    let same : cause.1.0 ≡ bytes = one_held (old.file file) cause.1.0 bytes (cause.1.1.held t) (held.held t) in
+    absurd (good_text c bytes n good.reads (subst (λ b. IsBadLine b n) same cause.1.2))
+  where
+    good_text : (c : Certificate) (bytes : List ℕ) (n : ℕ) → IsText c bytes → IsBadLine bytes n → ⊥
+    good_text c bytes n reads bad = let both : Ok c ≡ Err n = sym (text_is_decoded c bytes reads) ∙ bad_line_told bytes n bad in cc
+certificate_wants old new net text file given query vector bytes c (NotAccepted fault terms) t calm held good asked cause =
+    let said = cause.2 in
+    let same : said.bytes ≡ bytes = one_held (old.file file) said.bytes bytes (said.held.held t) (held.held t) in
+    let one : said.certificate ≡ c = one_text said.certificate c bytes (subst (λ b. IsText said.certificate b) same said.reads) good.reads in
+    let accepted = believed_again net text given good.query query good.vector vector c good.asked asked good.problem_is said.problem_is good.accepted in
+    absurd (accepted fault (subst (λ d. IsCause (problem_of net query vector) d fault) one said.refusal.cause))
+certificate_wants old new net text file given query vector bytes c Memory t calm held good asked cause = refl
+certificate_wants old new net text file given query vector bytes c refusal t calm held good asked cause = elim cause [ ]
 
 -- a script that can be played has no fault
 good_script : (net : Net) (k : ℕ) (bytes text : List ℕ) (refused : ScriptRefused) → IsPlay net k bytes text → IsBadScript net k bytes refused → status_of (Script refused) ≡ 11
@@ -278,13 +407,7 @@ good_script net k bytes text (BadLine n cause) play (inr bad) =
 
 script_wants : (old new : ShelfSeen) (net : Net) (name : List ℕ) (k : ℕ) (bytes text : List ℕ) (refusal : Refusal) → old.told ≡ true → old.file name ≡ Some bytes → IsPlay net k bytes text → IsCalm old new
     → FromScript old new net name k refusal → status_of refusal ≡ 11
-script_wants old new net name k bytes text Usage t h play calm cause = elim cause [ ]
 script_wants old new net name k bytes text (CannotRead named) t h play calm cause = absurd (longer old.failed (Fetch, name) (sym cause.1 ∙ calm))
-script_wants old new net name k bytes text (Network f) t h play calm cause = elim cause [ ]
-script_wants old new net name k bytes text (BadQuery said) t h play calm cause = elim cause [ ]
-script_wants old new net name k bytes text (BadWeights f) t h play calm cause = elim cause [ ]
-script_wants old new net name k bytes text (Overflow w terms) t h play calm cause = elim cause [ ]
-script_wants old new net name k bytes text (TooLong effort) t h play calm cause = elim cause [ ]
 script_wants old new net name k bytes text (Script refused) t h play calm cause =
     let held : Some cause.1.0 ≡ Some bytes = sym (cause.1.1 t) ∙ h in
     let same : cause.1.0 ≡ bytes = cc in
@@ -292,14 +415,29 @@ script_wants old new net name k bytes text (Script refused) t h play calm cause 
 script_wants old new net name k bytes text LongScript t h play calm cause =
     let long : 1048576 < length bytes = subst (λ f. IsLonger f 1048576) h (cause.1 t) in
     absurd (omega (arith, long, play.short))
-script_wants old new net name k bytes text CannotPrint t h play calm cause = elim cause [ ]
 script_wants old new net name k bytes text Memory t h play calm cause = refl
+script_wants old new net name k bytes text refusal t h play calm cause = elim cause [ ]
 
 refused_ends : (old new : ShelfSeen) (command : Command) (refusal : Refusal) → old.told ≡ true → CanBeAnswered old command → IsCalm old new → FromCommand old new command refusal → Ends old command refusal
-refused_ends old new (Verify name text given) refusal t can calm (inl network) = wanting old (Verify name text given) refusal (network_wants old new name refusal can.0 t can.1 calm network)
-refused_ends old new (Verify name text given) refusal t can calm (inr cause) =
+refused_ends old new (Verify name text given file) refusal t can calm (inl network) = wanting old (Verify name text given file) refusal (network_wants old new name refusal can.0 t can.1 calm network)
+refused_ends old new (Verify name text given file) refusal t can calm (inr (inl cause)) =
     let same : cause.0 ≡ can.0 = one_network (old.file name) cause.0 can.0 (cause.1 t) can.1 in
-    texts_end old name text given can.0 can.2.0 can.2.1 refusal can.1 can.2.2 (subst (λ net. FromTexts net text given refusal) same cause.2)
+    elim (subst (λ net. FromTexts net text given refusal) same cause.2) [
+      | inl bad ↦ wanting old (Verify name text given file) refusal (texts_want can.0 text given can.2.0 can.2.1 refusal can.2.2 bad)
+      | inr undecided ↦ decision_ends old name text given file can.0 undecided.0 undecided.1 refusal can.1 undecided.2 undecided.3
+    ]
+refused_ends old new (Verify name text given file) refusal t can calm (inr (inr cause)) =
+    let asked = cause.2 in
+    store_ends old new name text given file cause.0 asked.0 asked.1 refusal (cause.1 t) asked.2 calm asked.3
+refused_ends old new (Check name text file given) refusal t can calm (inl network) = wanting old (Check name text file given) refusal (network_wants old new name refusal can.0 t can.1 calm network)
+refused_ends old new (Check name text file given) refusal t can calm (inr (inl cause)) =
+    let same : cause.0 ≡ can.0 = one_network (old.file name) cause.0 can.0 (cause.1 t) can.1 in
+    let good = can.2.3 in
+    wanting old (Check name text file given) refusal (texts_want can.0 text given good.query good.vector refusal good.asked (subst (λ net. AreBadTexts net text given refusal) same cause.2))
+refused_ends old new (Check name text file given) refusal t can calm (inr (inr cause)) =
+    let same : cause.0 ≡ can.0 = one_network (old.file name) cause.0 can.0 (cause.1 t) can.1 in
+    let asked = subst (λ net. ForAsked net text given (λ problem. FromCertificate old new problem file refusal)) same cause.2 in
+    wanting old (Check name text file given) refusal (certificate_wants old new can.0 text file given asked.0 asked.1 can.2.0 can.2.1 refusal t calm can.2.2 can.2.3 asked.2 asked.3)
 refused_ends old new (Play name script k) refusal t can calm (inl network) = wanting old (Play name script k) refusal (network_wants old new name refusal can.0 t can.1 calm network)
 refused_ends old new (Play name script k) refusal t can calm (inr cause) =
     let same : cause.0 ≡ can.0 = one_network (old.file name) cause.0 can.0 (cause.1 t) can.1 in
@@ -328,16 +466,17 @@ refused_completes words shelf_old shelf_new out_old out_new err_old err_new resu
     ]
 
 -- what is printed has a status of the command
-answered_ends : (held : ShelfSeen) (command : Command) (status : ℕ) (text : List ℕ) → held.told ≡ true → IsAnswered held command status text → IsStatus held command status
-answered_ends held (Verify name query given) status text t answer =
-    (answer.0, answer.1 t, (answer.2.query, answer.2.vector, answer.2.asked, answer_ends (problem_of answer.0 answer.2.query answer.2.vector) status text answer.2.reported))
-answered_ends held (Play name script k) status text t answer = answer.5
+answered_ends : (old new : ShelfSeen) (command : Command) (status : ℕ) (text : List ℕ) → old.told ≡ true → IsAnswered old new command status text → IsStatus old command status
+answered_ends old new (Verify name query given file) status text t answer =
+    (answer.0, answer.1 t, (answer.2.query, answer.2.vector, answer.2.asked, answer_ends (problem_of answer.0 answer.2.query answer.2.vector) file new status text answer.2.reported))
+answered_ends old new (Check name query file given) status text t answer = answer.6
+answered_ends old new (Play name script k) status text t answer = answer.5
 
 pub answered_completes : (words : List (List ℕ)) (shelf_old shelf_new : ShelfSeen) (out_old out_new err_old err_new : SinkSeen) (result status : ℕ) (text : List ℕ)
-    → AreAnswered shelf_old (command_of words) status text → Prints status text out_old out_new err_old err_new result → Completes words shelf_old shelf_new out_old out_new err_old err_new result
+    → AreAnswered shelf_old shelf_new (command_of words) status text → Prints status text out_old out_new err_old err_new result → Completes words shelf_old shelf_new out_old out_new err_old err_new result
 answered_completes words shelf_old shelf_new out_old out_new err_old err_new result status text answer prints command is told can calm no_fault silent =
-    let P : Option Command → Type 0 = λ given. AreAnswered shelf_old given status text in
-    let ends = answered_ends shelf_old command status text told (subst P is answer) in
+    let P : Option Command → Type 0 = λ given. AreAnswered shelf_old shelf_new given status text in
+    let ends = answered_ends shelf_old shelf_new command status text told (subst P is answer) in
     elim prints [
       | inl all ↦ ended shelf_old command status result ends (inl all.2)
       | inr rest ↦ (elim rest [

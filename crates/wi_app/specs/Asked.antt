@@ -1,9 +1,7 @@
--- What is asked of a network by texts, the answers to it, and why there is none.
-use Rattle.std.specs.Prelude.{◌≡◌, ◌⊎◌, ℕ, List, [], length, Option, Some, None}
+-- What is asked of a network by texts, and what is wrong with texts.
+use Rattle.std.specs.Prelude.{◌≡◌, ◌⊎◌, ℕ, List, [], Option, Some, None}
 use Rattle.wi_net.specs.Net.{Net}
 use Rattle.wi_net.specs.Network.{IsNetwork}
-use Rattle.wi_world.specs.declared.answer.Word.{Word}
-use Rattle.wi_world.specs.declared.answer.Word.TheVariants.{Yes, No, Inconclusive}
 use Rattle.wi_query.specs.declared.query.Query.{Query}
 use Rattle.wi_query.specs.declared.fault.QueryFault.{QueryFault}
 use Rattle.wi_query.specs.declared.fault.QueryFault.TheVariants as query_fault
@@ -11,21 +9,10 @@ use Rattle.wi_query.specs.Meaning.{IsQuery}
 use Rattle.wi_query.specs.Faults.{IsFault as IsQueryFault}
 use Rattle.wi_quantity.specs.declared.vector.Part.{Part}
 use Rattle.wi_quantity.specs.Faults.{Means, IsFault as IsWeightsFault}
-use Rattle.wi_quantity.specs.Weighing.{components}
-use Rattle.wi_trace.specs.declared.answer.Answer.{Answer}
 use Rattle.wi_build.specs.Problems.{Problem, problem_of}
-use Rattle.wi_accept.specs.Answers.{IsDecided}
-use Rattle.wi_decide.specs.Refusals.{IsOverflowing, IsTooLong, IsUnrefused}
 use Rattle.wi_report.specs.QueryFaults.{query_fault_text}
-use Rattle.wi_report.specs.Reports.{report_of}
 use Rattle.wi_app.specs.declared.refusal.Refusal.{Refusal}
-use Rattle.wi_app.specs.declared.refusal.Refusal.TheVariants.{Query as BadQuery, Weights as BadWeights, Overflow, TooLong, Memory}
-
--- the exit status of an answer
-abbrev pub status_for : Word → ℕ
-status_for Yes = 0
-status_for No = 1
-status_for Inconclusive = 2
+use Rattle.wi_app.specs.declared.refusal.Refusal.TheVariants.{Query as BadQuery, Weights as BadWeights, Memory}
 
 -- what runs are weighed by: what the weights mean, or the effort alone where there are none
 abbrev pub WeighsBy : Option (List ℕ) → List (List Part) → Type 0
@@ -38,25 +25,11 @@ pub record IsAsked (net : Net) (text : List ℕ) (weights : Option (List ℕ)) (
   pub reads : IsQuery net text query
   pub weighs : WeighsBy weights vector
 
--- ---- answers
+-- texts are a query of the network and weights, and this holds of the problem that they ask
+abbrev pub ForAsked : Net → List ℕ → Option (List ℕ) → (Problem → Type 0) → Type 0
+ForAsked net text weights P = (query : Query) × (vector : List (List Part)) × IsAsked net text weights query vector × P (problem_of net query vector)
 
--- the report on an answer to a problem that holds and can be shown, with its status
-pub record IsReported (problem : Problem) (status : ℕ) (report : List ℕ) : Type 0 where
-  pub answer : Answer
-  pub holds : IsDecided problem answer
-  pub shown : IsUnrefused problem answer
-  pub status_is : status ≡ status_for answer.word
-  pub report_is : report ≡ report_of problem.net problem.bounds (length problem.vector) answer
-
--- the report on what texts ask of a network
-pub record IsAnswer (net : Net) (text : List ℕ) (weights : Option (List ℕ)) (status : ℕ) (report : List ℕ) : Type 0 where
-  pub query : Query
-  pub vector : List (List Part)
-  pub asked : IsAsked net text weights query vector
-  pub reported : IsReported (problem_of net query vector) status report
-
--- ---- causes of refusals
-
+-- ---- faults
 -- the text has this first fault as a query, and this is said of it
 pub record QueryHasFault (net : Net) (text said : List ℕ) : Type 0 where
   pub fault : QueryFault
@@ -76,20 +49,6 @@ IsBadWeights weights (BadWeights fault) = (text : List ℕ) × (weights ≡ Some
 IsBadWeights weights Memory = Unit {0}
 IsBadWeights weights refusal = ⊥
 
--- there is an answer, but a summary's weight doesn't fit, or else the least run is too long
-abbrev pub FromDecision : Problem → Refusal → Type 0
-FromDecision problem (Overflow w terms) = IsOverflowing problem (components w) × (terms ≡ length problem.vector)
-FromDecision problem (TooLong effort) = IsTooLong problem effort
-FromDecision problem Memory = Unit {0}
-FromDecision problem refusal = ⊥
-
--- texts are a query of the network and weights, and this holds of the problem that they ask
-abbrev pub ForAsked : Net → List ℕ → Option (List ℕ) → (Problem → Type 0) → Type 0
-ForAsked net text weights P = (query : Query) × (vector : List (List Part)) × IsAsked net text weights query vector × P (problem_of net query vector)
-
--- the text of the query is the cause; or, that being a query, the text of the weights; or else what both ask
-abbrev pub FromTexts : Net → List ℕ → Option (List ℕ) → Refusal → Type 0
-FromTexts net text weights refusal =
-    IsBadQuery net text refusal
-    ⊎ ((query : Query) × IsQuery net text query × IsBadWeights weights refusal)
-    ⊎ ForAsked net text weights (λ problem. FromDecision problem refusal)
+-- the text of the query is the cause; or, that being a query, the text of the weights
+abbrev pub AreBadTexts : Net → List ℕ → Option (List ℕ) → Refusal → Type 0
+AreBadTexts net text weights refusal = IsBadQuery net text refusal ⊎ ((query : Query) × IsQuery net text query × IsBadWeights weights refusal)

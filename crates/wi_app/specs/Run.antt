@@ -1,6 +1,5 @@
 -- What the program does: the answers that it prints, why it refuses, and what it leaves.
-use Rattle.std.specs.Prelude.{◌≡◌, ◌⊎◌, ℕ, ◌<◌, ◌≤◌, true, List, [], ◌∷◌, ◌++◌, length, Option, Some, None, Ok}
-use Rattle.wi_base.specs.declared.shelf.CallKind.TheVariants.{Fetch}
+use Rattle.std.specs.Prelude.{◌≡◌, ◌⊎◌, ℕ, ◌<◌, ◌≤◌, true, List, length, Option, Some, None, Ok}
 use Rattle.wi_base.specs.Shelf.{ShelfSeen, IsLonger}
 use Rattle.wi_base.specs.Sink.{SinkSeen}
 use Rattle.wi_net.specs.Net.{Net}
@@ -14,15 +13,21 @@ use Rattle.wi_script.specs.declared.script.ScriptRefused.{ScriptRefused}
 use Rattle.wi_script.specs.Scripts.{IsScript, IsNoScript}
 use Rattle.wi_script.specs.Plays.{begin, states_of, IsNotPlayed}
 use Rattle.wi_report.specs.States.{states_shown}
-use Rattle.wi_words.specs.Commands.{Command, Verify, Play, command_of}
+use Rattle.wi_report.specs.Reports.{accepted_text}
+use Rattle.wi_accept.specs.Answers.{word_of}
+use Rattle.wi_cert.specs.declared.certificate.Certificate.{Certificate}
+use Rattle.wi_words.specs.Commands.{Command, Verify, Check, Play, command_of}
 use Rattle.wi_build.specs.Problems.{Problem}
 use Rattle.wi_decide.specs.Refusals.{IsOverflowing, IsTooLong}
 use Rattle.wi_query.specs.declared.query.Query.{Query}
 use Rattle.wi_quantity.specs.declared.vector.Part.{Part}
-use Rattle.wi_app.specs.Asked.{ForAsked, FromTexts, IsAnswer, IsAsked}
+use Rattle.wi_app.specs.Asked.{AreBadTexts, ForAsked, IsAsked}
+use Rattle.wi_app.specs.Certificates.{FromCertificate, FromStore, IsAcceptedText, IsCertificateFile, IsNamed, IsTooLargeToWrite}
+use Rattle.wi_app.specs.Decided.{FromTexts, IsAnswer}
 use Rattle.wi_app.specs.Edges.{Untouched, PutAll, PutPart, PutNothing, SaysWhy}
+use Rattle.wi_app.specs.Shelves.{AllStand, FetchFailed, IsCalm, OthersStand}
 use Rattle.wi_app.specs.declared.refusal.Refusal.{Refusal}
-use Rattle.wi_app.specs.declared.refusal.Refusal.TheVariants.{Usage, CannotRead, Network, Script as BadScript, LongScript, CannotPrint, Memory}
+use Rattle.wi_app.specs.declared.refusal.Refusal.TheVariants.{Usage, CannotRead, CannotWrite, Network, Script as BadScript, LongScript, CannotPrint, Memory}
 
 -- ---- answers
 -- the lines of the states of the moving world while bytes, which are a script of the network, are played with at most k risk
@@ -41,28 +46,28 @@ abbrev pub HoldsNetwork : Option (List ℕ) → Net → Type 0
 HoldsNetwork None net = ⊥
 HoldsNetwork (Some bytes) net = network_of bytes ≡ Ok net
 
--- an answer to a command: where the shelf tells, over the files that it holds under the names
-abbrev pub IsAnswered : ShelfSeen → Command → ℕ → List ℕ → Type 0
-IsAnswered shelf (Verify name query weights) status text =
-    (net : Net) × (shelf.told ≡ true → HoldsNetwork (shelf.file name) net) × IsAnswer net query weights status text
-IsAnswered shelf (Play name script k) status text =
-    (net : Net) × (bytes : List ℕ) × (shelf.told ≡ true → HoldsNetwork (shelf.file name) net) × (shelf.told ≡ true → shelf.file script ≡ Some bytes)
+-- an answer to a command: where the shelf tells, over the files that it holds under the names, and with what it then holds
+abbrev pub IsAnswered : ShelfSeen → ShelfSeen → Command → ℕ → List ℕ → Type 0
+IsAnswered old new (Verify name query weights file) status text =
+    (net : Net) × (old.told ≡ true → HoldsNetwork (old.file name) net) × IsAnswer net query weights file new status text
+IsAnswered old new (Check name query file weights) status text =
+    (net : Net) × (bytes : List ℕ) × (c : Certificate) × (old.told ≡ true → HoldsNetwork (old.file name) net) × IsCertificateFile old file bytes
+    × IsAcceptedText net query weights bytes c × (status ≡ 0) × (text ≡ accepted_text (word_of c.shown.claim))
+IsAnswered old new (Play name script k) status text =
+    (net : Net) × (bytes : List ℕ) × (old.told ≡ true → HoldsNetwork (old.file name) net) × (old.told ≡ true → old.file script ≡ Some bytes)
     × IsPlay net k bytes text × (status ≡ 0)
 
 -- no words are answered but those of a command
-abbrev pub AreAnswered : ShelfSeen → Option Command → ℕ → List ℕ → Type 0
-AreAnswered shelf None status text = ⊥
-AreAnswered shelf (Some command) status text = IsAnswered shelf command status text
+abbrev pub AreAnswered : ShelfSeen → ShelfSeen → Option Command → ℕ → List ℕ → Type 0
+AreAnswered old new None status text = ⊥
+AreAnswered old new (Some command) status text = IsAnswered old new command status text
+
+-- the name under which a command stores
+abbrev pub stored_by : Option Command → Option (List ℕ)
+stored_by (Some (Verify name query weights file)) = file
+stored_by _ = None
 
 -- ---- causes of refusals. Old and new are the shelf before and after; what it tells of a file is said where it tells
--- no call on the shelf failed
-abbrev pub IsCalm : ShelfSeen → ShelfSeen → Type 0
-IsCalm old new = new.failed ≡ old.failed
-
--- the call that was to fetch this file failed, and no other
-abbrev pub FetchFailed : List ℕ → List ℕ → ShelfSeen → ShelfSeen → Type 0
-FetchFailed named name old new = (named ≡ name) × (new.failed ≡ old.failed ++ (Fetch, name) ∷ [])
-
 -- the file that is held has this fault
 abbrev pub FileHasFault : Option (List ℕ) → NetFault → Type 0
 FileHasFault None fault = ⊥
@@ -88,11 +93,16 @@ FromScript old new net name k (BadScript refused) =
 FromScript old new net name k Memory = IsCalm old new
 FromScript old new net name k refusal = ⊥
 
--- the network file is the cause, or, that being a network's, what is asked of it
+-- the network file is the cause, or, that being a network's, what is asked of it, or another file
 abbrev pub FromCommand : ShelfSeen → ShelfSeen → Command → Refusal → Type 0
-FromCommand old new (Verify name query weights) refusal =
+FromCommand old new (Verify name query weights file) refusal =
     FromNetwork old new name refusal
     ⊎ ((net : Net) × (old.told ≡ true → HoldsNetwork (old.file name) net) × FromTexts net query weights refusal × IsCalm old new)
+    ⊎ ((net : Net) × (old.told ≡ true → HoldsNetwork (old.file name) net) × ForAsked net query weights (λ problem. FromStore old new problem file refusal))
+FromCommand old new (Check name query file weights) refusal =
+    FromNetwork old new name refusal
+    ⊎ ((net : Net) × (old.told ≡ true → HoldsNetwork (old.file name) net) × AreBadTexts net query weights refusal × IsCalm old new)
+    ⊎ ((net : Net) × (old.told ≡ true → HoldsNetwork (old.file name) net) × ForAsked net query weights (λ problem. FromCertificate old new problem file refusal))
 FromCommand old new (Play name script k) refusal =
     FromNetwork old new name refusal
     ⊎ ((net : Net) × (old.told ≡ true → HoldsNetwork (old.file name) net) × FromScript old new net script k refusal)
@@ -103,6 +113,11 @@ FromWords old new None Usage = IsCalm old new
 FromWords old new None Memory = IsCalm old new
 FromWords old new None refusal = ⊥
 FromWords old new (Some command) refusal = FromCommand old new command refusal
+
+-- what a refusal leaves of files: all, but for the one that couldn't be stored, of which nothing is known
+abbrev pub IsLeft : Refusal → ShelfSeen → ShelfSeen → Type 0
+IsLeft (CannotWrite name) old new = OthersStand (Some name.now) old new
+IsLeft refusal old new = AllStand old new
 
 -- ---- what is done
 -- a report was printed, and nothing was said; or it wasn't, and it was said why
@@ -116,14 +131,15 @@ Prints status text out_old out_new err_old err_new result =
 pub record IsDone (words : List (List ℕ)) (shelf_old shelf_new : ShelfSeen) (out_old out_new err_old err_new : SinkSeen) (result : ℕ) : Type 0 where
   pub status : ℕ
   pub text : List ℕ
-  pub answered : AreAnswered shelf_old (command_of words) status text
+  pub answered : AreAnswered shelf_old shelf_new (command_of words) status text
   pub calm : IsCalm shelf_old shelf_new
   pub printed : Prints status text out_old out_new err_old err_new result
 
--- the program refused: it has a cause, nothing was printed, and it was said why
+-- the program refused: it has a cause, nothing was stored or printed, and it was said why
 pub record IsRefused (words : List (List ℕ)) (shelf_old shelf_new : ShelfSeen) (out_old out_new err_old err_new : SinkSeen) (result : ℕ) : Type 0 where
   pub refusal : Refusal
   pub cause : FromWords shelf_old shelf_new (command_of words) refusal
+  pub left : IsLeft refusal shelf_old shelf_new
   pub untouched : Untouched out_old out_new
   pub said : SaysWhy refusal err_old err_new result
 
@@ -132,24 +148,27 @@ abbrev pub Does : List (List ℕ) → ShelfSeen → ShelfSeen → SinkSeen → S
 Does words shelf_old shelf_new out_old out_new err_old err_new result =
     IsDone words shelf_old shelf_new out_old out_new err_old err_new result ⊎ IsRefused words shelf_old shelf_new out_old out_new err_old err_new result
 
--- a command can be answered: the shelf holds a network's file, and the texts are a query of it and weights; or it holds a
--- script, too, that can be played
+-- a command can be answered: the shelf holds a network's file, and the texts are a query of it and weights, and it holds a
+-- certificate, too, that is accepted; or it holds a script, too, that can be played
 abbrev pub CanBeAnswered : ShelfSeen → Command → Type 0
-CanBeAnswered shelf (Verify name text weights) = (net : Net) × HoldsNetwork (shelf.file name) net × ((query : Query) × (vector : List (List Part)) × IsAsked net text weights query vector)
+CanBeAnswered shelf (Verify name text weights file) = (net : Net) × HoldsNetwork (shelf.file name) net × ((query : Query) × (vector : List (List Part)) × IsAsked net text weights query vector)
+CanBeAnswered shelf (Check name text file weights) = (net : Net) × HoldsNetwork (shelf.file name) net × ((bytes : List ℕ) × (c : Certificate) × IsCertificateFile shelf file bytes × IsAcceptedText net text weights bytes c)
 CanBeAnswered shelf (Play name script k) = (net : Net) × HoldsNetwork (shelf.file name) net × ((bytes text : List ℕ) × (shelf.file script ≡ Some bytes) × IsPlay net k bytes text)
 
 -- how a problem may end: with yes or no, with inconclusive where something may fail, or with a refusal that is due
-abbrev pub MayEnd : Problem → ℕ → Type 0
-MayEnd problem status =
+abbrev pub MayEnd : Problem → Option (List ℕ) → ℕ → Type 0
+MayEnd problem file status =
     (status ≡ 0)
     ⊎ (status ≡ 1)
     ⊎ ((status ≡ 2) × (0 < problem.bounds.k))
     ⊎ ((status ≡ 6) × ((w : List ℕ) × IsOverflowing problem w))
     ⊎ ((status ≡ 7) × ((effort : ℕ) × IsTooLong problem effort))
+    ⊎ ((status ≡ 14) × IsNamed file × IsTooLargeToWrite problem)
 
 -- the statuses with which a command may end that can be answered
 abbrev pub IsStatus : ShelfSeen → Command → ℕ → Type 0
-IsStatus shelf (Verify name text weights) status = (net : Net) × HoldsNetwork (shelf.file name) net × ForAsked net text weights (λ problem. MayEnd problem status)
+IsStatus shelf (Verify name text weights file) status = (net : Net) × HoldsNetwork (shelf.file name) net × ForAsked net text weights (λ problem. MayEnd problem file status)
+IsStatus shelf (Check name text file weights) status = status ≡ 0
 IsStatus shelf (Play name script k) status = status ≡ 0
 
 -- it ends with one of those, unless a call fails or memory runs out

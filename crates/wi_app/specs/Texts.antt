@@ -7,13 +7,15 @@ use Rattle.wi_quantity.specs.declared.fault.WeightFault.TheVariants as weights
 use Rattle.wi_report.specs.States.{script_fault_text}
 use Rattle.wi_report.specs.WeightFaults.{weight_fault_text}
 use Rattle.wi_report.specs.RefusedDecisions.{overflow_text, too_long_text}
+use Rattle.wi_report.specs.CertificateFaults.{bad_line_text, certificate_fault_text}
 use Rattle.wi_app.specs.declared.refusal.Refusal.{Refusal}
-use Rattle.wi_app.specs.declared.refusal.Refusal.TheVariants.{Usage, CannotRead, Network, Query, Weights, Overflow, TooLong, Script, LongScript, CannotPrint, Memory}
+use Rattle.wi_app.specs.declared.refusal.Refusal.TheVariants.{Usage, CannotRead, CannotWrite, Network, Query, Weights, Overflow, TooLong, Script, LongScript, LargeCertificate, BadLine, NotAccepted, NotWritten, CannotPrint, Memory}
 
 -- what is said
 abbrev pub text_of : Refusal → List ℕ
-text_of Usage = codes "usage: whatif verify NETWORK QUERY [--weights W]\n       whatif play NETWORK SCRIPT K\n"
+text_of Usage = codes "usage: whatif verify NETWORK QUERY [--weights W] [--certificate FILE]\n       whatif check NETWORK QUERY CERTIFICATE [--weights W]\n       whatif play NETWORK SCRIPT K\n"
 text_of (CannotRead name) = codes "whatif: cannot read " ++ name.now ++ codes "\n"
+text_of (CannotWrite name) = codes "whatif: cannot write " ++ name.now ++ codes "\n"
 text_of (Network f) = fault_text f
 text_of (Query said) = said
 text_of (Weights f) = weight_fault_text f
@@ -21,6 +23,10 @@ text_of (Overflow w terms) = overflow_text terms w
 text_of (TooLong effort) = too_long_text effort
 text_of (Script refused) = script_fault_text refused
 text_of LongScript = codes "script: over the limit 1048576\n"
+text_of LargeCertificate = codes "certificate: over the limit 268435456\n"
+text_of (BadLine n) = bad_line_text n
+text_of (NotAccepted f terms) = certificate_fault_text terms f
+text_of NotWritten = codes "certificate: over the limit 268000000, not written\n"
 text_of CannotPrint = codes "whatif: cannot print\n"
 text_of Memory = codes "whatif: out of memory\n"
 
@@ -29,6 +35,8 @@ abbrev pub IsPutTogether : Refusal → Type 0
 IsPutTogether Usage = ⊥
 IsPutTogether (Query said) = ⊥
 IsPutTogether LongScript = ⊥
+IsPutTogether LargeCertificate = ⊥
+IsPutTogether NotWritten = ⊥
 IsPutTogether CannotPrint = ⊥
 IsPutTogether Memory = ⊥
 IsPutTogether _ = Unit {0}
@@ -37,6 +45,7 @@ IsPutTogether _ = Unit {0}
 abbrev pub status_of : Refusal → ℕ
 status_of Usage = 9
 status_of (CannotRead name) = 10
+status_of (CannotWrite name) = 10
 status_of (Network fault.Memory) = 11
 status_of (Network f) = 3
 status_of (Query said) = 4
@@ -47,5 +56,9 @@ status_of (TooLong effort) = 7
 status_of (Script script.Memory) = 11
 status_of (Script refused) = 12
 status_of LongScript = 12
+status_of LargeCertificate = 8
+status_of (BadLine n) = 8
+status_of (NotAccepted f terms) = 8
+status_of NotWritten = 14
 status_of CannotPrint = 10
 status_of Memory = 11

@@ -1,10 +1,12 @@
 //! What is to be printed is made whole, with its status, before anything is printed: so a refusal on the way puts nothing on
 //! standard output. It costs the whole text in memory.
-ghost use Rattle.std.specs.Prelude.{◌≡◌, ℕ, List, map, string_bytes, IfOk, IfErr};
+ghost use Rattle.std.specs.Prelude.{◌≡◌, Some, map, string_bytes, IfOk, IfErr};
 ghost use Rattle.wi_words.specs.Commands.{command_of};
 ghost use Rattle.wi_words.specs.private.Shown.{shown};
-ghost use Rattle.wi_app.specs.Run.{AreAnswered, FromCommand, FromWords, IsAnswered, IsCalm};
+ghost use Rattle.wi_app.specs.Run.{AreAnswered, FromCommand, FromWords, IsAnswered, IsLeft, stored_by};
+ghost use Rattle.wi_app.specs.Shelves.{IsCalm, OthersStand};
 
+use crate::check::check;
 use crate::play::play;
 use crate::refusal::Refusal;
 use crate::verify::verify;
@@ -27,9 +29,10 @@ pub fn answer_to_words<'a, S: Shelf>(
     shelf: &mut S,
 ) -> Result<Printed, Refusal<'a>>
     ensures told { (S.seen shelf.new).told ≡ (S.seen shelf.old).told }
-    ensures files { (other : List ℕ) → (S.seen shelf.new).file other ≡ (S.seen shelf.old).file other }
+    ensures others { OthersStand (stored_by (command_of (map string_bytes words.now))) (S.seen shelf.old) (S.seen shelf.new) }
+    ensures left { IfErr result (λ refusal. IsLeft refusal (S.seen shelf.old) (S.seen shelf.new)) }
     ensures calm { IfOk result (λ _. IsCalm (S.seen shelf.old) (S.seen shelf.new)) }
-    ensures answered { IfOk result (λ printed. AreAnswered (S.seen shelf.old) (command_of (map string_bytes words.now)) printed.status printed.text) }
+    ensures answered { IfOk result (λ printed. AreAnswered (S.seen shelf.old) (S.seen shelf.new) (command_of (map string_bytes words.now)) printed.status printed.text) }
     ensures refused { IfErr result (λ refusal. FromWords (S.seen shelf.old) (S.seen shelf.new) (command_of (map string_bytes words.now)) refusal) }
 {
     match command_of(alloc, words)? {
@@ -45,9 +48,10 @@ fn answer_to<'a, S: Shelf>(
     shelf: &mut S,
 ) -> Result<Printed, Refusal<'a>>
     ensures told { (S.seen shelf.new).told ≡ (S.seen shelf.old).told }
-    ensures files { (other : List ℕ) → (S.seen shelf.new).file other ≡ (S.seen shelf.old).file other }
+    ensures others { OthersStand (stored_by (Some (shown command.entry))) (S.seen shelf.old) (S.seen shelf.new) }
+    ensures left { IfErr result (λ refusal. IsLeft refusal (S.seen shelf.old) (S.seen shelf.new)) }
     ensures calm { IfOk result (λ _. IsCalm (S.seen shelf.old) (S.seen shelf.new)) }
-    ensures answered { IfOk result (λ printed. IsAnswered (S.seen shelf.old) (shown command.entry) printed.status printed.text) }
+    ensures answered { IfOk result (λ printed. IsAnswered (S.seen shelf.old) (S.seen shelf.new) (shown command.entry) printed.status printed.text) }
     ensures refused { IfErr result (λ refusal. FromCommand (S.seen shelf.old) (S.seen shelf.new) (shown command.entry) refusal) }
 {
     match command {
@@ -55,7 +59,14 @@ fn answer_to<'a, S: Shelf>(
             network,
             query,
             weights,
-        } => verify(alloc, network, query, weights, shelf),
+            certificate,
+        } => verify(alloc, network, query, weights, certificate, shelf),
+        Command::Check {
+            network,
+            query,
+            certificate,
+            weights,
+        } => check(alloc, network, query, certificate, weights, shelf),
         Command::Play { network, script, k } => play(alloc, network, script, k, shelf),
     }
 }

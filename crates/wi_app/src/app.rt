@@ -1,15 +1,17 @@
 //! All is one call over any shelf and any sinks, so that the same code runs over memory, where contracts tell the content, and
 //! over the system's files and streams. What is printed goes out in one call; where that fails, a front of it may stand there.
-ghost use Rattle.std.specs.Prelude.{◌≡◌, ◌<◌, ◌-◌, ◌^◌, ℕ, List, map, string_bytes};
-ghost use Rattle.wi_app.specs.Run.{Completes, Does, Prints};
+ghost use Rattle.std.specs.Prelude.{◌≡◌, ◌<◌, ◌-◌, ◌^◌, map, string_bytes};
+ghost use Rattle.wi_words.specs.Commands.{command_of};
+ghost use Rattle.wi_app.specs.Run.{Completes, Does, Prints, stored_by};
+ghost use Rattle.wi_app.specs.Shelves.{OthersStand};
 
 use crate::answer::{Printed, answer_to_words};
 use crate::refusal::{Refusal, say};
 use std::alloc::Global;
 use wi_base::{PutRefused, Shelf, Sink};
 
-/// Does what the words say: it fetches from the shelf and prints on `out`, or says on `err` why not. It gives the exit
-/// status. The first word is the program's name.
+/// Does what the words say: it fetches from the shelf, stores a certificate if one is asked for, and prints on `out`; or says on
+/// `err` why not. It gives the exit status. The first word is the program's name.
 pub fn run<S: Shelf, O: Sink, E: Sink>(
     alloc: Global,
     words: &[String],
@@ -20,7 +22,7 @@ pub fn run<S: Shelf, O: Sink, E: Sink>(
     requires out { (O.seen out.old).faults < 2 ^ 64 - 1 }
     requires err { (E.seen err.old).faults < 2 ^ 64 - 1 }
     ensures tells { ((S.seen shelf.new).told ≡ (S.seen shelf.old).told) × ((O.seen out.new).told ≡ (O.seen out.old).told) × ((E.seen err.new).told ≡ (E.seen err.old).told) }
-    ensures files { (name : List ℕ) → (S.seen shelf.new).file name ≡ (S.seen shelf.old).file name }
+    ensures others { OthersStand (stored_by (command_of (map string_bytes words.now))) (S.seen shelf.old) (S.seen shelf.new) }
     ensures does { Does (map string_bytes words.now) (S.seen shelf.old) (S.seen shelf.new) (O.seen out.old) (O.seen out.new) (E.seen err.old) (E.seen err.new) result }
     ensures completes { Completes (map string_bytes words.now) (S.seen shelf.old) (S.seen shelf.new) (O.seen out.old) (O.seen out.new) (E.seen err.old) (E.seen err.new) result }
 {

@@ -3,7 +3,8 @@
 ghost use Rattle.std.specs.Prelude.{◌≡◌, true, ◌≤◌, ℕ, List, Ok, Some, IfOk, IfErr, vec_len, length};
 ghost use Rattle.wi_netjson.specs.File.{network_of};
 ghost use Rattle.wi_netjson.specs.Reading.{Fails};
-ghost use Rattle.wi_app.specs.Run.{FetchFailed, FromNetwork, FromScript, HoldsNetwork, IsCalm};
+ghost use Rattle.wi_app.specs.Run.{FromNetwork, FromScript, HoldsNetwork};
+ghost use Rattle.wi_app.specs.Shelves.{AllStand, IsCalm};
 ghost use Rattle.wi_net.specs.Net.{Net};
 
 use crate::refusal::Refusal;
@@ -25,7 +26,7 @@ pub fn network<'a, S: Shelf>(
     shelf: &mut S,
 ) -> Result<Network, Refusal<'a>>
     ensures told { (S.seen shelf.new).told ≡ (S.seen shelf.old).told }
-    ensures files { (other : List ℕ) → (S.seen shelf.new).file other ≡ (S.seen shelf.old).file other }
+    ensures files { AllStand (S.seen shelf.old) (S.seen shelf.new) }
     ensures calm { IfOk result (λ _. IsCalm (S.seen shelf.old) (S.seen shelf.new)) }
     ensures held { (S.seen shelf.old).told ≡ true → IfOk result (λ net. HoldsNetwork ((S.seen shelf.old).file name.now) net) }
     ensures refused { IfErr result (λ refusal. FromNetwork (S.seen shelf.old) (S.seen shelf.new) name.now refusal) }
@@ -40,7 +41,7 @@ pub fn network<'a, S: Shelf>(
 // The bytes of a network file.
 fn network_bytes<'a, S: Shelf>(name: &'a str, shelf: &mut S) -> Result<Vec<u8>, Refusal<'a>>
     ensures told { (S.seen shelf.new).told ≡ (S.seen shelf.old).told }
-    ensures files { (other : List ℕ) → (S.seen shelf.new).file other ≡ (S.seen shelf.old).file other }
+    ensures files { AllStand (S.seen shelf.old) (S.seen shelf.new) }
     ensures calm { IfOk result (λ _. IsCalm (S.seen shelf.old) (S.seen shelf.new)) }
     ensures found { (S.seen shelf.old).told ≡ true → IfOk result (λ bytes. (S.seen shelf.old).file name.now ≡ Some bytes.items) }
     ensures refused { IfErr result (λ refusal. FromNetwork (S.seen shelf.old) (S.seen shelf.new) name.now refusal) }
@@ -59,7 +60,7 @@ fn network_bytes<'a, S: Shelf>(name: &'a str, shelf: &mut S) -> Result<Vec<u8>, 
 /// The bytes of a script, for a network.
 pub fn script_bytes<'a, S: Shelf>(name: &'a str, shelf: &mut S) -> Result<Vec<u8>, Refusal<'a>>
     ensures told { (S.seen shelf.new).told ≡ (S.seen shelf.old).told }
-    ensures files { (other : List ℕ) → (S.seen shelf.new).file other ≡ (S.seen shelf.old).file other }
+    ensures files { AllStand (S.seen shelf.old) (S.seen shelf.new) }
     ensures calm { IfOk result (λ _. IsCalm (S.seen shelf.old) (S.seen shelf.new)) }
     ensures short { IfOk result (λ bytes. length bytes.items ≤ 1048576) }
     ensures found { (S.seen shelf.old).told ≡ true → IfOk result (λ bytes. (S.seen shelf.old).file name.now ≡ Some bytes.items) }

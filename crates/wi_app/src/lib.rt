@@ -3,14 +3,14 @@
 
 mod answer;
 mod app;
+mod certificate_file;
+mod check;
 mod fetch;
+mod laws;
 mod play;
 mod refusal;
+mod texts;
 mod verify;
 
 pub use app::run;
-
-#[cfg(test)]
-mod ring;
-#[cfg(test)]
-mod tests;
+pub use laws::what_is_written_is_accepted;

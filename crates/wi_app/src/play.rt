@@ -2,8 +2,9 @@
 //! All states are in memory while their text is made.
 ghost use Rattle.std.specs.Prelude.{◌≡◌, ◌≤◌, true, Some, ℕ, List, length, IfOk, IfErr};
 ghost use Rattle.wi_words.specs.Commands.{Play};
-ghost use Rattle.wi_app.specs.private.Run.{FromBytes};
-ghost use Rattle.wi_app.specs.Run.{FromCommand, FromScript, IsAnswered, IsCalm, IsPlay};
+ghost use Rattle.wi_app.specs.private.Stages.{FromBytes};
+ghost use Rattle.wi_app.specs.Run.{FromCommand, FromScript, IsAnswered, IsPlay};
+ghost use Rattle.wi_app.specs.Shelves.{AllStand, IsCalm};
 
 use crate::answer::Printed;
 use crate::fetch::{network, script_bytes};
@@ -23,9 +24,9 @@ pub fn play<'a, S: Shelf>(
     shelf: &mut S,
 ) -> Result<Printed, Refusal<'a>>
     ensures told { (S.seen shelf.new).told ≡ (S.seen shelf.old).told }
-    ensures files { (other : List ℕ) → (S.seen shelf.new).file other ≡ (S.seen shelf.old).file other }
+    ensures files { AllStand (S.seen shelf.old) (S.seen shelf.new) }
     ensures calm { IfOk result (λ _. IsCalm (S.seen shelf.old) (S.seen shelf.new)) }
-    ensures answered { IfOk result (λ printed. IsAnswered (S.seen shelf.old) (Play name.now script.now k) printed.status printed.text) }
+    ensures answered { IfOk result (λ printed. IsAnswered (S.seen shelf.old) (S.seen shelf.new) (Play name.now script.now k) printed.status printed.text) }
     ensures refused { IfErr result (λ refusal. FromCommand (S.seen shelf.old) (S.seen shelf.new) (Play name.now script.now k) refusal) }
 {
     let net = network(alloc, name, shelf)?;
@@ -43,7 +44,7 @@ fn play_on<'a, S: Shelf>(
     shelf: &mut S,
 ) -> Result<Printed, Refusal<'a>>
     ensures told { (S.seen shelf.new).told ≡ (S.seen shelf.old).told }
-    ensures files { (other : List ℕ) → (S.seen shelf.new).file other ≡ (S.seen shelf.old).file other }
+    ensures files { AllStand (S.seen shelf.old) (S.seen shelf.new) }
     ensures calm { IfOk result (λ _. IsCalm (S.seen shelf.old) (S.seen shelf.new)) }
     ensures status { IfOk result (λ printed. printed.status ≡ 0) }
     ensures played { IfOk result (λ printed. (bytes : List ℕ) × ((S.seen shelf.old).told ≡ true → (S.seen shelf.old).file script.now ≡ Some bytes) × IsPlay net.now k bytes printed.text) }

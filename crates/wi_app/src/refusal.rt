@@ -7,17 +7,19 @@ ghost use Rattle.wi_app.specs.Edges.{Says, SaysWhy, kept};
 
 use std::alloc::Global;
 use wi_base::{NoMemory, PutRefused, Sink};
+use wi_cert::CheckRefused;
 use wi_netjson::NetFault;
 use wi_quantity::{Weight, WeightFault};
 use wi_report::{
-    network_fault_text, overflow_text, script_fault_text, too_long_text, weight_fault_text,
+    bad_line_text, certificate_fault_text, network_fault_text, overflow_text, script_fault_text,
+    too_long_text, weight_fault_text,
 };
 use wi_script::ScriptRefused;
 use wi_text::Text;
 
 // What is said where the words are no command.
 const USAGE: &[u8] =
-    b"usage: whatif verify NETWORK QUERY [--weights W]\n       whatif play NETWORK SCRIPT K\n";
+    b"usage: whatif verify NETWORK QUERY [--weights W] [--certificate FILE]\n       whatif check NETWORK QUERY CERTIFICATE [--weights W]\n       whatif play NETWORK SCRIPT K\n";
 
 // What is said where memory ran out.
 const NO_MEMORY: &[u8] = b"whatif: out of memory\n";
@@ -29,6 +31,8 @@ pub enum Refusal<'a> {
     Usage,
     /// The call that was to fetch this file failed.
     CannotRead(&'a str),
+    /// The call that was to store under this name failed.
+    CannotWrite(&'a str),
     /// The network file has this fault.
     Network(NetFault),
     /// The text of the query has a fault, of which this is said.
@@ -43,6 +47,14 @@ pub enum Refusal<'a> {
     Script(ScriptRefused),
     /// The script has too many bytes.
     LongScript,
+    /// The certificate has too many bytes.
+    LargeCertificate,
+    /// The certificate has this first bad line.
+    BadLine(u128),
+    /// This speaks against the certificate; so many terms of weights are shown.
+    NotAccepted(CheckRefused, usize),
+    /// The certificate would be too long, so it isn't written.
+    NotWritten,
     /// The call that was to print failed.
     CannotPrint,
     /// Memory ran out.
@@ -74,10 +86,15 @@ pub fn status_of(refusal: &Refusal<'_>) -> u8
         Refusal::TooLong(_) => 7,
         Refusal::Usage => 9,
         Refusal::CannotRead(_) => 10,
+        Refusal::CannotWrite(_) => 10,
         Refusal::CannotPrint => 10,
         Refusal::Script(ScriptRefused::Memory) => 11,
         Refusal::Script(_) => 12,
         Refusal::LongScript => 12,
+        Refusal::LargeCertificate => 8,
+        Refusal::BadLine(_) => 8,
+        Refusal::NotAccepted(_, _) => 8,
+        Refusal::NotWritten => 14,
         Refusal::Memory => 11,
     }
 }
@@ -91,7 +108,12 @@ pub fn say<E: Sink>(alloc: Global, refusal: Refusal<'_>, err: &mut E) -> u8
     let status = status_of(&refusal);
     match refusal {
         Refusal::Usage => put(USAGE, status, err),
-        Refusal::CannotRead(name) => put_made(cannot_read(alloc, name), status, err),
+        Refusal::CannotRead(name) => {
+            put_made(cannot(alloc, "whatif: cannot read ", name), status, err)
+        }
+        Refusal::CannotWrite(name) => {
+            put_made(cannot(alloc, "whatif: cannot write ", name), status, err)
+        }
         Refusal::Network(fault) => put_made(network_fault_text(alloc, fault), status, err),
         Refusal::Query(text) => put(text.as_bytes(), status, err),
         Refusal::Weights(fault) => put_made(weight_fault_text(alloc, &fault), status, err),
@@ -101,6 +123,20 @@ pub fn say<E: Sink>(alloc: Global, refusal: Refusal<'_>, err: &mut E) -> u8
         Refusal::TooLong(effort) => put_made(too_long_text(alloc, effort), status, err),
         Refusal::Script(refused) => put_made(script_fault_text(alloc, &refused), status, err),
         Refusal::LongScript => put(b"script: over the limit 1048576\n", status, err),
+        Refusal::LargeCertificate => {
+            put(b"certificate: over the limit 268435456\n", status, err)
+        }
+        Refusal::BadLine(line) => put_made(bad_line_text(alloc, line), status, err),
+        Refusal::NotAccepted(fault, terms) => {
+            put_made(certificate_fault_text(alloc, &fault, terms), status, err)
+        }
+        Refusal::NotWritten => {
+            put(
+                b"certificate: over the limit 268000000, not written\n",
+                status,
+                err,
+            )
+        }
         Refusal::CannotPrint => put(b"whatif: cannot print\n", status, err),
         Refusal::Memory => put(NO_MEMORY, status, err),
     }
@@ -138,11 +174,12 @@ fn kept(status: u8) -> u8
     if status == 10 { 10 } else { 11 }
 }
 
-fn cannot_read(alloc: Global, name: &str) -> Result<Text, NoMemory>
-    ensures { IfOk result (λ text. text ≡ codes "whatif: cannot read " ++ name.now ++ codes "\n") }
+// What is said of a call that failed, with the name of its file.
+fn cannot(alloc: Global, what: &str, name: &str) -> Result<Text, NoMemory>
+    ensures { IfOk result (λ text. text ≡ what.now ++ name.now ++ codes "\n") }
 {
     let mut text = Text::new(alloc);
-    text.put("whatif: cannot read ")?;
+    text.put(what)?;
     text.put(name)?;
     text.put("\n")?;
     Ok(text)

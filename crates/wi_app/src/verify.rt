@@ -1,112 +1,144 @@
-//! The query is read before the weights, and both before any search, so that of several faults the first in that order is told.
-//! A query's fault becomes its text while the network is there, since it may name a link. The network is let go before anything
-//! is printed.
-ghost use Rattle.std.specs.Prelude.{◌≡◌, ℕ, List, option_map, IfOk, IfErr};
+//! The report is made before the certificate is stored, and both before anything is printed: so whatever is refused has stored
+//! nothing, and what is printed has its certificate. The network is let go before anything is printed.
+ghost use Rattle.std.specs.Prelude.{◌≡◌, Ok, option_map, IfOk, IfErr};
 ghost use Rattle.wi_world.specs.Moves.{AreBounds};
-ghost use Rattle.wi_query.specs.Meaning.{IsQuery};
 ghost use Rattle.wi_words.specs.Commands.{Verify};
+ghost use Rattle.wi_cert.specs.Text.{IsWritable};
 ghost use Rattle.wi_build.specs.Problems.{problem_of};
-ghost use Rattle.wi_app.specs.Asked.{FromDecision, FromTexts, IsAnswer, IsBadQuery, IsBadWeights, IsReported, WeighsBy, status_for};
-ghost use Rattle.wi_app.specs.Run.{FromCommand, IsAnswered, IsCalm};
+ghost use Rattle.wi_app.specs.Decided.{IsAnswer, IsReported, status_for};
+ghost use Rattle.wi_app.specs.Run.{FromCommand, IsAnswered, IsLeft};
+ghost use Rattle.wi_app.specs.Shelves.{IsCalm, OthersStand};
+ghost use Rattle.wi_app.specs.private.Stages.{FromAnswering, FromDeciding, IsKept, IsNotKept};
 
 use crate::answer::Printed;
+use crate::certificate_file::store_certificate;
 use crate::fetch::network;
 use crate::refusal::Refusal;
+use crate::texts::{query_of, vector_of};
 use std::alloc::Global;
-use wi_base::Shelf;
+use wi_base::{NoMemory, Shelf};
+use wi_cert::Certificate;
 use wi_decide::{DecideRefused, decide};
 use wi_net::Network;
-use wi_quantity::{Vector, WeightFault, read_weights};
-use wi_query::{Query, QueryFault, read_query};
-use wi_report::{query_fault_text, report};
+use wi_quantity::Vector;
+use wi_query::Query;
+use wi_report::report;
+use wi_text::Text;
 use wi_world::Word;
 
-/// The report on a query of the network of a file, or why not. Runs are weighed by the weights, or by their effort alone.
+/// The report on a query of the network of a file, or why not. Runs are weighed by the weights, or by their effort alone. The
+/// certificate is stored under a name, if there is one.
 pub fn verify<'a, S: Shelf>(
     alloc: Global,
     name: &'a str,
     query: &str,
     weights: Option<&str>,
+    file: Option<&'a str>,
     shelf: &mut S,
 ) -> Result<Printed, Refusal<'a>>
     ensures told { (S.seen shelf.new).told ≡ (S.seen shelf.old).told }
-    ensures files { (other : List ℕ) → (S.seen shelf.new).file other ≡ (S.seen shelf.old).file other }
+    ensures others { OthersStand (option_map (λ s. s.now) file.entry) (S.seen shelf.old) (S.seen shelf.new) }
+    ensures left { IfErr result (λ refusal. IsLeft refusal (S.seen shelf.old) (S.seen shelf.new)) }
     ensures calm { IfOk result (λ _. IsCalm (S.seen shelf.old) (S.seen shelf.new)) }
-    ensures answered { IfOk result (λ printed. IsAnswered (S.seen shelf.old) (Verify name.now query.now (option_map (λ s. s.now) weights.entry)) printed.status printed.text) }
-    ensures refused { IfErr result (λ refusal. FromCommand (S.seen shelf.old) (S.seen shelf.new) (Verify name.now query.now (option_map (λ s. s.now) weights.entry)) refusal) }
+    ensures answered { IfOk result (λ printed. IsAnswered (S.seen shelf.old) (S.seen shelf.new) (Verify name.now query.now (option_map (λ s. s.now) weights.entry) (option_map (λ s. s.now) file.entry)) printed.status printed.text) }
+    ensures refused { IfErr result (λ refusal. FromCommand (S.seen shelf.old) (S.seen shelf.new) (Verify name.now query.now (option_map (λ s. s.now) weights.entry) (option_map (λ s. s.now) file.entry)) refusal) }
 {
     let net = network(alloc, name, shelf)?;
-    let printed = answer(alloc, &net, query, weights);
+    let printed = answer(alloc, &net, query, weights, file, shelf);
     drop(net);
     printed
 }
 
 // The report on a query of a network.
-fn answer<'a>(
+fn answer<'a, S: Shelf>(
     alloc: Global,
     net: &Network,
     query: &str,
     weights: Option<&str>,
+    file: Option<&'a str>,
+    shelf: &mut S,
 ) -> Result<Printed, Refusal<'a>>
-    ensures answered { IfOk result (λ printed. IsAnswer net.now query.now (option_map (λ s. s.now) weights.entry) printed.status printed.text) }
-    ensures refused { IfErr result (λ refusal. FromTexts net.now query.now (option_map (λ s. s.now) weights.entry) refusal) }
+    ensures told { (S.seen shelf.new).told ≡ (S.seen shelf.old).told }
+    ensures others { OthersStand (option_map (λ s. s.now) file.entry) (S.seen shelf.old) (S.seen shelf.new) }
+    ensures left { IfErr result (λ refusal. IsLeft refusal (S.seen shelf.old) (S.seen shelf.new)) }
+    ensures calm { IfOk result (λ _. IsCalm (S.seen shelf.old) (S.seen shelf.new)) }
+    ensures answered { IfOk result (λ printed. IsAnswer net.now query.now (option_map (λ s. s.now) weights.entry) (option_map (λ s. s.now) file.entry) (S.seen shelf.new) printed.status printed.text) }
+    ensures refused { IfErr result (λ refusal. FromAnswering (S.seen shelf.old) (S.seen shelf.new) net.now query.now (option_map (λ s. s.now) weights.entry) (option_map (λ s. s.now) file.entry) refusal) }
 {
     net.keeps();
     let query = query_of(alloc, net, query)?;
-    let vector = vector_of(alloc, weights)?;
-    reported(alloc, net, &query, &vector)
-}
-
-// The query that a text is, or what is wrong with it.
-fn query_of<'a>(alloc: Global, net: &Network, text: &str) -> Result<Query, Refusal<'a>>
-    ensures read { IfOk result (λ query. IsQuery net.now text.now query) }
-    ensures refused { IfErr result (λ refusal. IsBadQuery net.now text.now refusal) }
-{
-    match read_query(alloc, net, text) {
-        Ok(query) => Ok(query),
-        Err(QueryFault::Memory) => Err(Refusal::Memory),
-        Err(fault) => Err(Refusal::Query(query_fault_text(alloc, net, &fault)?)),
-    }
-}
-
-// What runs are weighed by, or what is wrong with the text.
-fn vector_of<'a>(alloc: Global, weights: Option<&str>) -> Result<Vector, Refusal<'a>>
-    ensures read { IfOk result (λ vector. WeighsBy (option_map (λ s. s.now) weights.entry) vector) }
-    ensures refused { IfErr result (λ refusal. IsBadWeights (option_map (λ s. s.now) weights.entry) refusal) }
-{
-    let Some(text) = weights else {
-        return Ok(Vector::new(alloc));
-    };
-    match read_weights(alloc, text) {
-        Ok(vector) => Ok(vector),
-        Err(fault) => Err(Refusal::Weights(fault)),
+    match vector_of(alloc, weights) {
+        Ok(vector) => {
+            let printed = reported(alloc, net, &query, &vector, file, shelf);
+            drop(vector);
+            drop(query);
+            printed
+        }
+        Err(refusal) => {
+            drop(query);
+            Err(refusal)
+        }
     }
 }
 
 // The report on a query that was read.
-fn reported<'a>(
+fn reported<'a, S: Shelf>(
     alloc: Global,
     net: &Network,
     query: &Query,
     vector: &Vector,
+    file: Option<&'a str>,
+    shelf: &mut S,
 ) -> Result<Printed, Refusal<'a>>
     requires { AreBounds net.now query.now.bounds }
-    ensures reported { IfOk result (λ printed. IsReported (problem_of net.now query.now vector.now) printed.status printed.text) }
-    ensures refused { IfErr result (λ refusal. FromDecision (problem_of net.now query.now vector.now) refusal) }
+    ensures told { (S.seen shelf.new).told ≡ (S.seen shelf.old).told }
+    ensures others { OthersStand (option_map (λ s. s.now) file.entry) (S.seen shelf.old) (S.seen shelf.new) }
+    ensures left { IfErr result (λ refusal. IsLeft refusal (S.seen shelf.old) (S.seen shelf.new)) }
+    ensures calm { IfOk result (λ _. IsCalm (S.seen shelf.old) (S.seen shelf.new)) }
+    ensures reported { IfOk result (λ printed. IsReported (problem_of net.now query.now vector.now) (option_map (λ s. s.now) file.entry) (S.seen shelf.new) printed.status printed.text) }
+    ensures refused { IfErr result (λ refusal. FromDeciding (S.seen shelf.old) (S.seen shelf.new) (problem_of net.now query.now vector.now) (option_map (λ s. s.now) file.entry) refusal) }
 {
     net.keeps();
+    query.keeps();
     match decide(alloc, net, query, vector) {
         Ok((answer, certificate)) => {
-            // No option asks for it.
-            drop(certificate);
-            let text = report(alloc, net, query, vector, &answer)?;
+            let text = report(alloc, net, query, vector, &answer);
             let status = status_for(answer.word);
-            Ok(Printed { status, text })
+            drop(answer);
+            let printed = stored_and_printed(alloc, &certificate, file, status, text, shelf);
+            drop(certificate);
+            printed
         }
         Err(DecideRefused::Overflow(weight)) => Err(Refusal::Overflow(weight, vector.len())),
         Err(DecideRefused::TooLong(effort)) => Err(Refusal::TooLong(effort)),
         Err(DecideRefused::Memory) => Err(Refusal::Memory),
     }
+}
+
+// A report, whose certificate is stored if there is a name for it.
+fn stored_and_printed<'a, S: Shelf>(
+    alloc: Global,
+    certificate: &Certificate,
+    file: Option<&'a str>,
+    status: u8,
+    text: Result<Text, NoMemory>,
+    shelf: &mut S,
+) -> Result<Printed, Refusal<'a>>
+    requires { IsWritable certificate.now }
+    ensures told { (S.seen shelf.new).told ≡ (S.seen shelf.old).told }
+    ensures others { OthersStand (option_map (λ s. s.now) file.entry) (S.seen shelf.old) (S.seen shelf.new) }
+    ensures left { IfErr result (λ refusal. IsLeft refusal (S.seen shelf.old) (S.seen shelf.new)) }
+    ensures calm { IfOk result (λ _. IsCalm (S.seen shelf.old) (S.seen shelf.new)) }
+    ensures status { IfOk result (λ printed. printed.status ≡ status) }
+    ensures text { IfOk result (λ printed. text ≡ Ok printed.text) }
+    ensures kept { IfOk result (λ _. IsKept (option_map (λ s. s.now) file.entry) (S.seen shelf.new) certificate.now) }
+    ensures refused { IfErr result (λ refusal. IsNotKept (S.seen shelf.old) (S.seen shelf.new) (option_map (λ s. s.now) file.entry) certificate.now refusal) }
+{
+    let text = text?;
+    if let Some(name) = file {
+        store_certificate(alloc, certificate, name, shelf)?;
+    }
+    Ok(Printed { status, text })
 }
 
 // The exit status of an answer.

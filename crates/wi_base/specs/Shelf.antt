@@ -1,5 +1,5 @@
--- What is seen of a shelf, what a call on it notes, and when a file is too long.
-use Rattle.std.specs.Prelude.{ℕ, ◌<◌, Bool, List, [], ◌∷◌, ◌++◌, length, Option, Some, None, Result, Err}
+-- What is seen of a shelf, what a call on it notes, when a file is too long, and what a part of one is.
+use Rattle.std.specs.Prelude.{◌≡◌, ◌⊎◌, ℕ, ◌<◌, ◌≤◌, Bool, List, [], ◌∷◌, ◌++◌, drop, length, take, Option, Some, None, Result, Err}
 use Rattle.wi_base.specs.declared.shelf.CallKind.{CallKind}
 use Rattle.wi_base.specs.declared.shelf.CallKind.TheVariants.{Fetch, Store}
 use Rattle.wi_base.specs.declared.shelf.FetchRefused.{FetchRefused}
@@ -28,3 +28,13 @@ after_store _ name calls = calls
 abbrev pub IsLonger : Option (List ℕ) → ℕ → Type 0
 IsLonger None limit = ⊥
 IsLonger (Some bytes) limit = limit < length bytes
+
+-- bytes begin what a file has from a place on. There are none only where it ends there, or none were asked for
+pub record BeginsAt (file : List ℕ) (at most : ℕ) (bytes : List ℕ) : Type 0 where
+  pub begins : bytes ≡ take (length bytes) (drop at file)
+  pub ends : bytes ≡ [] → (length file ≤ at) ⊎ (most ≡ 0)
+
+-- bytes are a part of the file, if there is one
+abbrev pub IsPart : Option (List ℕ) → ℕ → ℕ → List ℕ → Type 0
+IsPart None at most bytes = ⊥
+IsPart (Some file) at most bytes = BeginsAt file at most bytes

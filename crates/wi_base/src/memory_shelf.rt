@@ -1,11 +1,11 @@
 //! Contracts can speak of what files hold only over a shelf that tells it, and this one does. It also fails at the calls whose
 //! numbers it was given, so that tests reach each way out. A name is looked for along the list of files, and each fetch copies
 //! its file.
-ghost use Rattle.std.specs.Prelude.{◌≡◌, ◌≢◌, ◌≤◌, ◌<◌, ◌⊎◌, ◌+◌, ◌-◌, ◌^◌, ℕ, min, [], ◌∷◌, ◌++◌, length, true, false, List, None, Some, IfOk, OnOk, OnErr, IsErrOf, vec_len, string_bytes, option_map};
+ghost use Rattle.std.specs.Prelude.{◌≡◌, ◌≢◌, ◌≤◌, ◌<◌, ◌⊎◌, ◌+◌, ◌-◌, ◌^◌, ℕ, min, [], ◌∷◌, ◌++◌, drop, length, take, true, false, List, None, Some, IfOk, OnOk, OnErr, IsErrOf, vec_len, string_bytes, option_map};
 ghost use Rattle.std.specs.List.{position};
 ghost use Rattle.std.specs.Str.{bytes_eq};
 ghost use Rattle.wi_base.specs.declared.shelf.CallKind.{CallKind};
-ghost use Rattle.wi_base.specs.Shelf.{after_fetch, after_store, IsLonger};
+ghost use Rattle.wi_base.specs.Shelf.{after_fetch, after_store, BeginsAt, IsLonger, IsPart};
 ghost use Rattle.wi_base.specs.FailedCalls.{calls_of};
 ghost use Rattle.wi_base.specs.MemoryShelf.{file_in, with_file, is_to_fail};
 ghost use Rattle.wi_base.specs.private.MemoryShelf.{file_of, files_of};
@@ -24,7 +24,7 @@ struct NamedFile {
 }
 
 /// Files in memory, in the order in which they were first put there. It tells what it holds.
-/// Calls of `fetch` and `store` are numbered together from 0, and those with a number in its list fail.
+/// Calls of `fetch`, `fetch_part` and `store` are numbered together from 0, and those with a number in its list fail.
 #[derive(Drop)]
 pub struct MemoryShelf {
     files: Vec<NamedFile>,
@@ -84,6 +84,16 @@ impl MemoryShelf {
     {
         &self.failed
     }
+
+    // The number of this call.
+    fn next_call(&mut self) -> u64
+        ensures call { result ≡ self.old.calls }
+        ensures counted { self.new ≡ record self.old { calls = min (self.old.calls + 1) (2 ^ 64 - 1) } }
+    {
+        let call = self.calls;
+        self.calls = call.saturating_add(1);
+        call
+    }
 }
 
 impl Shelf for MemoryShelf {
@@ -103,20 +113,29 @@ impl Shelf for MemoryShelf {
         ensures list { self.new.failing ≡ self.old.failing }
         ensures calls { self.new.calls ≡ min (self.old.calls + 1) (2 ^ 64 - 1) }
     {
-        let call = self.calls;
-        self.calls = call.saturating_add(1);
-        let Ok(noted) = room_to_note(&mut self.failed, CallKind::Fetch, name) else {
-            return Err(FetchRefused::Memory);
-        };
-        if is_to_fail(&self.failing, call) {
-            self.failed.push_reserved(noted);
-            return Err(FetchRefused::Failed);
-        }
-        let Some(bytes) = bytes_under(&self.files, name) else {
-            self.failed.push_reserved(noted);
-            return Err(FetchRefused::Failed);
-        };
+        let call = self.next_call();
+        let bytes = fetched(&self.files, &self.failing, call, &mut self.failed, name)?;
         copy_within(*self.failing.allocator(), bytes, limit)
+    }
+
+    fn fetch_part(&mut self, name: &str, at: u64, most: u32) -> Result<Vec<u8>, FetchRefused>
+        ensures files { (other : List ℕ) → file_in self.new.files other ≡ file_in self.old.files other }
+        ensures short { IfOk result (λ bytes. vec_len bytes ≤ most) }
+        ensures part { IfOk result (λ bytes. IsPart (file_in self.old.files name.now) at most bytes.items) }
+        ensures too_big { IsErrOf result FetchRefused.TooBig → ⊥ }
+        ensures failed { self.new.failed ≡ after_fetch result name.now self.old.failed }
+
+        // As many bytes as were asked for, where there are so many. What fails is said as for `fetch`.
+        ensures full { IfOk result (λ bytes. option_map (λ file. take most (drop at file)) (file_in self.old.files name.now) ≡ Some bytes.items) }
+        ensures to_fail { is_to_fail self.old.failing self.old.calls ≡ true → IsErrOf result FetchRefused.Failed ⊎ IsErrOf result FetchRefused.Memory }
+        ensures sure { is_to_fail self.old.failing self.old.calls ≡ false → IsErrOf result FetchRefused.Failed → file_in self.old.files name.now ≡ None }
+        ensures kept { self.new.files ≡ self.old.files }
+        ensures list { self.new.failing ≡ self.old.failing }
+        ensures calls { self.new.calls ≡ min (self.old.calls + 1) (2 ^ 64 - 1) }
+    {
+        let call = self.next_call();
+        let bytes = fetched(&self.files, &self.failing, call, &mut self.failed, name)?;
+        copy_part(*self.failing.allocator(), bytes, at, most)
     }
 
     #[tactic(auto, using(crate::proofs::Files::puts))]
@@ -134,8 +153,7 @@ impl Shelf for MemoryShelf {
         ensures list { self.new.failing ≡ self.old.failing }
         ensures calls { self.new.calls ≡ min (self.old.calls + 1) (2 ^ 64 - 1) }
     {
-        let call = self.calls;
-        self.calls = call.saturating_add(1);
+        let call = self.next_call();
         let Ok(noted) = room_to_note(&mut self.failed, CallKind::Store, name) else {
             return Err(StoreRefused::Memory);
         };
@@ -148,6 +166,34 @@ impl Shelf for MemoryShelf {
             Err(NoMemory::Memory) => Err(StoreRefused::Memory),
         }
     }
+}
+
+// The bytes that a call of this number fetches from, if it doesn't fail. A call that fails is noted.
+fn fetched<'a>(
+    files: &'a [NamedFile],
+    failing: &[u64],
+    call: u64,
+    failed: &mut Vec<FailedCall>,
+    name: &str,
+) -> Result<&'a [u8], FetchRefused>
+    ensures found { IfOk result (λ bytes. file_in (files_of files.now) name.now ≡ Some bytes.now) }
+    ensures failed { calls_of failed.new.items ≡ after_fetch result name.now (calls_of failed.old.items) }
+    ensures to_fail { is_to_fail failing.now call ≡ true → IsErrOf result FetchRefused.Failed ⊎ IsErrOf result FetchRefused.Memory }
+    ensures sure { is_to_fail failing.now call ≡ false → IsErrOf result FetchRefused.Failed → file_in (files_of files.now) name.now ≡ None }
+    ensures too_big { IsErrOf result FetchRefused.TooBig → ⊥ }
+{
+    let Ok(noted) = room_to_note(failed, CallKind::Fetch, name) else {
+        return Err(FetchRefused::Memory);
+    };
+    if is_to_fail(failing, call) {
+        failed.push_reserved(noted);
+        return Err(FetchRefused::Failed);
+    }
+    let Some(bytes) = bytes_under(files, name) else {
+        failed.push_reserved(noted);
+        return Err(FetchRefused::Failed);
+    };
+    Ok(bytes)
 }
 
 // A call of this number is to fail.
@@ -202,6 +248,21 @@ fn copy_within(alloc: Global, bytes: &[u8], limit: u64) -> Result<Vec<u8>, Fetch
     }
     match Vec::from_slice(alloc, bytes) {
         Ok(copy) => Ok(copy),
+        Err(_) => Err(FetchRefused::Memory),
+    }
+}
+
+// The bytes of a file from a place on, `most` of them at most.
+fn copy_part(alloc: Global, bytes: &[u8], at: u64, most: u32) -> Result<Vec<u8>, FetchRefused>
+    ensures copy { IfOk result (λ part. part.items ≡ take most (drop at bytes.now)) }
+    ensures short { IfOk result (λ part. vec_len part ≤ most) }
+    ensures begins { IfOk result (λ part. BeginsAt bytes.now at most part.items) }
+    ensures too_big { IsErrOf result FetchRefused.TooBig → ⊥ }
+    ensures failed { IsErrOf result FetchRefused.Failed → ⊥ }
+{
+    let rest = &bytes[bytes.len().min(at as usize)..];
+    match Vec::from_slice(alloc, &rest[..rest.len().min(most as usize)]) {
+        Ok(part) => Ok(part),
         Err(_) => Err(FetchRefused::Memory),
     }
 }

@@ -75,6 +75,46 @@ fn a_call_that_is_to_fail_fails(rt: HostRuntime) -> Result<(), Fail> {
 }
 
 #[test]
+fn a_file_is_fetched_in_parts(rt: HostRuntime) -> Result<(), Fail> {
+    let calls = vec![in rt.alloc(); 9]?;
+    let mut shelf = MemoryShelf::failing(rt.alloc(), calls);
+    shelf.insert("network", b"abcde")?;
+    let parts: [(u64, u32, &[u8]); 8] = [
+        (0, 2, b"ab"),
+        (2, 2, b"cd"),
+        (4, 2, b"e"),
+        (5, 2, b""),
+        (6, 2, b""),
+        (u64::MAX, u32::MAX, b""),
+        (1, u32::MAX, b"bcde"),
+        (1, 0, b""),
+    ];
+    for (at, most, part) in parts {
+        assert_eq!(rt;
+            shelf.fetch_part("network", at, most)?.as_slice(),
+            part,
+            "{at} {most}"
+        );
+    }
+    assert_eq!(rt; shelf.fetch_part("other", 0, 2), Err(FetchRefused::Failed));
+    // The tenth call is to fail.
+    assert_eq!(rt;
+        shelf.fetch_part("network", 0, 2),
+        Err(FetchRefused::Failed)
+    );
+    assert_eq!(rt;
+        shelf.fetch_part("network", 0, 2)?.as_slice(),
+        b"ab".as_slice()
+    );
+    let failed = shelf.failed();
+    assert_eq!(rt; failed.len(), 2);
+    assert_eq!(rt; failed[0].name.as_str(), "other");
+    assert_eq!(rt; failed[1].name.as_str(), "network");
+    assert!(rt; failed[1].kind == CallKind::Fetch);
+    Ok(())
+}
+
+#[test]
 fn a_put_that_fails_writes_the_front(rt: HostRuntime) -> Result<(), Fail> {
     let puts = vec![in rt.alloc(); FailingPut { call: 1, taken: 5 }]?;
     let mut sink = MemorySink::failing(rt.alloc(), puts);

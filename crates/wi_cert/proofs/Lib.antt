@@ -14,3 +14,4 @@ pub mod CompleteLemmas
 pub mod TextLemmas
 pub mod DecodeLemmas
 pub mod WritingLemmas
+pub mod FrontLengths

@@ -11,7 +11,8 @@ use Rattle.wi_cert.specs.declared.row.Row.{Row}
 use Rattle.wi_cert.specs.Numbers.{count_line}
 use Rattle.wi_cert.specs.Shown.{pair_line, shown_lines}
 use Rattle.wi_cert.specs.Closed.{row_line, closed_lines}
-use Rattle.wi_cert.specs.Text.{ended, text}
+use Rattle.wi_cert.specs.Text.{ended, text, closed_text}
+use Rattle.wi_cert.specs.private.Fronts.{front_text}
 
 -- a list was gone through
 pub all_gone : {A : Type 0} (P : A → Type 0) (xs : List A) (i : ℕ) → length xs ≤ i → All P (take i xs) → All P xs
@@ -57,9 +58,17 @@ lists_put c heads pairs rows out a b d e f new (Ok done) h p r i j k l m n =
     same h p r = rw (h, p, r) refl
 lists_put c heads pairs rows out a b d e f new (Err why) h p r i j k l m n = tt
 
+-- the lines before `heads`
+pub front_put : (c : Certificate) (start a b : List ℕ) → start ≡ [] → a ≡ start ++ codes "mpls-whatif-certificate 1\n" → b ≡ a ++ flat_map ended (shown_lines c.shown) → b ≡ front_text c
+front_put c start a b h i j = rw (j, i, h) refl
+
+-- a text has these two parts
+pub text_parts : (c : Certificate) → text c ≡ front_text c ++ closed_text c
+text_parts c = flat_map-append ended (codes "mpls-whatif-certificate 1" ∷ shown_lines c.shown) (closed_lines c.closed ++ codes "end" ∷ [])
+
 -- the whole text
-pub text_put : (c : Certificate) (start a b d e : List ℕ) → start ≡ [] → a ≡ start ++ codes "mpls-whatif-certificate 1\n" → b ≡ a ++ flat_map ended (shown_lines c.shown) → d ≡ b ++ flat_map ended (closed_lines c.closed) → e ≡ d ++ codes "end\n" → e ≡ text c
-text_put c start a b d e h i j k l = rw (l, k, j, i, h) (sym (parts (shown_lines c.shown) (closed_lines c.closed)))
+pub text_put : (c : Certificate) (b d e : List ℕ) → b ≡ front_text c → d ≡ b ++ flat_map ended (closed_lines c.closed) → e ≡ d ++ codes "end\n" → e ≡ text c
+text_put c b d e j k l = rw (l, k, j) (sym (text_parts c ∙ parts (front_text c) (closed_lines c.closed)))
   where
-    parts : (s l : List (List ℕ)) → flat_map ended (codes "mpls-whatif-certificate 1" ∷ (s ++ (l ++ codes "end" ∷ []))) ≡ [] ++ codes "mpls-whatif-certificate 1\n" ++ flat_map ended s ++ flat_map ended l ++ codes "end\n"
-    parts s l = simp (flat_map-append, append_assoc, append-nil) refl
+    parts : (f : List ℕ) (l : List (List ℕ)) → f ++ flat_map ended (l ++ codes "end" ∷ []) ≡ (f ++ flat_map ended l) ++ codes "end\n"
+    parts f l = simp (flat_map-append, append_assoc, append-nil) refl

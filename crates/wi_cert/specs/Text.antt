@@ -17,6 +17,10 @@ lines_of c = codes "mpls-whatif-certificate 1" ∷ (shown_lines c.shown ++ (clos
 abbrev pub text : Certificate → List ℕ
 text c = flat_map ended (lines_of c)
 
+-- the lines from `heads` on, each with its end
+abbrev pub closed_text : Certificate → List ℕ
+closed_text c = flat_map ended (closed_lines c.closed ++ codes "end" ∷ [])
+
 -- a certificate that can be written, but for the ranges of its numbers
 pub record IsWritable (c : Certificate) : Type 0 where
   pub shown : IsShown c.shown

@@ -1,3 +1,4 @@
 -- What only private contracts and proofs use: no public contract reaches it.
 pub mod Ends
 pub mod Marks
+pub mod Fronts

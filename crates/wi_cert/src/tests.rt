@@ -1,5 +1,7 @@
 //! Texts of certificates by example, and texts that give none.
-use crate::{Claim, Closed, DecodeRefused, Feeder, Row, Shown, decode, encode};
+use crate::{
+    Claim, Closed, DecodeRefused, EncodeRefused, Feeder, Row, Shown, decode, encode, encode_within,
+};
 use std::alloc::Global;
 use std::process::Abort;
 use std::test::Fail;
@@ -100,6 +102,27 @@ fn again(alloc: Global, text: &[u8]) -> Result<Vec<u8>, DecodeRefused> {
     let written = encode(alloc, &certificate);
     drop(certificate);
     Ok(written?)
+}
+
+// Whether the certificate of the yes may be written within a limit of its lines from `heads` on.
+fn within(alloc: Global, limit: usize) -> Result<Result<usize, EncodeRefused>, Fail> {
+    let text = edited(alloc, YES, &[])?;
+    let certificate = decode(alloc, text.as_slice())?;
+    let written = encode_within(alloc, &certificate, limit);
+    drop(certificate);
+    match written {
+        Ok(again) => Ok(Ok(again.len())),
+        Err(refused) => Ok(Err(refused)),
+    }
+}
+
+#[test]
+fn certificates_are_written_within_a_limit(rt: HostRuntime) -> Result<(), Fail> {
+    // From `heads` on there are 41 bytes of heads, 16 of pairs, 64 of rows and 4 of the end.
+    let (at_limit, over) = (within(rt.alloc(), 125)?, within(rt.alloc(), 124)?);
+    assert_eq!(rt; at_limit, Ok(199));
+    assert_eq!(rt; over, Err(EncodeRefused::TooLong));
+    Ok(())
 }
 
 // Texts that give a certificate.

@@ -1,17 +1,19 @@
 //! A certificate is written part by part at the end of one text, so each contract speaks of what its call adds, and says besides
 //! that the numbers have the ranges of their types: who makes a certificate needn't show that. The decimal of a number takes
 //! memory until it is added.
-ghost use Rattle.std.specs.Prelude.{◌≡◌, ◌^◌, ◌<◌, ◌++◌, ◌∷◌, [], IfOk, OnOk, length, map, codes};
+ghost use Rattle.std.specs.Prelude.{◌≡◌, ◌^◌, ◌<◌, ◌≤◌, ◌++◌, ◌∷◌, [], IfOk, IsErrOf, OnOk, length, map, codes};
 ghost use Rattle.std.specs.Fmt.{decimal};
 ghost use Rattle.std.specs.List.{All, flat_map};
 ghost use Rattle.wi_weight.specs.Weights.{EachBelow};
 ghost use Rattle.wi_cert.specs.Numbers.{spaced, printed, count_line};
 ghost use Rattle.wi_cert.specs.Shown.{IsShown, answer_line, weight_line, first_line, pair_line, shown_lines, HasShownRanges};
 ghost use Rattle.wi_cert.specs.Closed.{row_line, closed_lines, HasRowRanges, HasClosedRanges};
-ghost use Rattle.wi_cert.specs.Text.{ended, IsWritable, IsText};
+ghost use Rattle.wi_cert.specs.Text.{ended, closed_text, IsWritable, IsText};
+ghost use Rattle.wi_cert.specs.private.Fronts.{front_text};
 
 use crate::certificate::Certificate;
 use crate::closed::Closed;
+use crate::encode_refused::EncodeRefused;
 use crate::row::Row;
 use crate::shown::{Claim, Shown};
 use std::alloc::Global;
@@ -22,11 +24,40 @@ pub fn encode(alloc: Global, certificate: &Certificate) -> Result<Vec<u8>, NoMem
     requires { IsWritable certificate.now }
     ensures { IfOk result (λ bytes. IsText certificate.now bytes.items) }
 {
+    let mut out = encode_front(alloc, certificate)?;
+    put_closed(&mut out, &certificate.closed)?;
+    put(&mut out, b"end\n")?;
+    Ok(out)
+}
+
+/// The text of a certificate, unless its lines from `heads` on have more bytes than the limit.
+pub fn encode_within(
+    alloc: Global,
+    certificate: &Certificate,
+    limit: usize,
+) -> Result<Vec<u8>, EncodeRefused>
+    requires { IsWritable certificate.now }
+    ensures text { IfOk result (λ bytes. IsText certificate.now bytes.items) }
+    ensures short { IfOk result (λ _. length (closed_text certificate.now) ≤ limit) }
+    ensures long { IsErrOf result EncodeRefused.TooLong → limit < length (closed_text certificate.now) }
+{
+    let front = encode_front(alloc, certificate)?;
+    let text = encode(alloc, certificate)?;
+    if text.len() - front.len() > limit {
+        return Err(EncodeRefused::TooLong);
+    }
+    Ok(text)
+}
+
+// The lines of a certificate's text before `heads`, which show the answer.
+fn encode_front(alloc: Global, certificate: &Certificate) -> Result<Vec<u8>, NoMemory>
+    requires { IsShown certificate.now.shown }
+    ensures text { IfOk result (λ bytes. bytes.items ≡ front_text certificate.now) }
+    ensures ranges { IfOk result (λ _. HasShownRanges certificate.now.shown) }
+{
     let mut out = Vec::new(alloc);
     put(&mut out, b"mpls-whatif-certificate 1\n")?;
     put_shown(&mut out, &certificate.shown)?;
-    put_closed(&mut out, &certificate.closed)?;
-    put(&mut out, b"end\n")?;
     Ok(out)
 }
 

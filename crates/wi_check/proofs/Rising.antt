@@ -1,24 +1,18 @@
 -- A list whose items each stand above the one before rises: each item stands below all that come after it.
-use Rattle.std.specs.Prelude.{◌≡◌, ℕ, zero, suc, ◌+◌, ◌-◌, ◌≤◌, Bool, true, List, [], ◌∷◌, ◌++◌, Some, length, slice_get}
+use Rattle.std.specs.Prelude.{◌≡◌, ℕ, zero, suc, ◌+◌, ◌≤◌, Bool, true, List, [], ◌∷◌, ◌++◌, Some, length, slice_get}
 use Rattle.std.specs.List.{All}
 use Rattle.std.specs.Option.{option_map_or}
-use Rattle.std.proofs.Common.{sym, ap, ◌∙◌, subst, arith, length-append}
-use Rattle.std.proofs.lemmas.Bool.Decides.{nat_tests}
+use Rattle.std.proofs.Common.{sym, ap, ◌∙◌, subst, arith}
 use Rattle.std.proofs.lemmas.Option.{same_Some}
-use Rattle.wi_net.proofs.KeptLists.{get_last}
 use Rattle.wi_cert.specs.declared.certificate.Certificate.{Certificate}
 use Rattle.wi_cert.specs.declared.row.Row.{Row}
 use Rattle.wi_cert.specs.Order.{pair_below, row_below, last_of, is_next, EachAdded}
 use Rattle.wi_cert.specs.Closed.{IsRow}
 use Rattle.wi_cert.specs.Text.{IsWritable}
+use Rattle.wi_accept.proofs.RisingRows.{last_added, pair_below_trans, row_below_trans}
 use Rattle.wi_check.specs.declared.rows.Rows.{Rows}
 use Rattle.wi_check.specs.private.Lists.{Rises}
 use Rattle.wi_check.specs.private.Rows.{HaveTerms, AreRows}
-
-last_added : {A : Type 0} (before : List A) (x : A) → last_of (before ++ x ∷ []) ≡ Some x
-last_added before x =
-    let end : length (before ++ x ∷ []) - 1 ≡ length before = omega (arith, length-append before (x ∷ [])) in
-    ap (λ n. slice_get (before ++ x ∷ []) n) end ∙ get_last before x
 
 module _ {A : Type 0} (below : A → A → Bool) (MayFollow : List A → A → Type 0)
     (trans : (a b c : A) → below a b ≡ true → below b c ≡ true → below a c ≡ true) (next : (before : List A) (x : A) → MayFollow before x → is_next below before x ≡ true) where
@@ -44,12 +38,6 @@ pub each_has : {A : Type 0} (MayFollow : List A → A → Type 0) (P : A → Typ
 each_has MayFollow P has before [] each k d within = absurd (omega arith)
 each_has MayFollow P has before (x ∷ xs) each zero d within = has before x each.0
 each_has MayFollow P has before (x ∷ xs) each (suc k) d within = each_has MayFollow P has (before ++ x ∷ []) xs each.1 k d (omega arith)
-
-pub pair_below_trans : (a b c : ℕ × ℕ) → pair_below a b ≡ true → pair_below b c ≡ true → pair_below a c ≡ true
-pair_below_trans a b c h k = grind (arith, nat_tests)
-
-pub row_below_trans : (a b c : Row) → row_below a b ≡ true → row_below b c ≡ true → row_below a c ≡ true
-row_below_trans a b c h k = grind (arith, nat_tests)
 
 added_pairs : (xs : List (ℕ × ℕ)) → EachAdded (λ before x. is_next pair_below before x ≡ true) [] xs → Rises pair_below xs
 added_pairs xs each = rises pair_below (λ before x. is_next pair_below before x ≡ true) pair_below_trans (λ before x h. h) [] xs each

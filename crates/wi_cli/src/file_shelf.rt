@@ -1,8 +1,11 @@
 //! Files of the system are touched here alone. No contract can say what they hold, so this shelf tells nothing, and notes what
 //! fails; room for a note is made first, and where there is none, no file is touched.
-ghost use Rattle.std.specs.Prelude.{◌≡◌, ◌≤◌, [], None, false, IfOk, vec_len};
+ghost use Rattle.std.specs.Prelude.{◌≡◌, ◌≤◌, ◌<◌, [], None, false, IfOk, IsErrOf, vec_len, vec_capacity, string_bytes};
+ghost use Rattle.wi_base.specs.Shelf.{after_fetch};
+ghost use Rattle.wi_base.specs.FailedCalls.{calls_of};
+ghost use Rattle.wi_base.specs.declared.shelf.CallKind.{CallKind};
 
-use crate::transfer::{read_within, write_whole};
+use crate::transfer::{read_part, read_within, write_whole};
 use std::alloc::Global;
 use std::marker::Model;
 use std::rt::Files;
@@ -57,15 +60,16 @@ impl<R: Files + Drop> Shelf for FileShelf<R> {
         let Ok(this_fetch) = room_to_note(&mut self.failed, CallKind::Fetch, name) else {
             return Err(FetchRefused::Memory);
         };
-        match fetch_file(self.alloc, &self.files, name, limit) {
-            Ok(bytes) => Ok(bytes),
-            Err(FetchRefused::Failed) => {
-                self.failed.push_reserved(this_fetch);
-                Err(FetchRefused::Failed)
-            }
-            Err(FetchRefused::TooBig) => Err(FetchRefused::TooBig),
-            Err(FetchRefused::Memory) => Err(FetchRefused::Memory),
-        }
+        let fetched = fetch_file(self.alloc, &self.files, name, limit);
+        noting(&mut self.failed, this_fetch, fetched)
+    }
+
+    fn fetch_part(&mut self, name: &str, at: u64, most: u32) -> Result<Vec<u8>, FetchRefused> {
+        let Ok(this_fetch) = room_to_note(&mut self.failed, CallKind::Fetch, name) else {
+            return Err(FetchRefused::Memory);
+        };
+        let fetched = fetch_part_of_file(self.alloc, &self.files, name, at, most);
+        noting(&mut self.failed, this_fetch, fetched)
     }
 
     fn store(&mut self, name: &str, bytes: &[u8]) -> Result<(), StoreRefused> {
@@ -82,6 +86,23 @@ impl<R: Files + Drop> Shelf for FileShelf<R> {
     }
 }
 
+// What a call fetched. There is room to note it if it failed.
+fn noting(
+    failed: &mut Vec<FailedCall>,
+    this_fetch: FailedCall,
+    fetched: Result<Vec<u8>, FetchRefused>,
+) -> Result<Vec<u8>, FetchRefused>
+    requires room { vec_len failed.old < vec_capacity failed.old }
+    requires kind { this_fetch.kind ≡ CallKind.Fetch }
+    ensures fetched { result ≡ fetched }
+    ensures noted { calls_of failed.new.items ≡ after_fetch fetched (string_bytes this_fetch.name) (calls_of failed.old.items) }
+{
+    if fetched == Err(FetchRefused::Failed) {
+        failed.push_reserved(this_fetch);
+    }
+    fetched
+}
+
 // The bytes of a file.
 fn fetch_file<R: Files>(
     alloc: Global,
@@ -93,6 +114,23 @@ fn fetch_file<R: Files>(
 {
     match fs::open(files, name) {
         Ok(mut file) => read_within(alloc, &mut file, limit),
+        Err(_) => Err(FetchRefused::Failed),
+    }
+}
+
+// The bytes of a file from a place on.
+fn fetch_part_of_file<R: Files>(
+    alloc: Global,
+    files: &R,
+    name: &str,
+    at: u64,
+    most: u32,
+) -> Result<Vec<u8>, FetchRefused>
+    ensures short { IfOk result (λ bytes. vec_len bytes ≤ most) }
+    ensures too_big { IsErrOf result FetchRefused.TooBig → ⊥ }
+{
+    match fs::open(files, name) {
+        Ok(mut file) => read_part(alloc, &mut file, at, most),
         Err(_) => Err(FetchRefused::Failed),
     }
 }

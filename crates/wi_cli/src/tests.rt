@@ -58,6 +58,32 @@ fn a_file_over_the_limit_is_too_big(rt: HostRuntime) -> Result<(), Fail> {
 }
 
 #[test]
+fn a_file_is_fetched_in_parts(rt: HostRuntime) -> Result<(), Fail> {
+    fs::write(&rt, "parts", "seven..")?;
+    let mut shelf = FileShelf::new(rt.alloc(), &rt);
+    let parts: [(u64, u32, &[u8]); 6] = [
+        (0, 7, b"seven.."),
+        (0, 9, b"seven.."),
+        (3, 2, b"en"),
+        (5, 9, b".."),
+        (7, 9, b""),
+        (8, 0, b""),
+    ];
+    for (at, most, wanted) in parts {
+        let part = shelf.fetch_part("parts", at, most);
+        assert_eq!(rt; part?.as_slice(), wanted, "{at} {most}");
+    }
+    fs::remove_file(&rt, "parts")?;
+    assert_eq!(rt; shelf.failed().len(), 0);
+    assert_eq!(rt; shelf.fetch_part("parts", 0, 1), Err(FetchRefused::Failed));
+    let failed = shelf.failed();
+    assert_eq!(rt; failed.len(), 1);
+    assert!(rt; failed[0].kind == CallKind::Fetch);
+    assert_eq!(rt; failed[0].name.as_str(), "parts");
+    Ok(())
+}
+
+#[test]
 fn what_is_stored_is_read_back(rt: HostRuntime) -> Result<(), Fail> {
     let mut shelf = FileShelf::new(rt.alloc(), &rt);
     // The second takes the place of the first, which is longer.

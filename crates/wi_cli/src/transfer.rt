@@ -1,11 +1,11 @@
-//! std's own loops over reads and writes say little of what stands after a failure, so these two are ours, and each turn takes
+//! std's own loops over reads and writes say little of what stands after a failure, so these are ours, and each turn takes
 //! a byte at least, or ends. A file is too big as soon as more bytes than its limit have come, so one without an end is, too. A
 //! read takes a piece of 65,536 bytes beside what was read.
 ghost use Rattle.std.specs.Prelude.{◌≤◌, ◌<◌, ◌≡◌, IfOk, IfSome, IsErrOf, OnOk, length, vec_len};
 ghost use Rattle.std.specs.Io.KnownBytes.{Appends};
 
 use std::alloc::Global;
-use std::io::{self, ErrorKind, Read, Write};
+use std::io::{self, ErrorKind, Read, Seek, SeekFrom, Write};
 use wi_base::FetchRefused;
 
 // How many bytes one read asks for.
@@ -38,6 +38,30 @@ pub fn read_within<R: Read>(
             return Err(FetchRefused::TooBig);
         }
     }
+}
+
+/// What one read gives from a place on, `most` bytes at most. A read of nothing is the end. What has no places, as a pipe,
+/// fails.
+pub fn read_part<R: Read + Seek>(
+    alloc: Global,
+    from: &mut R,
+    at: u64,
+    most: u32,
+) -> Result<Vec<u8>, FetchRefused>
+    ensures short { IfOk result (λ bytes. vec_len bytes ≤ most) }
+    ensures too_big { IsErrOf result FetchRefused.TooBig → ⊥ }
+{
+    if from.seek(SeekFrom::Start(at)).is_err() {
+        return Err(FetchRefused::Failed);
+    }
+    let Ok(mut bytes) = vec![in alloc; 0; most as usize] else {
+        return Err(FetchRefused::Memory);
+    };
+    let Ok(taken) = from.read(&mut bytes) else {
+        return Err(FetchRefused::Failed);
+    };
+    bytes.truncate(taken);
+    Ok(bytes)
 }
 
 /// Writes a piece whole. A write that takes nothing of what is left has failed, so each turn takes a byte at least.

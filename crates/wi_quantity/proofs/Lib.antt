@@ -9,3 +9,4 @@ pub mod Stopping
 pub mod MeaningLemmas
 pub mod TermLemmas
 pub mod Fine
+pub mod OneVector

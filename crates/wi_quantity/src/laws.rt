@@ -18,6 +18,11 @@ pub fn a_text_is_read_one_way()
     ensures { (text : List ℕ) (v w : Written) → Reads text v → Reads text w → v ≡ w }
 {}
 
+/// A text means one vector.
+pub fn a_text_means_one_vector()
+    ensures { (text : List ℕ) (v u : List (List Part)) → Means text v → Means text u → v ≡ u }
+{}
+
 /// A text that means a vector has no fault.
 pub fn a_text_with_a_meaning_has_no_fault()
     ensures { (text : List ℕ) (vector : List (List Part)) (fault : WeightFault) → Means text vector → IsFault text fault → fault ≡ Memory }

@@ -1,3 +1,4 @@
 pub mod ShownLemmas
 pub mod ReportLemmas
 mod ReportRows
+pub mod CertificateLemmas

@@ -5,3 +5,4 @@ pub mod QueryFaults
 pub mod WeightFaults
 pub mod Reports
 pub mod RefusedDecisions
+pub mod CertificateFaults

@@ -73,6 +73,10 @@ word_shown Inconclusive = codes "inconclusive"
 abbrev pub report_of : Net → Bounds → ℕ → Answer → List ℕ
 report_of net bounds terms a = codes "answer: " ++ word_shown a.word ++ codes "\n" ++ found_shown net bounds terms a.weight a.run a.verdict
 
+-- what is said of a certificate that is accepted: the word of its answer
+abbrev pub accepted_text : Word → List ℕ
+accepted_text word = codes "accepted: " ++ word_shown word ++ codes "\n"
+
 -- where a run begins: the link and the labels of the header are the network's
 pub record IsKnownRun (net : Net) (run : Run) : Type 0 where
   pub link : is_link net run.first ≡ true

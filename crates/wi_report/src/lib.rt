@@ -1,6 +1,7 @@
 //! What the program prints: how links, headers, answers and faults are written.
 #![tactic(auto)]
 
+mod certificate_faults;
 mod network_faults;
 mod query_faults;
 mod refused_decisions;
@@ -10,10 +11,11 @@ mod shown;
 mod state_lines;
 mod weight_faults;
 
+pub use certificate_faults::{bad_line_text, certificate_fault_text};
 pub use network_faults::network_fault_text;
 pub use query_faults::query_fault_text;
 pub use refused_decisions::{overflow_text, too_long_text};
-pub use reports::report;
+pub use reports::{accepted_text, report};
 pub use script_faults::script_fault_text;
 pub use state_lines::states;
 pub use weight_faults::weight_fault_text;

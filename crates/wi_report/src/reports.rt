@@ -1,7 +1,7 @@
 //! A report is made whole before anything is printed, so that a refusal on the way puts nothing on standard output: it costs
 //! the report in memory. What the run needs is gathered anew and not copied from the verdict, so that `failed:` and `needs:`
 //! are one definition; that is one more walk along the run.
-ghost use Rattle.std.specs.Prelude.{◌≡◌, ◌++◌, ◌+◌, true, length, slice_get, codes, Some, None, IfOk, OnOk, IfSome};
+ghost use Rattle.std.specs.Prelude.{◌≡◌, ◌++◌, ◌+◌, true, length, slice_get, take, codes, Some, None, IfOk, OnOk, IfSome};
 ghost use Rattle.std.specs.List.{list_all};
 ghost use Rattle.std.specs.Option.{option_map};
 ghost use Rattle.std.specs.Fmt.{decimal};
@@ -10,7 +10,7 @@ ghost use Rattle.wi_world.specs.Moves.{AreBounds, moved};
 ghost use Rattle.wi_world.specs.Runs.{needs};
 ghost use Rattle.wi_quantity.specs.Weighing.{components};
 ghost use Rattle.wi_report.specs.Shown.{link_shown, links_shown, place_shown};
-ghost use Rattle.wi_report.specs.Reports.{IsKnownRun, numbers_shown, terms_shown, weight_shown, verdict_shown, step_shown, steps_shown, run_shown, moving_shown, found_shown, word_shown, report_of};
+ghost use Rattle.wi_report.specs.Reports.{IsKnownRun, numbers_shown, terms_shown, weight_shown, verdict_shown, step_shown, steps_shown, run_shown, moving_shown, found_shown, word_shown, report_of, accepted_text};
 
 use crate::shown::{put_counted, put_known, put_links, put_location};
 use std::alloc::Global;
@@ -44,6 +44,17 @@ pub fn report(
     put_word(answer.word, &mut text)?;
     text.put("\n")?;
     put_found(alloc, net, &query.bounds, vector.len(), answer, &mut text)?;
+    Ok(text)
+}
+
+/// What is said of a certificate that is accepted: the word of its answer.
+pub fn accepted_text(alloc: Global, word: Word) -> Result<Text, NoMemory>
+    ensures { IfOk result (λ text. text ≡ accepted_text word) }
+{
+    let mut text = Text::new(alloc);
+    text.put("accepted: ")?;
+    put_word(word, &mut text)?;
+    text.put("\n")?;
     Ok(text)
 }
 
@@ -98,6 +109,13 @@ fn put_terms(terms: usize, weight: &Weight, text: &mut Text) -> Result<(), NoMem
     if terms == 0 {
         return text.put(" none");
     }
+    put_values(weight, terms, text)
+}
+
+/// Adds the values of so many terms, each after a space.
+pub(crate) fn put_values(weight: &Weight, terms: usize, text: &mut Text) -> Result<(), NoMemory>
+    ensures { OnOk result (text.new ≡ text.old ++ numbers_shown (take terms (components weight.now))) }
+{
     let all = components_of(weight);
     put_numbers(&all[..terms.min(all.len())], text)
 }
@@ -110,8 +128,8 @@ pub(crate) fn components_of(weight: &Weight) -> [u128; 6]
     [a, b, c, d, e, weight.second.count]
 }
 
-// Adds numbers, each after a space.
-fn put_numbers(numbers: &[u128], text: &mut Text) -> Result<(), NoMemory>
+/// Adds numbers, each after a space.
+pub(crate) fn put_numbers(numbers: &[u128], text: &mut Text) -> Result<(), NoMemory>
     ensures { OnOk result (text.new ≡ text.old ++ numbers_shown numbers.now) }
 {
     for number in numbers {

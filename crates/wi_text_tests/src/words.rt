@@ -18,7 +18,7 @@ fn is_verify(
     text: &str,
     network: &str,
     query: &str,
-    weights: Option<&str>,
+    (weights, certificate): (Option<&str>, Option<&str>),
 ) -> Result<(), Fail> {
     let words = words_of(alloc, text)?;
     match command_of(alloc, words.as_slice())? {
@@ -27,8 +27,41 @@ fn is_verify(
                 network: n,
                 query: q,
                 weights: w,
+                certificate: c,
             },
-        ) => assert!(rt; n == network && q == query && w == weights, "{text}"),
+        ) => {
+            assert!(rt;
+                n == network && q == query && w == weights && c == certificate,
+                "{text}"
+            );
+        }
+        _ => assert!(rt; false, "{text}"),
+    }
+    Ok(())
+}
+
+fn is_check(
+    rt: &impl Abort,
+    alloc: Global,
+    text: &str,
+    certificate: &str,
+    weights: Option<&str>,
+) -> Result<(), Fail> {
+    let words = words_of(alloc, text)?;
+    match command_of(alloc, words.as_slice())? {
+        Some(
+            Command::Check {
+                network,
+                query,
+                certificate: c,
+                weights: w,
+            },
+        ) => {
+            assert!(rt;
+                network == "n" && query == "q" && c == certificate && w == weights,
+                "{text}"
+            );
+        }
         _ => assert!(rt; false, "{text}"),
     }
     Ok(())
@@ -70,7 +103,7 @@ fn operands_are_found(rt: HostRuntime) -> Result<(), Fail> {
         ("whatif|verify|n|q|--", "n", "q"),
         ("whatif|verify|--|--|-h", "--", "-h"),
     ] {
-        is_verify(&rt, rt.alloc(), text, network, query, None)?;
+        is_verify(&rt, rt.alloc(), text, network, query, (None, None))?;
     }
     Ok(())
 }
@@ -98,7 +131,44 @@ fn weights_are_found(rt: HostRuntime) -> Result<(), Fail> {
             "Hops",
         ),
     ] {
-        is_verify(&rt, rt.alloc(), text, network, "q", Some(weights))?;
+        is_verify(&rt, rt.alloc(), text, network, "q", (Some(weights), None))?;
+    }
+    Ok(())
+}
+
+#[test]
+fn certificates_are_found(rt: HostRuntime) -> Result<(), Fail> {
+    for (text, weights, certificate) in [
+        ("whatif|verify|n|q|--certificate|c", None, "c"),
+        ("whatif|verify|--certificate=c|n|q", None, "c"),
+        ("whatif|verify|n|q|--certificate=", None, ""),
+        (
+            "whatif|verify|n|--certificate|c|q|--weights|w",
+            Some("w"),
+            "c",
+        ),
+        (
+            "whatif|verify|n|q|--weights=w|--certificate|-",
+            Some("w"),
+            "-",
+        ),
+    ] {
+        is_verify(
+            &rt,
+            rt.alloc(),
+            text,
+            "n",
+            "q",
+            (weights, Some(certificate)),
+        )?;
+    }
+    for (text, certificate, weights) in [
+        ("whatif|check|n|q|c", "c", None),
+        ("whatif|check|--weights=w|n|q|c", "c", Some("w")),
+        ("whatif|check|n|q|--weights|w|-", "-", Some("w")),
+        ("whatif|check|n|q|--|--weights", "--weights", None),
+    ] {
+        is_check(&rt, rt.alloc(), text, certificate, weights)?;
     }
     Ok(())
 }
@@ -132,7 +202,7 @@ fn other_words_are_no_command(rt: HostRuntime) -> Result<(), Fail> {
         "whatif|Verify|n|q",
         "whatif|verif|n|q",
         "whatif|verify |n|q",
-        "whatif|check|n|q|c",
+        "whatif|checks|n|q|c",
         "whatif|gen|1|3",
         // Help.
         "whatif|--help",
@@ -151,6 +221,8 @@ fn other_words_are_no_command(rt: HostRuntime) -> Result<(), Fail> {
         "whatif|verify|n|q|",
         "whatif|play|n|s",
         "whatif|play|n|s|1|2",
+        "whatif|check|n|q",
+        "whatif|check|n|q|c|d",
         // No number from 0 to 65,535.
         "whatif|play|n|s|",
         "whatif|play|n|s|65536",
@@ -178,7 +250,11 @@ fn other_words_are_no_command(rt: HostRuntime) -> Result<(), Fail> {
         "whatif|verify|n|q|-weights|a",
         "whatif|verify|n|q|-w|a",
         "whatif|play|n|s|1|--weights|a",
-        "whatif|verify|n|q|--certificate|f",
+        "whatif|verify|n|q|--certificate",
+        "whatif|verify|n|q|--certificate|c|--certificate|c",
+        "whatif|verify|n|q|--certificates|c",
+        "whatif|check|n|q|c|--certificate|c",
+        "whatif|play|n|s|1|--certificate|c",
         "whatif|verify|n|q|--=W",
         "whatif|verify|-n|q",
         "whatif|verify|n|-1",

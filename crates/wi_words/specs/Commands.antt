@@ -18,16 +18,21 @@ operand id = record (new_rule id) { required = true; action = Some Set }
 abbrev pub option : Text → Rule
 option name = record (new_rule name) { long = Some name; action = Some Set }
 
--- `verify NETWORK QUERY [--weights W]` and `play NETWORK SCRIPT K`
+-- `verify NETWORK QUERY [--weights W] [--certificate FILE]`
 abbrev pub verify : Shape
-verify = record (new_shape (codes "verify")) { rules = operand (codes "NETWORK") ∷ operand (codes "QUERY") ∷ option (codes "weights") ∷ [] }
+verify = record (new_shape (codes "verify")) { rules = operand (codes "NETWORK") ∷ operand (codes "QUERY") ∷ option (codes "weights") ∷ option (codes "certificate") ∷ [] }
 
+-- `check NETWORK QUERY CERTIFICATE [--weights W]`
+abbrev pub check : Shape
+check = record (new_shape (codes "check")) { rules = operand (codes "NETWORK") ∷ operand (codes "QUERY") ∷ operand (codes "CERTIFICATE") ∷ option (codes "weights") ∷ [] }
+
+-- `play NETWORK SCRIPT K`
 abbrev pub play : Shape
 play = record (new_shape (codes "play")) { rules = operand (codes "NETWORK") ∷ operand (codes "SCRIPT") ∷ operand (codes "K") ∷ [] }
 
 -- the program's commands, one of which has to be given
 abbrev pub program : App
-program = with_subcommand (with_subcommand (record { top = record (new_shape (codes "whatif")) { subcommand_required = true }; subs = [] }) verify) play
+program = with_subcommand (with_subcommand (with_subcommand (record { top = record (new_shape (codes "whatif")) { subcommand_required = true }; subs = [] }) verify) check) play
 
 -- clap takes the words: its parse has no fault
 abbrev pub is_empty : {X : Type 0} → List X → Bool
@@ -39,7 +44,8 @@ are_taken words = is_empty (fault_of program words)
 
 -- a command, with what was given to it: the names of files, the texts of a query and of weights, how many risk groups may fail
 pub data Command : Type 0 where
-  Verify : (network query : Text) (weights : Option Text) → Command
+  Verify : (network query : Text) (weights certificate : Option Text) → Command
+  Check : (network query certificate : Text) (weights : Option Text) → Command
   Play : (network script : Text) (k : ℕ) → Command
 
 -- a number of risk groups: a decimal from 0 to 65,535, without leading zeros
@@ -48,7 +54,14 @@ most_failed s = if is_number s && nat_le (digits_value 10 s) 65535 then Some (di
 
 -- the command of a subcommand's entries
 abbrev pub verify_of : List Row → Option Command
-verify_of rows = option_and_then (λ network. option_map (λ query. Verify network query (first_of (codes "weights") rows)) (first_of (codes "QUERY") rows)) (first_of (codes "NETWORK") rows)
+verify_of rows =
+    option_and_then (λ network. option_map (λ query. Verify network query (first_of (codes "weights") rows) (first_of (codes "certificate") rows)) (first_of (codes "QUERY") rows))
+    (first_of (codes "NETWORK") rows)
+
+abbrev pub check_of : List Row → Option Command
+check_of rows =
+    option_and_then (λ network. option_and_then (λ query. option_map (λ certificate. Check network query certificate (first_of (codes "weights") rows)) (first_of (codes "CERTIFICATE") rows)) (first_of (codes "QUERY") rows))
+    (first_of (codes "NETWORK") rows)
 
 abbrev pub play_of : List Row → Option Command
 play_of rows =
@@ -58,6 +71,7 @@ play_of rows =
 abbrev pub command_named : Text × List Row → Option Command
 command_named met =
     if bytes_eq met.0 (codes "verify") then verify_of met.1
+    else if bytes_eq met.0 (codes "check") then check_of met.1
     else if bytes_eq met.0 (codes "play") then play_of met.1
     else None
 

@@ -3,7 +3,7 @@
 ghost use Rattle.std.specs.Prelude.{◌≡◌, IfOk, false};
 ghost use Rattle.clap.specs.Words.{app_of, rule_of, shape_of};
 ghost use Rattle.clap.specs.declared.builder.command.Command.TheViews.{out-Command as fields_of};
-ghost use Rattle.wi_words.specs.Commands.{operand, option, play, program, verify};
+ghost use Rattle.wi_words.specs.Commands.{check, operand, option, play, program, verify};
 
 use clap::{Arg, ArgAction, Command};
 use std::alloc::{AllocError, Global};
@@ -24,7 +24,7 @@ fn option<'a>(alloc: Global, name: &'a str) -> Arg<'a>
     Arg::new(alloc, name).long(name).action(ArgAction::Set)
 }
 
-// `verify NETWORK QUERY [--weights W]`
+// `verify NETWORK QUERY [--weights W] [--certificate FILE]`
 fn verify<'a>(alloc: Global) -> Result<Command<'a>, AllocError>
     ensures shape { IfOk result (λ c. shape_of c ≡ verify) }
     ensures local { IfOk result (λ c. (fields_of c).has_globals ≡ false) }
@@ -32,9 +32,28 @@ fn verify<'a>(alloc: Global) -> Result<Command<'a>, AllocError>
     let network = operand(alloc, "NETWORK");
     let query = operand(alloc, "QUERY");
     let weights = option(alloc, "weights");
+    let certificate = option(alloc, "certificate");
     let command = Command::new(alloc, "verify")
         .arg(network)?
         .arg(query)?
+        .arg(weights)?
+        .arg(certificate)?;
+    Ok(command)
+}
+
+// `check NETWORK QUERY CERTIFICATE [--weights W]`
+fn check<'a>(alloc: Global) -> Result<Command<'a>, AllocError>
+    ensures shape { IfOk result (λ c. shape_of c ≡ check) }
+    ensures local { IfOk result (λ c. (fields_of c).has_globals ≡ false) }
+{
+    let network = operand(alloc, "NETWORK");
+    let query = operand(alloc, "QUERY");
+    let certificate = operand(alloc, "CERTIFICATE");
+    let weights = option(alloc, "weights");
+    let command = Command::new(alloc, "check")
+        .arg(network)?
+        .arg(query)?
+        .arg(certificate)?
         .arg(weights)?;
     Ok(command)
 }
@@ -59,10 +78,12 @@ pub fn program<'a>(alloc: Global) -> Result<Command<'a>, AllocError>
     ensures { IfOk result (λ c. app_of c ≡ program) }
 {
     let verify = verify(alloc)?;
+    let check = check(alloc)?;
     let play = play(alloc)?;
     let whole = Command::new(alloc, "whatif")
         .subcommand_required(true)
         .subcommand(verify)?
+        .subcommand(check)?
         .subcommand(play)?;
     Ok(whole)
 }

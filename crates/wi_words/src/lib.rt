@@ -18,10 +18,20 @@ use wi_base::NoMemory;
 /// What the program is asked to do.
 #[derive(Clone, Copy, Debug)]
 pub enum Command<'a> {
-    /// `verify NETWORK QUERY [--weights W]`: the name of the network file, the text of the query, and that of the weights.
+    /// `verify NETWORK QUERY [--weights W] [--certificate FILE]`: the name of the network file, the text of the query, that of the
+    /// weights, and the name under which the certificate is to be stored.
     Verify {
         network: &'a str,
         query: &'a str,
+        weights: Option<&'a str>,
+        certificate: Option<&'a str>,
+    },
+    /// `check NETWORK QUERY CERTIFICATE [--weights W]`: the name of the network file, the text of the query, the name of the
+    /// certificate's file, and the text of the weights.
+    Check {
+        network: &'a str,
+        query: &'a str,
+        certificate: &'a str,
         weights: Option<&'a str>,
     },
     /// `play NETWORK SCRIPT K`: the names of the network file and of the script, and how many risk groups may be failed.

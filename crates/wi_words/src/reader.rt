@@ -4,7 +4,7 @@ ghost use Rattle.std.specs.Prelude.{◌≡◌, ◌≤◌, ◌^◌, true, None, I
 ghost use Rattle.std.specs.Str.Parse.{digits_value};
 ghost use Rattle.wi_text.specs.Characters.{is_number};
 ghost use Rattle.clap.specs.Words.{first_of, found_of, rows_of, subcommand_rows_of};
-ghost use Rattle.wi_words.specs.Commands.{command_named, most_failed, play_of, verify_of};
+ghost use Rattle.wi_words.specs.Commands.{check_of, command_named, most_failed, play_of, verify_of};
 ghost use Rattle.wi_words.specs.private.Shown.{shown};
 
 use crate::Command;
@@ -53,6 +53,22 @@ fn verify_of<'a>(matches: &ArgMatches<'a>) -> Option<Command<'a>>
         network,
         query,
         weights: value_of(matches, "weights"),
+        certificate: value_of(matches, "certificate"),
+    })
+}
+
+fn check_of<'a>(matches: &ArgMatches<'a>) -> Option<Command<'a>>
+    ensures { option_map shown result ≡ check_of (rows_of (found_of matches.now)) }
+{
+    let network = value_of(matches, "NETWORK")?;
+    let query = value_of(matches, "QUERY")?;
+    let certificate = value_of(matches, "CERTIFICATE")?;
+    let weights = value_of(matches, "weights");
+    Some(Command::Check {
+        network,
+        query,
+        certificate,
+        weights,
     })
 }
 
@@ -71,6 +87,7 @@ fn command_named<'a>(name: &str, matches: &ArgMatches<'a>) -> Option<Command<'a>
 {
     match name {
         "verify" => verify_of(matches),
+        "check" => check_of(matches),
         "play" => play_of(matches),
         _ => None,
     }

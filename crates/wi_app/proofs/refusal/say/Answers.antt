@@ -7,7 +7,7 @@ returns-in-Usage-clause-said g c =
 
 pub returns-in-CannotRead-clause-said : goal.returns-in-CannotRead-clause-said
 returns-in-CannotRead-clause-said g c =
-    said_made _ _ _ (g.E.Sink.seen c.args.err.now) (g.E.Sink.seen c.put_made.new.err) _ c.in-CannotRead.is c.status_of-status.ensures tt (c.put_made.ensures.said _ c.cannot_read.ensures)
+    said_made _ _ _ (g.E.Sink.seen c.args.err.now) (g.E.Sink.seen c.put_made.new.err) _ c.in-CannotRead.is c.status_of-status.ensures tt (c.put_made.ensures.said _ c.cannot.ensures)
 
 pub returns-in-Overflow-clause-said : goal.returns-in-Overflow-clause-said
 returns-in-Overflow-clause-said g c =
@@ -24,3 +24,23 @@ returns-in-LongScript-clause-said g c =
 pub returns-in-CannotPrint-clause-said : goal.returns-in-CannotPrint-clause-said
 returns-in-CannotPrint-clause-said g c =
     said_words _ _ _ (g.E.Sink.seen c.args.err.now) (g.E.Sink.seen c.put-in-CannotPrint.new.err) _ c.in-CannotPrint.is c.status_of-status.ensures c.put-in-CannotPrint.ensures.said
+
+pub returns-in-CannotWrite-clause-said : goal.returns-in-CannotWrite-clause-said
+returns-in-CannotWrite-clause-said g c =
+    said_made _ _ _ (g.E.Sink.seen c.args.err.now) (g.E.Sink.seen c.put_made-in-CannotWrite.new.err) _ c.in-CannotWrite.is c.status_of-status.ensures tt (c.put_made-in-CannotWrite.ensures.said _ c.cannot-in-CannotWrite.ensures)
+
+pub returns-in-LargeCertificate-clause-said : goal.returns-in-LargeCertificate-clause-said
+returns-in-LargeCertificate-clause-said g c =
+    said_words _ _ _ (g.E.Sink.seen c.args.err.now) (g.E.Sink.seen c.put-in-LargeCertificate.new.err) _ c.in-LargeCertificate.is c.status_of-status.ensures c.put-in-LargeCertificate.ensures.said
+
+pub returns-in-BadLine-clause-said : goal.returns-in-BadLine-clause-said
+returns-in-BadLine-clause-said g c =
+    said_made _ _ _ (g.E.Sink.seen c.args.err.now) (g.E.Sink.seen c.put_made-in-BadLine.new.err) _ c.in-BadLine.is c.status_of-status.ensures tt (c.put_made-in-BadLine.ensures.said _ c.bad_line_text.ensures)
+
+pub returns-in-NotAccepted-clause-said : goal.returns-in-NotAccepted-clause-said
+returns-in-NotAccepted-clause-said g c =
+    said_made _ _ _ (g.E.Sink.seen c.args.err.now) (g.E.Sink.seen c.put_made-in-NotAccepted.new.err) _ c.in-NotAccepted.is c.status_of-status.ensures tt (c.put_made-in-NotAccepted.ensures.said _ c.certificate_fault_text.ensures)
+
+pub returns-in-NotWritten-clause-said : goal.returns-in-NotWritten-clause-said
+returns-in-NotWritten-clause-said g c =
+    said_words _ _ _ (g.E.Sink.seen c.args.err.now) (g.E.Sink.seen c.put-in-NotWritten.new.err) _ c.in-NotWritten.is c.status_of-status.ensures c.put-in-NotWritten.ensures.said

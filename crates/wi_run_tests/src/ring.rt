@@ -1,6 +1,6 @@
 //! The operator's ring of the examples, asked as their page does: a path, a bypass that shares the duct of the cable that it
 //! stands in for, and labels that come to a customer.
-use crate::tests::{Case, cases_are};
+use crate::called::{Case, cases_are};
 use std::process::Abort;
 use std::test::Fail;
 

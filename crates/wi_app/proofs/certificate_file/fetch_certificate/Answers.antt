@@ -1,0 +1,12 @@
+use Rattle.std.proofs.Common.{Result, Err, subst}
+use Rattle.wi_cert.specs.Reading.{Finishes}
+use Rattle.wi_app.proofs.Parts.{fed_badly, fed_text}
+use Rattle.wi_app.proofs.certificate_file.fetch_certificate.Goals as goal
+
+pub returns-in-Ok-finish-clause-read : goal.returns-in-Ok-finish-clause-read
+returns-in-Ok-finish-clause-read g c = fed_text c.in-Ok-finish.certificate (g.S.Shelf.seen c.args.shelf.now) c.args.name.now c.feed_parts.new.feeder c.in-Ok.ensures.read c.in-Ok-finish.ensures
+
+pub returns-in-Err-BadLine-clause-refused : goal.returns-in-Err-BadLine-clause-refused
+returns-in-Err-BadLine-clause-refused g c = λ problem.
+    fed_badly (g.S.Shelf.seen c.args.shelf.now) (g.S.Shelf.seen c.feed_parts.new.shelf) problem c.args.name.now c.in-Err-BadLine.line c.feed_parts.new.feeder c.in-Ok.ensures.calm c.in-Ok.ensures.read
+    (subst (λ why. Finishes c.feed_parts.new.feeder (Err why)) c.in-Err-BadLine.field-0-is c.in-Err-BadLine.ensures)

@@ -1,0 +1,90 @@
+-- Certificates as they are stored, and as they are checked.
+use Rattle.std.specs.Prelude.{◌≡◌, ℕ, ◌<◌, ◌≤◌, true, List, length, Option, Some, None}
+use Rattle.wi_base.specs.Shelf.{ShelfSeen, IsLonger}
+use Rattle.wi_net.specs.Net.{Net}
+use Rattle.wi_quantity.specs.declared.vector.Part.{Part}
+use Rattle.wi_query.specs.declared.query.Query.{Query}
+use Rattle.wi_trace.specs.declared.answer.Answer.{Answer}
+use Rattle.wi_build.specs.Problems.{Problem, IsProblem, problem_of}
+use Rattle.wi_cert.specs.declared.certificate.Certificate.{Certificate}
+use Rattle.wi_cert.specs.declared.check_refused.CheckRefused.{CheckRefused}
+use Rattle.wi_cert.specs.Text.{IsText, IsBadLine, closed_text}
+use Rattle.wi_accept.specs.Answers.{IsDecided, answer_of}
+use Rattle.wi_accept.specs.Causes.{IsAccepted, IsRefusal}
+use Rattle.wi_accept.specs.Makers.{IsMaker}
+use Rattle.wi_app.specs.Asked.{IsAsked}
+use Rattle.wi_app.specs.Shelves.{IsCalm, FetchFailed, StoreFailed}
+use Rattle.wi_app.specs.declared.refusal.Refusal.{Refusal}
+use Rattle.wi_app.specs.declared.refusal.Refusal.TheVariants.{CannotRead, CannotWrite, LargeCertificate, BadLine, NotAccepted, NotWritten, Memory}
+
+-- ---- written
+-- a maker's certificate for an answer to a problem; nothing speaks against it
+pub record IsCertificate (problem : Problem) (answer : Answer) (c : Certificate) : Type 0 where
+  pub problem_is : IsProblem problem
+  pub made : IsMaker problem answer c
+  pub accepted : IsAccepted problem c
+
+-- bytes are the text of a maker's certificate that isn't too long to be written
+pub record IsCertificateText (problem : Problem) (answer : Answer) (bytes : List ℕ) : Type 0 where
+  pub certificate : Certificate
+  pub is : IsCertificate problem answer certificate
+  pub text : IsText certificate bytes
+  pub short : length (closed_text certificate) ≤ 268000000
+
+-- the text stands under the name, if there is one
+abbrev pub IsStored : Option (List ℕ) → ShelfSeen → Problem → Answer → Type 0
+IsStored None shelf problem answer = Unit {0}
+IsStored (Some name) shelf problem answer = (bytes : List ℕ) × IsCertificateText problem answer bytes × (shelf.told ≡ true → shelf.file name ≡ Some bytes)
+
+-- there is a name to store under
+abbrev pub IsNamed : Option (List ℕ) → Type 0
+IsNamed file = (name : List ℕ) × (file ≡ Some name)
+
+-- an answer to the problem holds, and its certificate is too long to be written
+pub record IsTooLargeToWrite (problem : Problem) : Type 0 where
+  pub answer : Answer
+  pub holds : IsDecided problem answer
+  pub certificate : Certificate
+  pub is : IsCertificate problem answer certificate
+  pub long : 268000000 < length (closed_text certificate)
+
+-- a certificate is to be stored under the name, if there is one, and can't be
+abbrev pub FromStore : ShelfSeen → ShelfSeen → Problem → Option (List ℕ) → Refusal → Type 0
+FromStore old new problem file NotWritten = IsCalm old new × IsNamed file × IsTooLargeToWrite problem
+FromStore old new problem file (CannotWrite named) = StoreFailed file named.now old new
+FromStore old new problem file Memory = IsCalm old new
+FromStore old new problem file refusal = ⊥
+
+-- ---- checked
+-- bytes are the text of a certificate against which nothing speaks, for what texts ask of a network
+pub record IsAcceptedText (net : Net) (text : List ℕ) (weights : Option (List ℕ)) (bytes : List ℕ) (c : Certificate) : Type 0 where
+  pub query : Query
+  pub vector : List (List Part)
+  pub asked : IsAsked net text weights query vector
+  pub problem_is : IsProblem (problem_of net query vector)
+  pub reads : IsText c bytes
+  pub accepted : IsAccepted (problem_of net query vector) c
+  pub holds : IsDecided (problem_of net query vector) (answer_of (problem_of net query vector) c.shown)
+
+-- bytes are the file's, if the shelf tells it, and they aren't too many
+pub record IsCertificateFile (shelf : ShelfSeen) (name bytes : List ℕ) : Type 0 where
+  pub held : shelf.told ≡ true → shelf.file name ≡ Some bytes
+  pub short : length bytes ≤ 268435456
+
+-- this speaks against the certificate in a file, and nothing before it
+pub record IsRefusedFile (shelf : ShelfSeen) (problem : Problem) (name : List ℕ) (fault : CheckRefused) : Type 0 where
+  pub problem_is : IsProblem problem
+  pub bytes : List ℕ
+  pub held : IsCertificateFile shelf name bytes
+  pub certificate : Certificate
+  pub reads : IsText certificate bytes
+  pub refusal : IsRefusal problem certificate fault
+
+-- the certificate's file is the cause: it can't be read, is too large, has a bad line, or isn't believed
+abbrev pub FromCertificate : ShelfSeen → ShelfSeen → Problem → List ℕ → Refusal → Type 0
+FromCertificate old new problem name (CannotRead named) = FetchFailed named.now name old new
+FromCertificate old new problem name LargeCertificate = IsCalm old new × (old.told ≡ true → IsLonger (old.file name) 268435456)
+FromCertificate old new problem name (BadLine n) = IsCalm old new × ((bytes : List ℕ) × IsCertificateFile old name bytes × IsBadLine bytes n)
+FromCertificate old new problem name (NotAccepted fault terms) = IsCalm old new × (terms ≡ length problem.vector) × IsRefusedFile old problem name fault
+FromCertificate old new problem name Memory = IsCalm old new
+FromCertificate old new problem name refusal = ⊥

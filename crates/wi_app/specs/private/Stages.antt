@@ -1,0 +1,70 @@
+-- The causes and the outcomes of the steps within a command.
+use Rattle.std.specs.Prelude.{◌≡◌, ◌⊎◌, ℕ, ◌<◌, ◌≤◌, true, List, length, Option, Some, None}
+use Rattle.wi_base.specs.Shelf.{ShelfSeen, IsLonger}
+use Rattle.wi_net.specs.Net.{Net}
+use Rattle.wi_build.specs.Problems.{Problem, IsProblem}
+use Rattle.wi_cert.specs.declared.certificate.Certificate.{Certificate}
+use Rattle.wi_cert.specs.Text.{IsText, closed_text}
+use Rattle.wi_accept.specs.Answers.{IsDecided, answer_of, word_of}
+use Rattle.wi_accept.specs.Causes.{IsAccepted, IsRefusal}
+use Rattle.wi_report.specs.Reports.{accepted_text}
+use Rattle.wi_app.specs.declared.refusal.Refusal.{Refusal}
+use Rattle.wi_app.specs.declared.refusal.Refusal.TheVariants.{CannotRead, CannotWrite, Script as BadScript, LargeCertificate, NotAccepted, NotWritten, Memory}
+use Rattle.wi_app.specs.Asked.{AreBadTexts, ForAsked}
+use Rattle.wi_app.specs.Certificates.{FromCertificate, FromStore, IsNamed}
+use Rattle.wi_app.specs.Decided.{FromDecision, FromTexts}
+use Rattle.wi_app.specs.Run.{IsBadScript}
+use Rattle.wi_app.specs.Shelves.{FetchFailed, IsCalm, StoreFailed}
+
+-- ---- play
+-- the bytes of the script are the cause
+abbrev pub FromBytes : Net → ℕ → List ℕ → Refusal → Type 0
+FromBytes net k bytes (BadScript refused) = IsBadScript net k bytes refused
+FromBytes net k bytes Memory = Unit {0}
+FromBytes net k bytes refusal = ⊥
+
+-- ---- verify
+-- the texts are the cause, or what both ask, or its certificate is to be stored and can't be
+abbrev pub FromAnswering : ShelfSeen → ShelfSeen → Net → List ℕ → Option (List ℕ) → Option (List ℕ) → Refusal → Type 0
+FromAnswering old new net text weights file refusal = (FromTexts net text weights refusal × IsCalm old new) ⊎ ForAsked net text weights (λ problem. FromStore old new problem file refusal)
+
+-- what is asked is the cause, or its certificate is to be stored and can't be
+abbrev pub FromDeciding : ShelfSeen → ShelfSeen → Problem → Option (List ℕ) → Refusal → Type 0
+FromDeciding old new problem file refusal = (FromDecision problem refusal × IsCalm old new) ⊎ FromStore old new problem file refusal
+
+-- the certificate isn't too long to be written, and its text stands under the name, if there is one
+abbrev pub IsKept : Option (List ℕ) → ShelfSeen → Certificate → Type 0
+IsKept None shelf c = Unit {0}
+IsKept (Some name) shelf c = (bytes : List ℕ) × IsText c bytes × (length (closed_text c) ≤ 268000000) × (shelf.told ≡ true → shelf.file name ≡ Some bytes)
+
+-- it is too long, or the call that was to store it failed
+abbrev pub IsNotKept : ShelfSeen → ShelfSeen → Option (List ℕ) → Certificate → Refusal → Type 0
+IsNotKept old new file c NotWritten = IsCalm old new × IsNamed file × (268000000 < length (closed_text c))
+IsNotKept old new file c (CannotWrite named) = StoreFailed file named.now old new
+IsNotKept old new file c Memory = IsCalm old new
+IsNotKept old new file c refusal = ⊥
+
+-- ---- check
+-- the texts are the cause, or the certificate's file for what both ask
+abbrev pub FromChecking : ShelfSeen → ShelfSeen → Net → List ℕ → List ℕ → Option (List ℕ) → Refusal → Type 0
+FromChecking old new net text file weights refusal = (AreBadTexts net text weights refusal × IsCalm old new) ⊎ ForAsked net text weights (λ problem. FromCertificate old new problem file refusal)
+
+-- a part couldn't be fetched, or there are too many bytes
+abbrev pub FromParts : ShelfSeen → ShelfSeen → List ℕ → Refusal → Type 0
+FromParts old new name (CannotRead named) = FetchFailed named.now name old new
+FromParts old new name LargeCertificate = IsCalm old new × (old.told ≡ true → IsLonger (old.file name) 268435456)
+FromParts old new name Memory = IsCalm old new
+FromParts old new name refusal = ⊥
+
+-- nothing speaks against the certificate, its answer holds, and its word is told
+pub record IsBelieved (problem : Problem) (c : Certificate) (text : List ℕ) : Type 0 where
+  pub problem_is : IsProblem problem
+  pub accepted : IsAccepted problem c
+  pub holds : IsDecided problem (answer_of problem c.shown)
+  pub text_is : text ≡ accepted_text (word_of c.shown.claim)
+
+-- this speaks against the certificate
+abbrev pub IsNotBelieved : Problem → Certificate → Refusal → Type 0
+IsNotBelieved problem c (NotAccepted fault terms) = (terms ≡ length problem.vector) × IsRefusal problem c fault
+IsNotBelieved problem c Memory = Unit {0}
+IsNotBelieved problem c refusal = ⊥

@@ -1,0 +1,46 @@
+-- What is said of a certificate that isn't believed, or isn't the text of one.
+use Rattle.std.specs.Prelude.{ℕ, List, ◌++◌, codes}
+use Rattle.std.specs.Fmt.{decimal}
+use Rattle.wi_weight.specs.declared.kinds.Pair.{Pair}
+use Rattle.wi_weight.specs.declared.kinds.Terms.{Terms}
+use Rattle.wi_weight.specs.declared.kinds.Effort.{Effort}
+use Rattle.wi_cert.specs.declared.check_refused.Part.{Part}
+use Rattle.wi_cert.specs.declared.check_refused.Part.TheVariants.{First, Path, Last}
+use Rattle.wi_cert.specs.declared.check_refused.CheckRefused.{CheckRefused}
+use Rattle.wi_cert.specs.declared.check_refused.CheckRefused.TheVariants.{TermsDiffer, StepNotInTable, NoMatch, WeightDiffers, WrongAnswer, HeadMissing, PairMissing, GoalBelow, NotClosed, Memory}
+use Rattle.wi_report.specs.Reports.{numbers_shown}
+use Rattle.wi_report.specs.RefusedDecisions.{components_shown}
+
+-- the parts of a run count from 1
+abbrev pub part_number : Part → ℕ
+part_number First = 1
+part_number Path = 2
+part_number Last = 3
+
+-- the values of so many terms and the effort, each after a space
+abbrev pub components_listed : ℕ → Pair Terms Effort → List ℕ
+components_listed terms w = numbers_shown (components_shown terms w)
+
+-- two numbers with a space between
+abbrev pub two_shown : ℕ → ℕ → List ℕ
+two_shown a b = decimal a ++ codes " " ++ decimal b
+
+-- what is at fault, where runs are weighed by so many terms
+abbrev pub fault_words : ℕ → CheckRefused → List ℕ
+fault_words terms (TermsDiffer shown asked) = codes "terms shown " ++ decimal shown ++ codes ", asked " ++ decimal asked
+fault_words terms (StepNotInTable n) = codes "step " ++ decimal n ++ codes " not in table"
+fault_words terms (NoMatch part) = codes "part " ++ decimal (part_number part) ++ codes " does not match"
+fault_words terms (WeightDiffers shown counted) = codes "weight shown" ++ components_listed terms shown ++ codes ", counted" ++ components_listed terms counted
+fault_words terms WrongAnswer = codes "wrong answer"
+fault_words terms (HeadMissing p g) = codes "head " ++ two_shown p g ++ codes " missing"
+fault_words terms (PairMissing u v) = codes "pair " ++ two_shown u v ++ codes " missing"
+fault_words terms (GoalBelow w) = codes "goal at" ++ components_listed terms w
+fault_words terms (NotClosed head target sum) = codes "not closed at " ++ two_shown head.0 head.1 ++ codes " to " ++ decimal target ++ codes ", sum" ++ components_listed terms sum
+fault_words terms Memory = codes "out of memory"
+
+abbrev pub certificate_fault_text : ℕ → CheckRefused → List ℕ
+certificate_fault_text terms fault = codes "certificate: " ++ fault_words terms fault ++ codes "\n"
+
+-- the first line that isn't of the form asked in its place
+abbrev pub bad_line_text : ℕ → List ℕ
+bad_line_text n = codes "certificate: line " ++ decimal n ++ codes "\n"

@@ -1,0 +1,21 @@
+//! Tests of the program, over files and streams in memory: its worked answers, its faults and what stands after a call that fails.
+//! They need no more than `run`, and stand in a crate of their own because a crate with tests is proved once without them and once
+//! with them.
+#![tactic(auto)]
+
+#[cfg(test)]
+mod answers;
+#[cfg(test)]
+mod called;
+#[cfg(test)]
+mod certificates;
+#[cfg(test)]
+mod edges;
+#[cfg(test)]
+mod faults;
+#[cfg(test)]
+mod plays;
+#[cfg(test)]
+mod ring;
+#[cfg(test)]
+mod samples;

@@ -1,4 +1,4 @@
-use Rattle.std.proofs.Common.{◌≡◌, ◌≤◌, false, List, length, refl, sym, ◌∙◌, arith}
+use Rattle.std.proofs.Common.{◌≡◌, ◌≤◌, false, List, length, refl, sym, ◌∙◌, arith, rules}
 use Rattle.std.proofs.lemmas.Bool.{le-ltb}
 use Rattle.std.proofs.lemmas.Option.{slice_get_past}
 use Rattle.wi_labels.specs.declared.label.Label.{Label}
@@ -14,3 +14,6 @@ pub returns-else-label-counts : goal.returns-else-label-counts
 returns-else-label-counts c =
     le-ltb c.args.label.0 c.counts.result.labels c.if-label-counts.false
     ∙ sym (unknown c.args.net.now.classes c.args.label c.args.class (omega (arith, c.keeps.ensures.classes, c.counts.ensures.labels, c.if-label-counts.false)))
+
+pub returns-then-label-counts : goal.returns-then-label-counts
+returns-then-label-counts c = search rules

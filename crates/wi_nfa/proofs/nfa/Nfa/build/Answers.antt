@@ -1,4 +1,4 @@
-use Rattle.std.proofs.Common.{length, ap, arith}
+use Rattle.std.proofs.Common.{length, ap, arith, rules}
 use Rattle.wi_nfa.proofs.Building.{built, tables, count_rows, adds_from, square_as}
 use Rattle.wi_nfa.proofs.nfa.Nfa.build.Goals as goal
 
@@ -16,3 +16,6 @@ returns-clause-built g c =
     (let len = c.in_ok-after.ensures.len in let ok = c.in_ok-after.after.ok in let rows = ap length c.as_slice-table.ensures.value in let ok' = c.in_ok-marks.marks.ok in
     let size = c.in_ok-marks.ensures.count in let n = c.positions-n.ensures in let small = c.if-n-gt-POSITION_LIMIT.false in omega arith)
     c.in_ok-marks.ensures.follows c.in_ok-marks.ensures.ends (adds_from g.A.Atom.set _ _ _ c.new-atoms.ensures.items c.in_ok-push_atoms.ensures) c.in_ok-after.ensures.rows
+
+pub returns-clause-small : goal.returns-clause-small
+returns-clause-small c = search rules

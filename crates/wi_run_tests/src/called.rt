@@ -11,7 +11,7 @@ use wi_base::{FailingPut, MemoryShelf, MemorySink, Shelf};
 pub const ENDED_WITH_NO: &str = "1<answer: no\nmoving: no\n><>";
 
 /// What `run` ends with for these words.
-pub fn ran(alloc: Global, words: &[&str], shelf: &mut MemoryShelf) -> Result<String, AllocError> {
+pub fn ran(alloc: Global, words: &[&str], shelf: &mut MemoryShelf) -> Result<String, Fail> {
     ran_over(alloc, words, shelf, &[], &[])
 }
 
@@ -22,18 +22,38 @@ pub fn ran_over<S: Shelf>(
     shelf: &mut S,
     out_fails: &[FailingPut],
     err_fails: &[FailingPut],
-) -> Result<String, AllocError> {
+) -> Result<String, Fail> {
     let words = owned(alloc, words)?;
-    let out_fails = Vec::from_slice(alloc, out_fails)?;
-    let err_fails = Vec::from_slice(alloc, err_fails)?;
-    let mut out = MemorySink::failing(alloc, out_fails);
-    let mut err = MemorySink::failing(alloc, err_fails);
-    let status = run(alloc, words.as_slice(), shelf, &mut out, &mut err);
+    let said = ran_words(alloc, words.as_slice(), shelf, out_fails, err_fails);
     drop(words);
-    let said = ended(alloc, status, &out, &err);
-    drop(out);
-    drop(err);
     said
+}
+
+fn ran_words<S: Shelf>(
+    alloc: Global,
+    words: &[String],
+    shelf: &mut S,
+    out_fails: &[FailingPut],
+    err_fails: &[FailingPut],
+) -> Result<String, Fail> {
+    let mut out = sink(alloc, out_fails)?;
+    match sink(alloc, err_fails) {
+        Ok(mut err) => {
+            let status = run(alloc, words, shelf, &mut out, &mut err);
+            let said = ended(alloc, status, &out, &err);
+            drop(out);
+            drop(err);
+            Ok(said?)
+        }
+        Err(fail) => {
+            drop(out);
+            Err(fail)
+        }
+    }
+}
+
+fn sink(alloc: Global, fails: &[FailingPut]) -> Result<MemorySink, Fail> {
+    Ok(MemorySink::failing(alloc, Vec::from_slice(alloc, fails)?))
 }
 
 fn owned(alloc: Global, words: &[&str]) -> Result<Vec<String>, AllocError> {
@@ -84,7 +104,7 @@ pub fn weighed(
         None => ran(alloc, &["whatif", "verify", "n", query], &mut shelf),
     };
     drop(shelf);
-    Ok(said?)
+    said
 }
 
 /// The same without weights.
@@ -95,7 +115,9 @@ pub fn verified(alloc: Global, network: &[u8], query: &str) -> Result<String, Fa
 /// The same over the first network, one part of which was replaced.
 pub fn verified_with(alloc: Global, old: &str, new: &str, query: &str) -> Result<String, Fail> {
     let text = n1().replace(alloc, old, new)?;
-    verified(alloc, text.as_bytes(), query)
+    let said = verified(alloc, text.as_bytes(), query);
+    drop(text);
+    said
 }
 
 /// A query, and weights where there are some, with what `verify` is to end with.
@@ -109,8 +131,37 @@ pub fn cases_are(
     cases: &[Case],
 ) -> Result<(), Fail> {
     for (query, weights, wanted) in cases {
-        let said = weighed(alloc, network.as_bytes(), query, *weights)?;
-        assert_eq!(rt; said.as_str(), *wanted, "{query}");
+        let said = weighed(alloc, network.as_bytes(), query, *weights);
+        is_said(rt, said, wanted)?;
     }
+    Ok(())
+}
+
+/// This was said, and nothing else.
+pub fn is_said(rt: &impl Abort, said: Result<String, Fail>, wanted: &str) -> Result<(), Fail> {
+    is_said_between(rt, said, "", wanted, "")
+}
+
+/// This was said between a front and an end.
+pub fn is_said_between(
+    rt: &impl Abort,
+    said: Result<String, Fail>,
+    front: &str,
+    wanted: &str,
+    end: &str,
+) -> Result<(), Fail> {
+    let said = said?;
+    assert_eq!(rt; between(said.as_str(), front, end), Some(wanted));
+    Ok(())
+}
+
+fn between<'a>(text: &'a str, front: &str, end: &str) -> Option<&'a str> {
+    text.strip_prefix(front)?.strip_suffix(end)
+}
+
+/// What was said begins so.
+pub fn begins(rt: &impl Abort, said: Result<String, Fail>, front: &str) -> Result<(), Fail> {
+    let said = said?;
+    assert!(rt; said.starts_with(front));
     Ok(())
 }

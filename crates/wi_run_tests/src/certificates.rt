@@ -1,7 +1,7 @@
 //! Certificates that `verify` stores and `check` judges.
 ghost use Rattle.std.specs.Prelude.{None, false};
 
-use crate::called::{ran, ran_over, shelf_with};
+use crate::called::{Case, begins, is_said, is_said_between, ran, ran_over, shelf_with};
 use crate::samples::{n1, n2, n3};
 use std::alloc::Global;
 use std::marker::Model;
@@ -16,14 +16,14 @@ fn checked(
     weights: Option<&str>,
     shelf: &mut MemoryShelf,
 ) -> Result<String, Fail> {
-    Ok(match weights {
+    match weights {
         Some(text) => ran(
             alloc,
             &["whatif", "check", "n", query, "c", "--weights", text],
             shelf,
-        )?,
-        None => ran(alloc, &["whatif", "check", "n", query, "c"], shelf)?,
-    })
+        ),
+        None => ran(alloc, &["whatif", "check", "n", query, "c"], shelf),
+    }
 }
 
 // What `verify` ends with that stores its certificate under a name.
@@ -34,7 +34,7 @@ fn stored(
     file: &str,
     shelf: &mut MemoryShelf,
 ) -> Result<String, Fail> {
-    Ok(match weights {
+    match weights {
         Some(text) => ran(
             alloc,
             &[
@@ -48,13 +48,13 @@ fn stored(
                 file,
             ],
             shelf,
-        )?,
+        ),
         None => ran(
             alloc,
             &["whatif", "verify", "n", query, "--certificate", file],
             shelf,
-        )?,
-    })
+        ),
+    }
 }
 
 // What `check` ends with after `verify` on one shelf.
@@ -65,44 +65,53 @@ fn stored_and_checked(
     weights: Option<&str>,
 ) -> Result<String, Fail> {
     let mut shelf = shelf_with(alloc, network.as_bytes())?;
-    let said = match stored(alloc, query, weights, "c", &mut shelf) {
-        Ok(_) => checked(alloc, query, weights, &mut shelf),
-        Err(fail) => Err(fail),
-    };
+    if let Err(fail) = stored(alloc, query, weights, "c", &mut shelf) {
+        drop(shelf);
+        return Err(fail);
+    }
+    let said = checked(alloc, query, weights, &mut shelf);
     drop(shelf);
     said
 }
 
-#[test]
-fn what_is_stored_is_accepted(rt: HostRuntime) -> Result<(), Fail> {
-    let around = "<ip1> [x#a] [a#c] .* [b#y] <ip1> 1";
-    let cases: [(&str, &str, Option<&str>, &str); 9] = [
-        (n1(), "<ip1> [x#a] .* [b#y] <ip1> 0", Some("Hops"), "yes"),
-        (n1(), "<ip1> [x#a] [a#c] .* [b#y] <ip1> 0", None, "no"),
-        (n1(), around, Some("Hops, Distance+3*Tunnels"), "yes"),
-        (n1(), "<s10 ip1> [a#b]+ <smpls ip> 0", None, "yes"),
-        (n1(), "<30 ip1> .* <.*> 0", None, "no"),
-        (
-            n2(),
-            "<ip1> [x#a] [a#c] .* [b#z] <ip1> 1",
-            None,
-            "inconclusive",
-        ),
-        (n2(), "<ip1> [x#a] [a#c] .* [b#z] <ip1> 2", None, "yes"),
-        (n2(), "<ip1> [x#a] [a#c] .* [b#z] <ip1> 0", None, "no"),
-        (
-            n3(),
-            "<ip1> [x#a] [a#c] [c#a] [a#b] .* <ip1> 5",
-            None,
-            "inconclusive",
-        ),
-    ];
-    for (network, query, weights, word) in cases {
-        let said = stored_and_checked(rt.alloc(), network, query, weights)?;
-        let wanted = format!(in rt.alloc(); "0<accepted: {word}\n><>")?;
-        assert_eq!(rt; said.as_str(), wanted.as_str(), "{query}");
+// A query, weights where there are some, and the word of the answer that is accepted.
+const ON_N1: &[Case] = &[
+    ("<ip1> [x#a] .* [b#y] <ip1> 0", Some("Hops"), "yes"),
+    ("<ip1> [x#a] [a#c] .* [b#y] <ip1> 0", None, "no"),
+    (
+        "<ip1> [x#a] [a#c] .* [b#y] <ip1> 1",
+        Some("Hops, Distance+3*Tunnels"),
+        "yes",
+    ),
+    ("<s10 ip1> [a#b]+ <smpls ip> 0", None, "yes"),
+    ("<30 ip1> .* <.*> 0", None, "no"),
+];
+
+const ON_N2: &[Case] = &[
+    ("<ip1> [x#a] [a#c] .* [b#z] <ip1> 1", None, "inconclusive"),
+    ("<ip1> [x#a] [a#c] .* [b#z] <ip1> 2", None, "yes"),
+    ("<ip1> [x#a] [a#c] .* [b#z] <ip1> 0", None, "no"),
+];
+
+const ON_N3: &[Case] = &[(
+    "<ip1> [x#a] [a#c] [c#a] [a#b] .* <ip1> 5",
+    None,
+    "inconclusive",
+)];
+
+fn are_accepted(rt: &impl Abort, alloc: Global, network: &str, cases: &[Case]) -> Result<(), Fail> {
+    for (query, weights, word) in cases {
+        let said = stored_and_checked(alloc, network, query, *weights);
+        is_said_between(rt, said, "0<accepted: ", word, "\n><>")?;
     }
     Ok(())
+}
+
+#[test]
+fn what_is_stored_is_accepted(rt: HostRuntime) -> Result<(), Fail> {
+    are_accepted(&rt, rt.alloc(), n1(), ON_N1)?;
+    are_accepted(&rt, rt.alloc(), n2(), ON_N2)?;
+    are_accepted(&rt, rt.alloc(), n3(), ON_N3)
 }
 
 // The certificate of a yes: a packet with a label more that goes along one link.
@@ -112,7 +121,7 @@ const YES: &str =
 // Its query.
 const ONE_LINK: &str = "<s10 ip1> [a#b]+ <smpls ip> 0";
 
-// What `verify` stores, and what `check` says of bytes, for the query of one link.
+// What `check` says of bytes, for the query of one link.
 fn judged(alloc: Global, weights: Option<&str>, bytes: &str) -> Result<String, Fail> {
     let mut shelf = shelf_with(alloc, n1().as_bytes())?;
     if let Err(fail) = shelf.insert("c", bytes.as_bytes()) {
@@ -130,51 +139,61 @@ fn the_certificate_of_one_link(rt: HostRuntime) -> Result<(), Fail> {
     let said = stored(rt.alloc(), ONE_LINK, None, "c", &mut shelf);
     let is_stored = shelf.get("c") == Some(YES.as_bytes());
     drop(shelf);
-    let said = said?;
-    assert_eq!(rt;
-        said.as_str(),
-        "0<answer: yes\nweight: none\neffort: 8\nfailed: none\nmoving: yes\nlinks: 1\na.b#b.a | s10 ip1\n><>"
-    );
+    is_said(
+        &rt,
+        said,
+        "0<answer: yes\nweight: none\neffort: 8\nfailed: none\nmoving: yes\nlinks: 1\na.b#b.a | s10 ip1\n><>",
+    )?;
     assert!(rt; is_stored);
-    let said = judged(rt.alloc(), None, YES)?;
-    assert_eq!(rt; said.as_str(), "0<accepted: yes\n><>");
-    let said = judged(rt.alloc(), Some("Hops"), YES)?;
-    assert_eq!(rt; said.as_str(), "8<><certificate: terms shown 0, asked 1\n>");
     Ok(())
 }
 
 #[test]
+fn the_weights_are_a_part_of_what_is_asked(rt: HostRuntime) -> Result<(), Fail> {
+    let said = judged(rt.alloc(), None, YES);
+    is_said(&rt, said, "0<accepted: yes\n><>")?;
+    let said = judged(rt.alloc(), Some("Hops"), YES);
+    is_said(&rt, said, "8<><certificate: terms shown 0, asked 1\n>")
+}
+
+// What stands there, what stands in its place, and what is said.
+const CHANGED: &[(&str, &str, &str)] = &[
+    (
+        "rows 7\n2 2 6 3\n3 3 7 5\n4 0 1 7\n5 2 6 1\n6 3 7 1\n7 0 1 1\n11 2 6 2\n",
+        "rows 6\n2 2 6 3\n3 3 7 5\n4 0 1 7\n5 2 6 1\n6 3 7 1\n7 0 1 1\n",
+        "not closed at 11 2 to 6, sum 2",
+    ),
+    ("weight 8\n", "weight 9\n", "weight shown 9, counted 8"),
+    ("weight 8\n", "weight 08\n", "line 4"),
+    ("answer yes\n", "answer inconclusive\n", "wrong answer"),
+    ("pairs 2\n2 3\n3 0\n", "pairs 1\n2 3\n", "pair 3 0 missing"),
+    (
+        "heads 8\n0 0\n2 2\n3 3\n4 0\n5 2\n6 3\n7 0\n11 2\n",
+        "heads 7\n0 0\n2 2\n3 3\n4 0\n5 2\n6 3\n7 0\n",
+        "head 11 2 missing",
+    ),
+    ("first 1 1 2\n", "first 0 1 2\n", "part 2 does not match"),
+    ("steps 0\n", "steps 1\n2 1\n", "step 1 not in table"),
+    ("rows 7\n", "rows 8\n0 0 1 7\n", "goal at 7"),
+];
+
+fn is_told(rt: &impl Abort, alloc: Global, old: &str, new: &str, words: &str) -> Result<(), Fail> {
+    let text = YES.replace(alloc, old, new)?;
+    let said = judged(alloc, None, text.as_str());
+    drop(text);
+    is_said_between(rt, said, "8<><certificate: ", words, "\n>")
+}
+
+#[test]
 fn changed_certificates(rt: HostRuntime) -> Result<(), Fail> {
-    // What stands there, what stands in its place, and what is said.
-    let cases: [(&str, &str, &str); 6] = [
-        (
-            "7 0 1 1\n11 2 6 2\n",
-            "7 0 1 1\n",
-            "not closed at 11 2 to 6, sum 2",
-        ),
-        ("weight 8\n", "weight 9\n", "weight shown 9, counted 8"),
-        ("weight 8\n", "weight 08\n", "line 4"),
-        ("answer yes\n", "answer inconclusive\n", "wrong answer"),
-        ("pairs 2\n2 3\n3 0\n", "pairs 1\n2 3\n", "pair 3 0 missing"),
-        ("first 1 1 2\n", "first 0 1 2\n", "part 2 does not match"),
-    ];
-    for (old, new, words) in cases {
-        let text = YES.replace(rt.alloc(), old, new)?;
-        let text = text.replace(
-            rt.alloc(),
-            "rows 7\n2 2 6 3\n3 3 7 5\n4 0 1 7\n5 2 6 1\n6 3 7 1\n7 0 1 1\nend",
-            "rows 6\n2 2 6 3\n3 3 7 5\n4 0 1 7\n5 2 6 1\n6 3 7 1\n7 0 1 1\nend",
-        )?;
-        let said = judged(rt.alloc(), None, text.as_str())?;
-        let wanted = format!(in rt.alloc(); "8<><certificate: {words}\n>")?;
-        assert_eq!(rt; said.as_str(), wanted.as_str());
+    for (old, new, words) in CHANGED {
+        is_told(&rt, rt.alloc(), old, new, words)?;
     }
     // Cut after its fifteenth line.
-    let said = judged(rt.alloc(), None, YES.split_at(115).0)?;
-    assert_eq!(rt; said.as_str(), "8<><certificate: line 16\n>");
-    let said = judged(rt.alloc(), None, "")?;
-    assert_eq!(rt; said.as_str(), "8<><certificate: line 1\n>");
-    Ok(())
+    let said = judged(rt.alloc(), None, YES.split_at(115).0);
+    is_said(&rt, said, "8<><certificate: line 16\n>")?;
+    let said = judged(rt.alloc(), None, "");
+    is_said(&rt, said, "8<><certificate: line 1\n>")
 }
 
 #[test]
@@ -182,17 +201,17 @@ fn a_certificate_in_the_place_of_the_network(rt: HostRuntime) -> Result<(), Fail
     let mut shelf = shelf_with(rt.alloc(), n1().as_bytes())?;
     let said = stored(rt.alloc(), ONE_LINK, None, "n", &mut shelf);
     let is_stored = shelf.get("n") == Some(YES.as_bytes());
-    let again = ran(
+    drop(shelf);
+    begins(&rt, said, "0<answer: yes\n")?;
+    assert!(rt; is_stored);
+    let mut shelf = shelf_with(rt.alloc(), YES.as_bytes())?;
+    let said = ran(
         rt.alloc(),
         &["whatif", "check", "n", ONE_LINK, "n"],
         &mut shelf,
     );
     drop(shelf);
-    let said = said?;
-    assert!(rt; said.starts_with("0<answer: yes\n"));
-    assert!(rt; is_stored);
-    assert_eq!(rt; again?.as_str(), "3<><network: file: not JSON\n>");
-    Ok(())
+    is_said(&rt, said, "3<><network: file: not JSON\n>")
 }
 
 // A shelf each file of which, asked for in parts, has a byte more than the limit of certificates.
@@ -238,9 +257,5 @@ fn a_certificate_of_268435457_bytes_is_too_long(rt: HostRuntime) -> Result<(), F
     let words = ["whatif", "check", "n", ONE_LINK, "c"];
     let said = ran_over(alloc, &words, &mut shelf, &[], &[]);
     drop(shelf);
-    assert_eq!(rt;
-        said?.as_str(),
-        "8<><certificate: over the limit 268435456\n>"
-    );
-    Ok(())
+    is_said(&rt, said, "8<><certificate: over the limit 268435456\n>")
 }

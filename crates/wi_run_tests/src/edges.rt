@@ -1,5 +1,5 @@
 //! Calls that fail, and what then stands.
-use crate::called::{ran, ran_over, shelf_with};
+use crate::called::{ENDED_WITH_NO, is_said, ran, ran_over, shelf_with};
 use crate::samples::n1;
 use std::alloc::Global;
 use std::process::Abort;
@@ -15,13 +15,9 @@ fn a_file_that_is_not_there(rt: HostRuntime) -> Result<(), Fail> {
     let said = ran(rt.alloc(), ASKED, &mut absent);
     let failed = absent.failed().len();
     drop(absent);
-    equal(&rt, said?.as_str(), "10<><whatif: cannot read n\n>");
+    is_said(&rt, said, "10<><whatif: cannot read n\n>")?;
     assert_eq!(rt; failed, 1);
     Ok(())
-}
-
-fn equal(rt: &impl Abort, said: &str, wanted: &str) {
-    assert_eq!(rt; said, wanted);
 }
 
 // A shelf with the first network, the calls on which fail that have these numbers.
@@ -43,7 +39,7 @@ fn a_fetch_that_fails(rt: HostRuntime) -> Result<(), Fail> {
     let said = ran(rt.alloc(), ASKED, &mut shelf);
     let stands = shelf.get("n") == Some(n1().as_bytes());
     drop(shelf);
-    equal(&rt, said?.as_str(), "10<><whatif: cannot read n\n>");
+    is_said(&rt, said, "10<><whatif: cannot read n\n>")?;
     assert!(rt; stands);
     Ok(())
 }
@@ -53,70 +49,111 @@ fn after(taken: usize) -> FailingPut {
     FailingPut { call: 0, taken }
 }
 
+// What these words end with where the streams fail so.
+fn over_failing(
+    alloc: Global,
+    words: &[&str],
+    out_fails: &[FailingPut],
+    err_fails: &[FailingPut],
+) -> Result<String, Fail> {
+    let mut shelf = shelf_with(alloc, n1().as_bytes())?;
+    let said = ran_over(alloc, words, &mut shelf, out_fails, err_fails);
+    drop(shelf);
+    said
+}
+
 #[test]
 fn streams_that_fail(rt: HostRuntime) -> Result<(), Fail> {
     let alloc = rt.alloc();
-    let mut shelf = shelf_with(alloc, n1().as_bytes())?;
-    let printing = ran_over(alloc, ASKED, &mut shelf, &[after(5)], &[]);
-    let both = ran_over(alloc, ASKED, &mut shelf, &[after(0)], &[after(6)]);
-    let saying = ran_over(alloc, &["whatif"], &mut shelf, &[], &[after(5)]);
-    let unsaid = ran_over(alloc, &["whatif"], &mut shelf, &[], &[after(0)]);
-    drop(shelf);
-    equal(&rt, printing?.as_str(), "10<answe><whatif: cannot print\n>");
-    equal(&rt, both?.as_str(), "10<><whatif>");
-    equal(&rt, saying?.as_str(), "10<><usage>");
-    equal(&rt, unsaid?.as_str(), "10<><>");
-    Ok(())
+    let said = over_failing(alloc, ASKED, &[after(5)], &[]);
+    is_said(&rt, said, "10<answe><whatif: cannot print\n>")?;
+    let said = over_failing(alloc, ASKED, &[after(0)], &[after(6)]);
+    is_said(&rt, said, "10<><whatif>")?;
+    let said = over_failing(alloc, &["whatif"], &[], &[after(5)]);
+    is_said(&rt, said, "10<><usage>")?;
+    let said = over_failing(alloc, &["whatif"], &[], &[after(0)]);
+    is_said(&rt, said, "10<><>")
 }
 
-// What `verify` ends with that stores its certificate under `c`, and what then stands there.
-fn storing(
-    alloc: Global,
-    calls: &[u64],
-    out_fails: &[FailingPut],
-    wanted: &str,
-) -> Result<(String, bool), Fail> {
-    let mut shelf = failing(alloc, calls)?;
-    let words = [
-        "whatif",
-        "verify",
-        "n",
-        "<30 ip1> .* <.*> 0",
-        "--certificate",
-        "c",
-    ];
-    let said = ran_over(alloc, &words, &mut shelf, out_fails, &[]);
-    let stands = shelf.get("c") == Some(wanted.as_bytes());
-    let is_there = shelf.get("c").is_some();
-    drop(shelf);
-    Ok((said?, if wanted.is_empty() { !is_there } else { stands }))
-}
+// The words of a query that asks for a certificate: no run matches it, since the header that is asked for is no valid one.
+const ASKED_FOR_PROOF: &[&str] = &[
+    "whatif",
+    "verify",
+    "n",
+    "<30 ip1> .* <.*> 0",
+    "--certificate",
+    "c",
+];
 
-// The certificate that no run matches, since the header that is asked for is no valid one.
+// That certificate.
 const OF_A_NO: &str =
     "mpls-whatif-certificate 1\nterms 0\nanswer no\nweight none\nfirst none\nsteps 0\nheads 3\n0 0\n3 3\n4 0\npairs 1\n3 0\nrows 0\nend\n";
 
-#[test]
-fn certificates_are_stored_before_anything_is_printed(rt: HostRuntime) -> Result<(), Fail> {
-    let alloc = rt.alloc();
-    let (said, stands) = storing(alloc, &[], &[], OF_A_NO)?;
-    equal(&rt, said.as_str(), "1<answer: no\nmoving: no\n><>");
-    assert!(rt; stands);
-    let (said, stands) = storing(alloc, &[1], &[], "")?;
-    equal(&rt, said.as_str(), "10<><whatif: cannot write c\n>");
-    assert!(rt; stands);
-    let (said, stands) = storing(alloc, &[0], &[], "")?;
-    equal(&rt, said.as_str(), "10<><whatif: cannot read n\n>");
-    assert!(rt; stands);
+// What stands under `c`.
+#[derive(Clone, Copy, PartialEq, Eq, Debug)]
+enum Found {
+    Nothing,
+    Certificate,
+    Other,
+}
+
+fn what_stands(shelf: &MemoryShelf) -> Found {
+    match shelf.get("c") {
+        None => Found::Nothing,
+        Some(bytes) if bytes == OF_A_NO.as_bytes() => Found::Certificate,
+        Some(_) => Found::Other,
+    }
+}
+
+// Which calls on the shelf and on standard output fail, what `verify` ends with then, and what it stored.
+type Storing<'a> = (&'a [u64], &'a [FailingPut], &'a str, Found);
+
+const STORING: &[Storing] = &[
+    (&[], &[], ENDED_WITH_NO, Found::Certificate),
+    (&[1], &[], "10<><whatif: cannot write c\n>", Found::Nothing),
+    (&[0], &[], "10<><whatif: cannot read n\n>", Found::Nothing),
     // The certificate stands where printing fails.
-    let (said, stands) = storing(alloc, &[], &[after(5)], OF_A_NO)?;
-    equal(&rt, said.as_str(), "10<answe><whatif: cannot print\n>");
-    assert!(rt; stands);
+    (
+        &[],
+        &[FailingPut { call: 0, taken: 5 }],
+        "10<answe><whatif: cannot print\n>",
+        Found::Certificate,
+    ),
+];
+
+fn stores(rt: &impl Abort, alloc: Global, case: &Storing) -> Result<(), Fail> {
+    let (calls, out_fails, wanted, stored) = *case;
+    let mut shelf = failing(alloc, calls)?;
+    let said = ran_over(alloc, ASKED_FOR_PROOF, &mut shelf, out_fails, &[]);
+    let stands = what_stands(&shelf);
+    drop(shelf);
+    is_said(rt, said, wanted)?;
+    assert_eq!(rt; stands, stored);
     Ok(())
 }
 
-// What `check` of these bytes under `c` ends with, for the query of that certificate, and how many calls have failed.
-fn checking(alloc: Global, calls: &[u64], bytes: &str) -> Result<(String, usize), Fail> {
+#[test]
+fn certificates_are_stored_before_anything_is_printed(rt: HostRuntime) -> Result<(), Fail> {
+    for case in STORING {
+        stores(&rt, rt.alloc(), case)?;
+    }
+    Ok(())
+}
+
+// Which calls fail, the bytes under `c`, what `check` ends with, and how many calls have failed. A line that is bad is no cause to
+// stop before the end.
+type Checking<'a> = (&'a [u64], &'a str, &'a str, usize);
+
+const CHECKING: &[Checking] = &[
+    (&[], OF_A_NO, "0<accepted: no\n><>", 0),
+    (&[1], OF_A_NO, "10<><whatif: cannot read c\n>", 1),
+    (&[2], OF_A_NO, "10<><whatif: cannot read c\n>", 1),
+    (&[2], "no certificate\n", "10<><whatif: cannot read c\n>", 1),
+    (&[], "no certificate\n", "8<><certificate: line 1\n>", 0),
+];
+
+fn checks(rt: &impl Abort, alloc: Global, case: &Checking) -> Result<(), Fail> {
+    let (calls, bytes, wanted, count) = *case;
     let mut shelf = failing(alloc, calls)?;
     if let Err(fail) = shelf.insert("c", bytes.as_bytes()) {
         drop(shelf);
@@ -126,20 +163,15 @@ fn checking(alloc: Global, calls: &[u64], bytes: &str) -> Result<(String, usize)
     let said = ran(alloc, &words, &mut shelf);
     let failed = shelf.failed().len();
     drop(shelf);
-    Ok((said?, failed))
+    is_said(rt, said, wanted)?;
+    assert_eq!(rt; failed, count);
+    Ok(())
 }
 
 #[test]
 fn certificates_that_cannot_be_read(rt: HostRuntime) -> Result<(), Fail> {
-    let alloc = rt.alloc();
-    let (said, failed) = checking(alloc, &[], OF_A_NO)?;
-    equal(&rt, said.as_str(), "0<accepted: no\n><>");
-    assert_eq!(rt; failed, 0);
-    // The first part, and the one after it, which would have told the end. A line that is bad is no cause to stop.
-    for (call, bytes) in [(1, OF_A_NO), (2, OF_A_NO), (2, "no certificate\n")] {
-        let (said, failed) = checking(alloc, &[call], bytes)?;
-        equal(&rt, said.as_str(), "10<><whatif: cannot read c\n>");
-        assert_eq!(rt; failed, 1);
+    for case in CHECKING {
+        checks(&rt, rt.alloc(), case)?;
     }
     Ok(())
 }

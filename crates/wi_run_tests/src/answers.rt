@@ -241,7 +241,7 @@ fn doubling(alloc: Global, most: usize) -> Result<String, AllocError> {
         r#"],"smpls":["s1"],"ip":["ip1"]},"links":[{"from":"r","out":"o","to":"r","in":"i","distance":1}],"tables":[{"at":"r","in":"i","label":"d0","groups":[[{"out":"o","ops":[["pop"]]}]]}"#,
     )?;
     for below in 0..most {
-        put_row(&mut text, below)?;
+        put_row(&mut text, below, below + 1)?;
     }
     text.push_str("]}")?;
     Ok(text)
@@ -254,10 +254,10 @@ fn put_number(text: &mut String, number: usize) -> Result<(), AllocError> {
     put
 }
 
-// The row of the label above another.
-fn put_row(text: &mut String, below: usize) -> Result<(), AllocError> {
+// The row of a label that becomes two of the one below.
+fn put_row(text: &mut String, below: usize, number: usize) -> Result<(), AllocError> {
     text.push_str(r#",{"at":"r","in":"i","label":"d"#)?;
-    put_number(text, below + 1)?;
+    put_number(text, number)?;
     text.push_str(r#"","groups":[[{"out":"o","ops":[["swap","d"#)?;
     put_number(text, below)?;
     text.push_str(r#""],["push","d"#)?;

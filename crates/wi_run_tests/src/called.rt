@@ -1,4 +1,6 @@
 //! The program over files and streams in memory: what it ends with, as a text `STATUS<OUT><ERR>`.
+ghost use Rattle.std.specs.Prelude.{◌≡◌, IfOk};
+
 use crate::samples::n1;
 use std::alloc::{AllocError, Global};
 use std::process::Abort;
@@ -52,7 +54,9 @@ fn ran_words<S: Shelf>(
     }
 }
 
-fn sink(alloc: Global, fails: &[FailingPut]) -> Result<MemorySink, Fail> {
+fn sink(alloc: Global, fails: &[FailingPut]) -> Result<MemorySink, Fail>
+    ensures { IfOk result (λ sink. sink.faults ≡ 0) }
+{
     Ok(MemorySink::failing(alloc, Vec::from_slice(alloc, fails)?))
 }
 

@@ -1,4 +1,4 @@
-use Rattle.std.proofs.Common.{◌≡◌, ◌+◌, ◌≤◌, ◌∙◌, ap, length, rules, tests}
+use Rattle.std.proofs.Common.{◌≡◌, ◌+◌, ◌≤◌, length, rules, subst, tests}
 use Rattle.wi_cert.specs.Reading.{fed}
 use Rattle.wi_app.proofs.Outcomes.{same_shelf}
 use Rattle.wi_app.proofs.Parts.{reading_on}
@@ -10,4 +10,4 @@ loop-part-preserved g c =
     let few : c.loop-part.at + c.len.result ≤ 268435456 = search (rules, tests) in
     reading_on _ (g.S.Shelf.seen c.loop-part.shelf) (g.S.Shelf.seen c.next_part.new.shelf) c.args.name.now c.in_ok-part.part.items c.loop-part.at c.len.result c.loop-part.feeder c.take_part.new.feeder c.loop-part.invariant
     (same_shelf _ _ c.in_ok-part.ensures.told c.in_ok-part.ensures.files c.in_ok-part.ensures.calm) c.in_ok-part.ensures.part count few
-    (c.in_ok-take_part.ensures.fed ∙ ap (λ bytes. fed c.loop-part.feeder bytes) c.as_slice.ensures.value)
+    (subst (λ bytes. c.take_part.new.feeder ≡ fed c.loop-part.feeder bytes) c.as_slice.ensures.value c.in_ok-take_part.ensures.fed)

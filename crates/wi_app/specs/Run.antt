@@ -135,7 +135,7 @@ pub record IsDone (words : List (List ℕ)) (shelf_old shelf_new : ShelfSeen) (o
   pub calm : IsCalm shelf_old shelf_new
   pub printed : Prints status text out_old out_new err_old err_new result
 
--- the program refused: it has a cause, nothing was stored or printed, and it was said why
+-- the program refused: it has a cause, which says what is left of files, nothing was printed, and it was said why
 pub record IsRefused (words : List (List ℕ)) (shelf_old shelf_new : ShelfSeen) (out_old out_new err_old err_new : SinkSeen) (result : ℕ) : Type 0 where
   pub refusal : Refusal
   pub cause : FromWords shelf_old shelf_new (command_of words) refusal

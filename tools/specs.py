@@ -209,6 +209,9 @@ class World:
                 found.update((name.strip(), many.group(1)) for name in many.group(2).split(",") if name.strip())
             elif one := re.match(r"([\w:]+)::(\w+)$", text):
                 found[one.group(2)] = one.group(1)
+        for line in source.lines if source else []:
+            if own := re.match(r"pub (?:fn|struct|enum|trait) (\w+)", line):
+                found[own.group(1)] = "lib"
         return found
 
     def exported(self, crate, name):

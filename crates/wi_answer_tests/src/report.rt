@@ -73,51 +73,54 @@ fn each_state_has_a_line(rt: HostRuntime) -> Result<(), Fail> {
     said
 }
 
+// The line and the cause of a fault, and its text.
+const SCRIPT_FAULTS: &[(usize, ScriptCause, &str)] = &[
+    (1, ScriptCause::NotAnEvent, "script: line 1: not an event\n"),
+    (
+        2,
+        ScriptCause::UnknownName,
+        "script: line 2: unknown name\n",
+    ),
+    (1, ScriptCause::BadHeader, "script: line 1: bad header\n"),
+    (
+        10,
+        ScriptCause::AlreadyFailed,
+        "script: line 10: already failed\n",
+    ),
+    (3, ScriptCause::NotFailed, "script: line 3: not failed\n"),
+    (
+        2,
+        ScriptCause::TooManyFailed,
+        "script: line 2: too many failed\n",
+    ),
+    (
+        4,
+        ScriptCause::NoSuchGroup,
+        "script: line 4: no such group\n",
+    ),
+    (
+        5,
+        ScriptCause::NoSuchMember,
+        "script: line 5: no such member\n",
+    ),
+    (
+        6,
+        ScriptCause::NotFirstActive,
+        "script: line 6: not the first active group\n",
+    ),
+    (7, ScriptCause::LinkFailed, "script: line 7: link failed\n"),
+    (
+        8,
+        ScriptCause::Undefined(1),
+        "script: line 8: operation 2 undefined\n",
+    ),
+];
+
 #[test]
 fn faults_of_scripts_have_texts(rt: HostRuntime) -> Result<(), Fail> {
     let alloc = rt.alloc();
-    for (line, cause, said) in [
-        (1, ScriptCause::NotAnEvent, "script: line 1: not an event\n"),
-        (
-            2,
-            ScriptCause::UnknownName,
-            "script: line 2: unknown name\n",
-        ),
-        (1, ScriptCause::BadHeader, "script: line 1: bad header\n"),
-        (
-            10,
-            ScriptCause::AlreadyFailed,
-            "script: line 10: already failed\n",
-        ),
-        (3, ScriptCause::NotFailed, "script: line 3: not failed\n"),
-        (
-            2,
-            ScriptCause::TooManyFailed,
-            "script: line 2: too many failed\n",
-        ),
-        (
-            4,
-            ScriptCause::NoSuchGroup,
-            "script: line 4: no such group\n",
-        ),
-        (
-            5,
-            ScriptCause::NoSuchMember,
-            "script: line 5: no such member\n",
-        ),
-        (
-            6,
-            ScriptCause::NotFirstActive,
-            "script: line 6: not the first active group\n",
-        ),
-        (7, ScriptCause::LinkFailed, "script: line 7: link failed\n"),
-        (
-            8,
-            ScriptCause::Undefined(1),
-            "script: line 8: operation 2 undefined\n",
-        ),
-    ] {
-        let refused = ScriptRefused::BadLine(line, cause);
+    for (line, cause, said) in SCRIPT_FAULTS {
+        let refused = ScriptRefused::BadLine(*line, *cause);
         says(&rt, script_fault_text(alloc, &refused), said)?;
     }
     says(
@@ -223,33 +226,36 @@ fn faults_of_queries_have_texts(rt: HostRuntime) -> Result<(), Fail> {
     said
 }
 
+// A fault, and its text.
+const NETWORK_FAULTS: &[(NetFault, &str)] = &[
+    (NetFault::NotJson(Place::File), "network: file: not JSON\n"),
+    (
+        NetFault::WrongShape(Place::Format),
+        "network: format: wrong shape\n",
+    ),
+    (
+        NetFault::OverLimit(Place::File, 67_108_864),
+        "network: file: over the limit 67108864\n",
+    ),
+    (
+        NetFault::InterfaceTaken(Place::LinkPart(3, LinkPart::In)),
+        "network: links[3].in: interface taken\n",
+    ),
+    (
+        NetFault::BadOperation(Place::Operation(1, 2, 3, 4)),
+        "network: tables[1].groups[2][3].ops[4]: bad operation\n",
+    ),
+    (
+        NetFault::RepeatedLabel(Place::LabelName(Class::Smpls, 5)),
+        "network: labels.smpls[5]: repeated label\n",
+    ),
+];
+
 #[test]
 fn faults_of_networks_have_texts(rt: HostRuntime) -> Result<(), Fail> {
     let alloc = rt.alloc();
-    for (fault, said) in [
-        (NetFault::NotJson(Place::File), "network: file: not JSON\n"),
-        (
-            NetFault::WrongShape(Place::Format),
-            "network: format: wrong shape\n",
-        ),
-        (
-            NetFault::OverLimit(Place::File, 67_108_864),
-            "network: file: over the limit 67108864\n",
-        ),
-        (
-            NetFault::InterfaceTaken(Place::LinkPart(3, LinkPart::In)),
-            "network: links[3].in: interface taken\n",
-        ),
-        (
-            NetFault::BadOperation(Place::Operation(1, 2, 3, 4)),
-            "network: tables[1].groups[2][3].ops[4]: bad operation\n",
-        ),
-        (
-            NetFault::RepeatedLabel(Place::LabelName(Class::Smpls, 5)),
-            "network: labels.smpls[5]: repeated label\n",
-        ),
-    ] {
-        says(&rt, network_fault_text(alloc, fault), said)?;
+    for (fault, said) in NETWORK_FAULTS {
+        says(&rt, network_fault_text(alloc, *fault), said)?;
     }
     Ok(())
 }
@@ -585,31 +591,34 @@ fn an_inconclusive_shows_why(rt: HostRuntime) -> Result<(), Fail> {
 // 2^64
 const TOO_LARGE: u128 = 18_446_744_073_709_551_616;
 
+// The terms and the effort of a weight that does not fit, how many terms are shown, and the text.
+const OVERFLOWS: &[([u128; 5], u128, usize, &str)] = &[
+    (
+        NO_TERM,
+        27_670_116_110_564_327_421,
+        0,
+        "overflow: component 1 is 27670116110564327421\n",
+    ),
+    (
+        [1, TOO_LARGE, 0, 0, 0],
+        TOO_LARGE + 1,
+        2,
+        "overflow: component 2 is 18446744073709551616\n",
+    ),
+    (
+        [1, 0, 0, 0, 0],
+        TOO_LARGE,
+        1,
+        "overflow: component 2 is 18446744073709551616\n",
+    ),
+];
+
 #[test]
 fn refused_decisions_have_texts(rt: HostRuntime) -> Result<(), Fail> {
     let alloc = rt.alloc();
-    for (parts, effort, terms, said) in [
-        (
-            NO_TERM,
-            27_670_116_110_564_327_421,
-            0,
-            "overflow: component 1 is 27670116110564327421\n",
-        ),
-        (
-            [1, TOO_LARGE, 0, 0, 0],
-            TOO_LARGE + 1,
-            2,
-            "overflow: component 2 is 18446744073709551616\n",
-        ),
-        (
-            [1, 0, 0, 0, 0],
-            TOO_LARGE,
-            1,
-            "overflow: component 2 is 18446744073709551616\n",
-        ),
-    ] {
-        let weight = weight_of(parts, effort);
-        says(&rt, overflow_text(alloc, &weight, terms), said)?;
+    for (parts, effort, terms, said) in OVERFLOWS {
+        let weight = weight_of(*parts, *effort);
+        says(&rt, overflow_text(alloc, &weight, *terms), said)?;
     }
     says(
         &rt,

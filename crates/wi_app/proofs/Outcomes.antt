@@ -1,6 +1,6 @@
 -- From what is found to what the program does.
 use Rattle.std.proofs.Common.{◌≡◌, ◌≢◌, ℕ, ◌<◌, ◌≤◌, nat_eq, ◌⊎◌, inl, inr, Bool, true, false, List, [], ◌∷◌, ◌++◌, length, length-append, Option, Some, None, Result, Ok, Err, refl, sym, ap, subst, ◌∙◌, arith}
-use Rattle.std.specs.Prelude.{codes, IfOk, IfErr}
+use Rattle.std.specs.Prelude.{codes, IfOk, IfErr, OnOk}
 use Rattle.std.specs.Result.{IsErrAnd}
 use Rattle.std.specs.Str.{bytes_eq}
 use Rattle.std.proofs.lemmas.Slice.Eq.{bytes_eq-Decides}
@@ -18,10 +18,14 @@ use Rattle.wi_world.specs.declared.world.State.{State}
 use Rattle.wi_query.specs.Meaning.{IsQuery}
 use Rattle.wi_query.specs.declared.query.Query.{Query}
 use Rattle.wi_query.proofs.Fine.{query_fine}
-use Rattle.wi_quantity.specs.Faults.{Means}
+use Rattle.wi_query.specs.declared.fault.QueryFault.{QueryFault}
+use Rattle.wi_query.specs.declared.fault.QueryFault.TheVariants as query_fault
+use Rattle.wi_query.specs.Faults.{IsFault as IsQueryFault}
+use Rattle.wi_quantity.specs.Faults.{Means, IsFault as IsWeightsFault}
 use Rattle.wi_quantity.specs.declared.vector.Part.{Part}
 use Rattle.wi_quantity.specs.Weighing.{components}
 use Rattle.wi_quantity.specs.declared.fault.WeightFault.{WeightFault}
+use Rattle.wi_quantity.specs.declared.fault.WeightFault.TheVariants as weight_fault
 use Rattle.wi_quantity.proofs.Fine.{text_fine}
 use Rattle.wi_script.specs.declared.script.ScriptRefused.{ScriptRefused}
 use Rattle.wi_script.specs.declared.script.ScriptRefused.TheVariants.{BadLine, Memory as ScriptMemory}
@@ -38,14 +42,18 @@ use Rattle.wi_accept.specs.Answers.{IsDecided, word_of}
 use Rattle.wi_accept.specs.Causes.{IsAccepted, IsCause}
 use Rattle.wi_accept.proofs.OneReading.{accept_the_same}
 use Rattle.wi_decide.specs.Refusals.{IsUnrefused}
+use Rattle.wi_gen.specs.Ring.{net_of, ring_of}
+use Rattle.wi_gen.specs.Texts.{query_text, weights_text}
 use Rattle.wi_report.specs.Reports.{accepted_text, report_of}
-use Rattle.wi_words.specs.Commands.{Command, Verify, Check, Play, command_of}
+use Rattle.wi_report.specs.Summaries.{summary_of}
+use Rattle.wi_words.specs.Commands.{Command, Verify, Check, Play, Gen, command_of}
 use Rattle.wi_app.specs.Texts.{text_of, status_of, IsPutTogether}
 use Rattle.wi_app.specs.Edges.{Says, SaysWhy, kept}
 use Rattle.wi_app.specs.Shelves.{AllStand, IsCalm, OthersStand}
 use Rattle.wi_app.specs.Asked.{AreBadTexts, ForAsked, IsAsked, IsBadQuery, IsBadWeights, WeighsBy}
 use Rattle.wi_app.specs.Certificates.{FromCertificate, FromStore, IsAcceptedText, IsCertificate, IsCertificateFile, IsStored}
 use Rattle.wi_app.specs.Decided.{FromDecision, FromTexts, IsAnswer, IsReported, status_for}
+use Rattle.wi_app.specs.Generated.{FromRing, IsSummary, IsSummed}
 use Rattle.wi_app.specs.Run.{AreAnswered, IsAnswered, IsStatus, HoldsNetwork, IsPlay, FileHasFault, FromNetwork, IsBadScript, FromScript, FromCommand, FromWords, CanBeAnswered, IsLeft, Prints, Completes}
 use Rattle.wi_app.specs.private.Stages.{FromAnswering, FromBytes, FromChecking, FromDeciding, IsBelieved, IsKept, IsNotBelieved, IsNotKept}
 use Rattle.wi_app.specs.declared.answer.Printed.{Printed}
@@ -177,17 +185,17 @@ check_refused (Err refusal) old later new name query file weights net same holds
 ]
 
 pub believed_accepted : (r : Result Printed Refusal) (shelf : ShelfSeen) (net : Net) (text file : List ℕ) (weights : Option (List ℕ)) (query : Query) (vector : List (List Part)) → IsAsked net text weights query vector
-    → IfOk r (λ printed. (bytes : List ℕ) × (c : Certificate) × IsCertificateFile shelf file bytes × IsText c bytes × IsBelieved (problem_of net query vector) c printed.text)
+    → IfOk r (λ printed. (bytes : List ℕ) × (c : Certificate) × IsCertificateFile shelf file bytes × IsText c bytes × IsBelieved (problem_of net query vector) c × (printed.text ≡ accepted_text (word_of c.shown.claim)))
     → IfOk r (λ printed. (bytes : List ℕ) × (c : Certificate) × IsCertificateFile shelf file bytes × IsAcceptedText net text weights bytes c × (printed.text ≡ accepted_text (word_of c.shown.claim)))
 believed_accepted (Ok printed) shelf net text file weights query vector asked found =
     let b = found.4 in
-    (found.0, found.1, found.2, record { query = query; vector = vector; asked = asked; problem_is = b.problem_is; reads = found.3; accepted = b.accepted; holds = b.holds }, b.text_is)
+    (found.0, found.1, found.2, record { query = query; vector = vector; asked = asked; problem_is = b.problem_is; reads = found.3; accepted = b.accepted; holds = b.holds }, found.5)
 believed_accepted (Err refusal) shelf net text file weights query vector asked found = tt
 
-pub file_believed : (r : Result Printed Refusal) (shelf : ShelfSeen) (problem : Problem) (file bytes : List ℕ) (c : Certificate) → IsCertificateFile shelf file bytes → IsText c bytes → IfOk r (λ printed. IsBelieved problem c printed.text)
-    → IfOk r (λ printed. (bytes : List ℕ) × (c : Certificate) × IsCertificateFile shelf file bytes × IsText c bytes × IsBelieved problem c printed.text)
-file_believed (Ok printed) shelf problem file bytes c held reads b = (bytes, c, held, reads, b)
-file_believed (Err refusal) shelf problem file bytes c held reads b = tt
+pub file_believed : (r : Result Printed Refusal) (shelf : ShelfSeen) (problem : Problem) (file bytes : List ℕ) (c : Certificate) → IsCertificateFile shelf file bytes → IsText c bytes → OnOk r (IsBelieved problem c) → IfOk r (λ printed. printed.text ≡ accepted_text (word_of c.shown.claim))
+    → IfOk r (λ printed. (bytes : List ℕ) × (c : Certificate) × IsCertificateFile shelf file bytes × IsText c bytes × IsBelieved problem c × (printed.text ≡ accepted_text (word_of c.shown.claim)))
+file_believed (Ok printed) shelf problem file bytes c held reads believed text = (bytes, c, held, reads, believed, text)
+file_believed (Err refusal) shelf problem file bytes c held reads believed text = tt
 
 not_believed : (old new : ShelfSeen) (problem : Problem) (file bytes : List ℕ) (c : Certificate) (refusal : Refusal) → IsProblem problem → IsCalm old new → IsCertificateFile old file bytes → IsText c bytes → IsNotBelieved problem c refusal
     → FromCertificate old new problem file refusal
@@ -238,6 +246,89 @@ bytes_refused (Ok printed) old new net name k bytes read same held short calm ca
 bytes_refused (Err refusal) old new net name k bytes read same held short calm cause =
     from_bytes old new net name k bytes refusal held short calm (subst (λ (b : List ℕ). FromBytes net k b refusal) same cause)
 
+-- ---- gen
+
+-- a summary is an answer to a command
+pub ring_answered : (r : Result Printed Refusal) (old new : ShelfSeen) (seed size : ℕ) → IfOk r (λ printed. printed.status ≡ 0) → IfOk r (λ printed. IsSummary seed size printed.text) → IfOk r (λ printed. IsAnswered old new (Gen seed size) printed.status printed.text)
+ring_answered (Ok printed) old new seed size status summary = (summary, status)
+ring_answered (Err refusal) old new seed size status summary = tt
+
+-- what is asked of a network by texts is asked of a ring by its own, where they are these
+asked_of_ring : (seed size : ℕ) (net : Net) (text weights : List ℕ) (query : Query) (vector : List (List Part)) → net ≡ net_of (ring_of seed size) → text ≡ query_text (ring_of seed size) → weights ≡ weights_text
+    → IsAsked net text (Some weights) query vector → IsAsked (net_of (ring_of seed size)) (query_text (ring_of seed size)) (Some weights_text) query vector
+asked_of_ring seed size net text weights query vector own same light asked =
+    subst (λ n. IsAsked n (query_text (ring_of seed size)) (Some weights_text) query vector) own
+    (subst (λ t. IsAsked net t (Some weights_text) query vector) same (subst (λ w. IsAsked net text (Some w) query vector) light asked))
+
+-- a problem that they ask is summed
+pub ring_summed : (r : Result Printed Refusal) (seed size : ℕ) (net : Net) (text weights : List ℕ) (query : Query) (vector : List (List Part)) → net ≡ net_of (ring_of seed size) → text ≡ query_text (ring_of seed size) → weights ≡ weights_text
+    → IsAsked net text (Some weights) query vector → IfOk r (λ printed. IsSummed seed size (problem_of net query vector) printed.text) → IfOk r (λ printed. IsSummary seed size printed.text)
+ring_summed (Ok printed) seed size net text weights query vector own same light asked summed =
+    (query, vector, asked_of_ring seed size net text weights query vector own same light asked, subst (λ n. IsSummed seed size (problem_of n query vector) printed.text) own summed)
+ring_summed (Err refusal) seed size net text weights query vector own same light asked summed = tt
+
+-- or isn't decided
+from_ring : (seed size : ℕ) (query : Query) (vector : List (List Part)) (refusal : Refusal) → IsAsked (net_of (ring_of seed size)) (query_text (ring_of seed size)) (Some weights_text) query vector
+    → FromDecision (problem_of (net_of (ring_of seed size)) query vector) refusal → FromRing seed size refusal
+from_ring seed size query vector (Overflow w terms) asked cause = (query, vector, asked, cause)
+from_ring seed size query vector (TooLong effort) asked cause = (query, vector, asked, cause)
+from_ring seed size query vector Memory asked cause = tt
+from_ring seed size query vector refusal asked cause = elim cause [ ]
+
+pub ring_refused : (r : Result Printed Refusal) (seed size : ℕ) (net : Net) (text weights : List ℕ) (query : Query) (vector : List (List Part)) → net ≡ net_of (ring_of seed size) → text ≡ query_text (ring_of seed size) → weights ≡ weights_text
+    → IsAsked net text (Some weights) query vector → IfErr r (λ refusal. FromDecision (problem_of net query vector) refusal) → IfErr r (λ refusal. FromRing seed size refusal)
+ring_refused (Ok printed) seed size net text weights query vector own same light asked cause = tt
+ring_refused (Err refusal) seed size net text weights query vector own same light asked cause =
+    from_ring seed size query vector refusal (asked_of_ring seed size net text weights query vector own same light asked) (subst (λ n. FromDecision (problem_of n query vector) refusal) own cause)
+
+-- texts without a fault are the cause of nothing but want of memory
+fine_query : (net : Net) (text : List ℕ) (refusal : Refusal) → ((fault : QueryFault) → IsQueryFault net text fault → fault ≡ query_fault.Memory) → IsBadQuery net text refusal → refusal ≡ Memory
+fine_query net text (BadQuery said) fine cause = absurd (cause.due (fine cause.fault cause.first))
+fine_query net text Memory fine cause = refl
+fine_query net text refusal fine cause = elim cause [ ]
+
+fine_weights : (text : List ℕ) (refusal : Refusal) → ((fault : WeightFault) → IsWeightsFault text fault → fault ≡ weight_fault.Memory) → IsBadWeights (Some text) refusal → refusal ≡ Memory
+fine_weights text (BadWeights fault) fine cause =
+    let own : text ≡ cause.0 = some_same text cause.0 cause.1 in
+    absurd (cause.2 (fine fault (subst (λ t. IsWeightsFault t fault) (sym own) cause.3)))
+  where
+    some_same : (a b : List ℕ) → Some a ≡ Some b → a ≡ b
+    some_same a b same = cc
+fine_weights text Memory fine cause = refl
+fine_weights text refusal fine cause = elim cause [ ]
+
+fine_texts : (net : Net) (text weights : List ℕ) (refusal : Refusal) → ((fault : QueryFault) → IsQueryFault net text fault → fault ≡ query_fault.Memory) → ((fault : WeightFault) → IsWeightsFault weights fault → fault ≡ weight_fault.Memory)
+    → AreBadTexts net text (Some weights) refusal → refusal ≡ Memory
+fine_texts net text weights refusal query light (inl bad) = fine_query net text refusal query bad
+fine_texts net text weights refusal query light (inr bad) = fine_weights weights refusal light bad.2
+
+-- and a ring's have none
+pub ring_is_read : (seed size : ℕ) (net : Net) (text weights : List ℕ) (refusal : Refusal) → net ≡ net_of (ring_of seed size) → text ≡ query_text (ring_of seed size) → weights ≡ weights_text
+    → ((fault : QueryFault) → IsQueryFault (net_of (ring_of seed size)) (query_text (ring_of seed size)) fault → fault ≡ query_fault.Memory) → ((fault : WeightFault) → IsWeightsFault weights_text fault → fault ≡ weight_fault.Memory)
+    → AreBadTexts net text (Some weights) refusal → FromRing seed size refusal
+ring_is_read seed size net text weights refusal own same light query fine bad =
+    let bad_at : AreBadTexts (net_of (ring_of seed size)) (query_text (ring_of seed size)) (Some weights_text) refusal =
+    subst (λ n. AreBadTexts n (query_text (ring_of seed size)) (Some weights_text) refusal) own
+    (subst (λ t. AreBadTexts net t (Some weights_text) refusal) same (subst (λ w. AreBadTexts net text (Some w) refusal) light bad)) in
+    let wants : refusal ≡ Memory = fine_texts (net_of (ring_of seed size)) (query_text (ring_of seed size)) weights_text refusal query fine bad_at in
+    subst (FromRing seed size) (sym wants) tt
+
+-- a decided problem is summed, once its certificate is accepted
+pub decided_summed : (r : Result Printed Refusal) (seed size : ℕ) (problem : Problem) (answer : Answer) (c : Certificate) → IsDecided problem answer → IsUnrefused problem answer → IsCertificate problem answer c
+    → IfOk r (λ printed. printed.text ≡ summary_of seed size problem.net problem.bounds (length problem.vector) answer) → IfOk r (λ printed. IsSummed seed size problem printed.text)
+decided_summed (Ok printed) seed size problem answer c holds shown is text = record { answer = answer; holds = holds; shown = shown; certificate = c; is = is; text_is = text }
+decided_summed (Err refusal) seed size problem answer c holds shown is text = tt
+
+-- the certificate of a decided problem is accepted, so only memory can be wanting
+pub decided_believed : (r : Result Printed Refusal) (problem : Problem) (c : Certificate) → IsAccepted problem c → IfErr r (λ refusal. IsNotBelieved problem c refusal) → IfErr r (λ refusal. FromDecision problem refusal)
+decided_believed (Ok printed) problem c accepted cause = tt
+decided_believed (Err refusal) problem c accepted cause = no_cause refusal cause
+  where
+    no_cause : (refusal : Refusal) → IsNotBelieved problem c refusal → FromDecision problem refusal
+    no_cause (NotAccepted fault terms) cause = absurd (accepted fault cause.1.cause)
+    no_cause Memory cause = tt
+    no_cause refusal cause = elim cause [ ]
+
 -- ---- what is said of a refusal
 
 pub said_words : (refusal known : Refusal) (status : ℕ) (old new : SinkSeen) (result : ℕ) → refusal ≡ known → status ≡ status_of refusal → Says (text_of known) status old new result → SaysWhy refusal old new result
@@ -256,6 +347,7 @@ words_memory held None = refl
 words_memory held (Some (Verify name query weights file)) = inl refl
 words_memory held (Some (Check name query file weights)) = inl refl
 words_memory held (Some (Play name script k)) = inl refl
+words_memory held (Some (Gen seed size)) = (refl, tt)
 
 -- ---- where all is fine, only memory is wanting
 
@@ -334,7 +426,7 @@ query_wants net text query refusal reads cause = elim cause [ ]
 vector_wants : (given : Option (List ℕ)) (vector : List (List Part)) (refusal : Refusal) → WeighsBy given vector → IsBadWeights given refusal → status_of refusal ≡ 11
 vector_wants given vector (BadWeights f) weighs cause =
     let means : Means cause.0 vector = subst (λ o. WeighsBy o vector) cause.1 weighs in
-    subst (λ (x : WeightFault). status_of (BadWeights x) ≡ 11) (sym (text_fine cause.0 vector f means cause.2)) refl
+    absurd (cause.2 (text_fine cause.0 vector f means cause.3))
 vector_wants given vector Memory weighs cause = refl
 vector_wants given vector refusal weighs cause = elim cause [ ]
 
@@ -346,15 +438,15 @@ texts_want net text given query vector refusal asked (inr bad) = vector_wants gi
 -- a problem that isn't decided ends with its refusal
 decision_ends : (held : ShelfSeen) (name text : List ℕ) (given file : Option (List ℕ)) (net : Net) (query : Query) (vector : List (List Part)) (refusal : Refusal) → HoldsNetwork (held.file name) net → IsAsked net text given query vector
     → FromDecision (problem_of net query vector) refusal → Ends held (Verify name text given file) refusal
-decision_ends held name text given file net query vector (Overflow w terms) holds asked cause = (refl, inr (net, holds, (query, vector, asked, inr (inr (inr (inl (refl, (components w, cause.0))))))))
-decision_ends held name text given file net query vector (TooLong effort) holds asked cause = (refl, inr (net, holds, (query, vector, asked, inr (inr (inr (inr (inl (refl, (effort, cause)))))))))
+decision_ends held name text given file net query vector (Overflow w terms) holds asked cause = (refl, inr (net, holds, (query, vector, asked, inr (inr (inr (inl (inl (refl, (components w, cause.0)))))))))
+decision_ends held name text given file net query vector (TooLong effort) holds asked cause = (refl, inr (net, holds, (query, vector, asked, inr (inr (inr (inl (inr (refl, (effort, cause)))))))))
 decision_ends held name text given file net query vector Memory holds asked cause = (refl, inl refl)
 decision_ends held name text given file net query vector refusal holds asked cause = elim cause [ ]
 
 -- and so does one whose certificate isn't stored
 store_ends : (old new : ShelfSeen) (name text : List ℕ) (given file : Option (List ℕ)) (net : Net) (query : Query) (vector : List (List Part)) (refusal : Refusal) → HoldsNetwork (old.file name) net → IsAsked net text given query vector
     → IsCalm old new → FromStore old new (problem_of net query vector) file refusal → Ends old (Verify name text given file) refusal
-store_ends old new name text given file net query vector NotWritten holds asked calm cause = (refl, inr (net, holds, (query, vector, asked, inr (inr (inr (inr (inr (refl, cause.1, cause.2))))))))
+store_ends old new name text given file net query vector NotWritten holds asked calm cause = (refl, inr (net, holds, (query, vector, asked, inr (inr (inr (inr (refl, cause.1, cause.2)))))))
 store_ends old new name text given file net query vector (CannotWrite named) holds asked calm cause = absurd (longer old.failed (Store, named.now) (sym cause.1 ∙ calm))
 store_ends old new name text given file net query vector Memory holds asked calm cause = (refl, inl refl)
 store_ends old new name text given file net query vector refusal holds asked calm cause = elim cause [ ]
@@ -418,6 +510,13 @@ script_wants old new net name k bytes text LongScript t h play calm cause =
 script_wants old new net name k bytes text Memory t h play calm cause = refl
 script_wants old new net name k bytes text refusal t h play calm cause = elim cause [ ]
 
+-- a ring is generated, unless what is asked of it isn't decided
+ring_ends : (held : ShelfSeen) (seed size : ℕ) (refusal : Refusal) → FromRing seed size refusal → Ends held (Gen seed size) refusal
+ring_ends held seed size (Overflow w terms) cause = (refl, inr (inr (cause.0, cause.1, cause.2, inl (refl, (components w, cause.3.0)))))
+ring_ends held seed size (TooLong effort) cause = (refl, inr (inr (cause.0, cause.1, cause.2, inr (refl, (effort, cause.3)))))
+ring_ends held seed size Memory cause = (refl, inl refl)
+ring_ends held seed size refusal cause = elim cause.3 [ ]
+
 refused_ends : (old new : ShelfSeen) (command : Command) (refusal : Refusal) → old.told ≡ true → CanBeAnswered old command → IsCalm old new → FromCommand old new command refusal → Ends old command refusal
 refused_ends old new (Verify name text given file) refusal t can calm (inl network) = wanting old (Verify name text given file) refusal (network_wants old new name refusal can.0 t can.1 calm network)
 refused_ends old new (Verify name text given file) refusal t can calm (inr (inl cause)) =
@@ -443,6 +542,7 @@ refused_ends old new (Play name script k) refusal t can calm (inr cause) =
     let same : cause.0 ≡ can.0 = one_network (old.file name) cause.0 can.0 (cause.1 t) can.1 in
     wanting old (Play name script k) refusal
     (script_wants old new can.0 script k can.2.0 can.2.1 refusal t can.2.2 can.2.3 calm (subst (λ net. FromScript old new net script k refusal) same cause.2))
+refused_ends old new (Gen seed size) refusal t can calm cause = ring_ends old seed size refusal cause.1
 
 -- so a command that can be answered ends with one of its statuses, or memory runs out
 ended : (held : ShelfSeen) (command : Command) (status result : ℕ) → IsStatus held command status → (result ≡ status) ⊎ (result ≡ 11) → IsStatus held command result ⊎ (result ≡ 11)
@@ -471,6 +571,7 @@ answered_ends old new (Verify name query given file) status text t answer =
     (answer.0, answer.1 t, (answer.2.query, answer.2.vector, answer.2.asked, answer_ends (problem_of answer.0 answer.2.query answer.2.vector) file new status text answer.2.reported))
 answered_ends old new (Check name query file given) status text t answer = answer.6
 answered_ends old new (Play name script k) status text t answer = answer.5
+answered_ends old new (Gen seed size) status text t answer = inl answer.1
 
 pub answered_completes : (words : List (List ℕ)) (shelf_old shelf_new : ShelfSeen) (out_old out_new err_old err_new : SinkSeen) (result status : ℕ) (text : List ℕ)
     → AreAnswered shelf_old shelf_new (command_of words) status text → Prints status text out_old out_new err_old err_new result → Completes words shelf_old shelf_new out_old out_new err_old err_new result

@@ -8,6 +8,7 @@ use Rattle.wi_query.specs.declared.fault.QueryFault.TheVariants as query_fault
 use Rattle.wi_query.specs.Meaning.{IsQuery}
 use Rattle.wi_query.specs.Faults.{IsFault as IsQueryFault}
 use Rattle.wi_quantity.specs.declared.vector.Part.{Part}
+use Rattle.wi_quantity.specs.declared.fault.WeightFault.TheVariants as weight_fault
 use Rattle.wi_quantity.specs.Faults.{Means, IsFault as IsWeightsFault}
 use Rattle.wi_build.specs.Problems.{Problem, problem_of}
 use Rattle.wi_report.specs.QueryFaults.{query_fault_text}
@@ -45,7 +46,7 @@ IsBadQuery net text refusal = ⊥
 
 -- the text of the weights is the cause
 abbrev pub IsBadWeights : Option (List ℕ) → Refusal → Type 0
-IsBadWeights weights (BadWeights fault) = (text : List ℕ) × (weights ≡ Some text) × IsWeightsFault text fault
+IsBadWeights weights (BadWeights fault) = (text : List ℕ) × (weights ≡ Some text) × (fault ≡ weight_fault.Memory → ⊥) × IsWeightsFault text fault
 IsBadWeights weights Memory = Unit {0}
 IsBadWeights weights refusal = ⊥
 

@@ -47,6 +47,10 @@ FromDecision problem (TooLong effort) = IsTooLong problem effort
 FromDecision problem Memory = Unit {0}
 FromDecision problem refusal = ⊥
 
+-- the status with which it then ends
+abbrev pub EndsUndecided : Problem → ℕ → Type 0
+EndsUndecided problem status = ((status ≡ 6) × ((w : List ℕ) × IsOverflowing problem w)) ⊎ ((status ≡ 7) × ((effort : ℕ) × IsTooLong problem effort))
+
 -- the texts are the cause, or else what both ask
 abbrev pub FromTexts : Net → List ℕ → Option (List ℕ) → Refusal → Type 0
 FromTexts net text weights refusal = AreBadTexts net text weights refusal ⊎ ForAsked net text weights (λ problem. FromDecision problem refusal)

@@ -4,5 +4,6 @@ pub mod Shelves
 pub mod Asked
 pub mod Certificates
 pub mod Decided
+pub mod Generated
 pub mod Run
 pub mod private

@@ -16,14 +16,14 @@ use Rattle.wi_report.specs.States.{states_shown}
 use Rattle.wi_report.specs.Reports.{accepted_text}
 use Rattle.wi_accept.specs.Answers.{word_of}
 use Rattle.wi_cert.specs.declared.certificate.Certificate.{Certificate}
-use Rattle.wi_words.specs.Commands.{Command, Verify, Check, Play, command_of}
+use Rattle.wi_words.specs.Commands.{Command, Verify, Check, Play, Gen, command_of}
 use Rattle.wi_build.specs.Problems.{Problem}
-use Rattle.wi_decide.specs.Refusals.{IsOverflowing, IsTooLong}
 use Rattle.wi_query.specs.declared.query.Query.{Query}
 use Rattle.wi_quantity.specs.declared.vector.Part.{Part}
 use Rattle.wi_app.specs.Asked.{AreBadTexts, ForAsked, IsAsked}
 use Rattle.wi_app.specs.Certificates.{FromCertificate, FromStore, IsAcceptedText, IsCertificateFile, IsNamed, IsTooLargeToWrite}
-use Rattle.wi_app.specs.Decided.{FromTexts, IsAnswer}
+use Rattle.wi_app.specs.Decided.{EndsUndecided, FromTexts, IsAnswer}
+use Rattle.wi_app.specs.Generated.{ForRing, FromRing, IsSummary}
 use Rattle.wi_app.specs.Edges.{Untouched, PutAll, PutPart, PutNothing, SaysWhy}
 use Rattle.wi_app.specs.Shelves.{AllStand, FetchFailed, IsCalm, OthersStand}
 use Rattle.wi_app.specs.declared.refusal.Refusal.{Refusal}
@@ -56,6 +56,7 @@ IsAnswered old new (Check name query file weights) status text =
 IsAnswered old new (Play name script k) status text =
     (net : Net) × (bytes : List ℕ) × (old.told ≡ true → HoldsNetwork (old.file name) net) × (old.told ≡ true → old.file script ≡ Some bytes)
     × IsPlay net k bytes text × (status ≡ 0)
+IsAnswered old new (Gen seed size) status text = IsSummary seed size text × (status ≡ 0)
 
 -- no words are answered but those of a command
 abbrev pub AreAnswered : ShelfSeen → ShelfSeen → Option Command → ℕ → List ℕ → Type 0
@@ -93,7 +94,7 @@ FromScript old new net name k (BadScript refused) =
 FromScript old new net name k Memory = IsCalm old new
 FromScript old new net name k refusal = ⊥
 
--- the network file is the cause, or, that being a network's, what is asked of it, or another file
+-- the network file is the cause, or, that being a network's, what is asked of it, or another file; or what is asked of a ring
 abbrev pub FromCommand : ShelfSeen → ShelfSeen → Command → Refusal → Type 0
 FromCommand old new (Verify name query weights file) refusal =
     FromNetwork old new name refusal
@@ -106,6 +107,7 @@ FromCommand old new (Check name query file weights) refusal =
 FromCommand old new (Play name script k) refusal =
     FromNetwork old new name refusal
     ⊎ ((net : Net) × (old.told ≡ true → HoldsNetwork (old.file name) net) × FromScript old new net script k refusal)
+FromCommand old new (Gen seed size) refusal = IsCalm old new × FromRing seed size refusal
 
 -- the words are the cause, which are no command, or what they ask for
 abbrev pub FromWords : ShelfSeen → ShelfSeen → Option Command → Refusal → Type 0
@@ -149,11 +151,12 @@ Does words shelf_old shelf_new out_old out_new err_old err_new result =
     IsDone words shelf_old shelf_new out_old out_new err_old err_new result ⊎ IsRefused words shelf_old shelf_new out_old out_new err_old err_new result
 
 -- a command can be answered: the shelf holds a network's file, and the texts are a query of it and weights, and it holds a
--- certificate, too, that is accepted; or it holds a script, too, that can be played
+-- certificate, too, that is accepted; or it holds a script, too, that can be played. A ring can always be generated
 abbrev pub CanBeAnswered : ShelfSeen → Command → Type 0
 CanBeAnswered shelf (Verify name text weights file) = (net : Net) × HoldsNetwork (shelf.file name) net × ((query : Query) × (vector : List (List Part)) × IsAsked net text weights query vector)
 CanBeAnswered shelf (Check name text file weights) = (net : Net) × HoldsNetwork (shelf.file name) net × ((bytes : List ℕ) × (c : Certificate) × IsCertificateFile shelf file bytes × IsAcceptedText net text weights bytes c)
 CanBeAnswered shelf (Play name script k) = (net : Net) × HoldsNetwork (shelf.file name) net × ((bytes text : List ℕ) × (shelf.file script ≡ Some bytes) × IsPlay net k bytes text)
+CanBeAnswered shelf (Gen seed size) = Unit {0}
 
 -- how a problem may end: with yes or no, with inconclusive where something may fail, or with a refusal that is due
 abbrev pub MayEnd : Problem → Option (List ℕ) → ℕ → Type 0
@@ -161,8 +164,7 @@ MayEnd problem file status =
     (status ≡ 0)
     ⊎ (status ≡ 1)
     ⊎ ((status ≡ 2) × (0 < problem.bounds.k))
-    ⊎ ((status ≡ 6) × ((w : List ℕ) × IsOverflowing problem w))
-    ⊎ ((status ≡ 7) × ((effort : ℕ) × IsTooLong problem effort))
+    ⊎ EndsUndecided problem status
     ⊎ ((status ≡ 14) × IsNamed file × IsTooLargeToWrite problem)
 
 -- the statuses with which a command may end that can be answered
@@ -170,6 +172,7 @@ abbrev pub IsStatus : ShelfSeen → Command → ℕ → Type 0
 IsStatus shelf (Verify name text weights file) status = (net : Net) × HoldsNetwork (shelf.file name) net × ForAsked net text weights (λ problem. MayEnd problem file status)
 IsStatus shelf (Check name text file weights) status = status ≡ 0
 IsStatus shelf (Play name script k) status = status ≡ 0
+IsStatus shelf (Gen seed size) status = (status ≡ 0) ⊎ ForRing seed size (λ problem. EndsUndecided problem status)
 
 -- it ends with one of those, unless a call fails or memory runs out
 abbrev pub Completes : List (List ℕ) → ShelfSeen → ShelfSeen → SinkSeen → SinkSeen → SinkSeen → SinkSeen → ℕ → Type 0

@@ -1,14 +1,15 @@
 //! What is to be printed is made whole, with its status, before anything is printed: so a refusal on the way puts nothing on
 //! standard output. It costs the whole text in memory.
 ghost use Rattle.std.specs.Prelude.{◌≡◌, Some, map, string_bytes, IfOk, IfErr};
-ghost use Rattle.wi_words.specs.Commands.{command_of};
-ghost use Rattle.wi_words.specs.private.Shown.{shown};
+ghost use Rattle.wi_words.specs.Commands.{IsFit, command_of};
+ghost use Rattle.wi_words.specs.Shown.{shown};
 ghost use Rattle.wi_app.specs.Run.{AreAnswered, FromCommand, FromWords, IsAnswered, IsLeft, stored_by};
 ghost use Rattle.wi_app.specs.Shelves.{IsCalm, OthersStand};
 
 use crate::check::check;
 use crate::play::play;
 use crate::refusal::Refusal;
+use crate::ring::summary_of_ring;
 use crate::verify::verify;
 use std::alloc::Global;
 use wi_base::Shelf;
@@ -47,6 +48,7 @@ fn answer_to<'a, S: Shelf>(
     command: Command<'a>,
     shelf: &mut S,
 ) -> Result<Printed, Refusal<'a>>
+    requires { IsFit (shown command) }
     ensures told { (S.seen shelf.new).told ≡ (S.seen shelf.old).told }
     ensures others { OthersStand (stored_by (Some (shown command.entry))) (S.seen shelf.old) (S.seen shelf.new) }
     ensures left { IfErr result (λ refusal. IsLeft refusal (S.seen shelf.old) (S.seen shelf.new)) }
@@ -68,5 +70,6 @@ fn answer_to<'a, S: Shelf>(
             weights,
         } => check(alloc, network, query, certificate, weights, shelf),
         Command::Play { network, script, k } => play(alloc, network, script, k, shelf),
+        Command::Gen { seed, size } => summary_of_ring(alloc, seed, size),
     }
 }

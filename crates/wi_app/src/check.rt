@@ -1,6 +1,6 @@
 //! The query and the weights are read before the certificate is fetched, so that their faults come first. The certificate is held
 //! against the network, the query and the weights that are given, and against nothing that wrote it.
-ghost use Rattle.std.specs.Prelude.{◌≡◌, ℕ, List, option_map, IfOk, IfErr};
+ghost use Rattle.std.specs.Prelude.{◌≡◌, ℕ, List, option_map, IfOk, IfErr, OnOk};
 ghost use Rattle.wi_world.specs.Moves.{AreBounds};
 ghost use Rattle.wi_words.specs.Commands.{Check};
 ghost use Rattle.wi_build.specs.Problems.{problem_of};
@@ -17,7 +17,7 @@ use crate::answer::Printed;
 use crate::certificate_file::fetch_certificate;
 use crate::fetch::network;
 use crate::refusal::Refusal;
-use crate::texts::{query_of, vector_of};
+use crate::texts::read_texts;
 use std::alloc::Global;
 use wi_base::Shelf;
 use wi_cert::{Certificate, CheckRefused};
@@ -26,6 +26,7 @@ use wi_net::Network;
 use wi_quantity::Vector;
 use wi_query::Query;
 use wi_report::accepted_text;
+use wi_world::Word;
 
 /// That the certificate of a file is accepted for a query of the network of a file, or why not. Runs are weighed by the weights, or
 /// by their effort alone.
@@ -65,20 +66,10 @@ fn check_on<'a, S: Shelf>(
     ensures accepted { IfOk result (λ printed. (bytes : List ℕ) × (c : Certificate) × IsCertificateFile (S.seen shelf.old) file.now bytes × IsAcceptedText net.now query.now (option_map (λ s. s.now) weights.entry) bytes c × (printed.text ≡ accepted_text (word_of c.shown.claim))) }
     ensures refused { IfErr result (λ refusal. FromChecking (S.seen shelf.old) (S.seen shelf.new) net.now query.now file.now (option_map (λ s. s.now) weights.entry) refusal) }
 {
-    net.keeps();
-    let query = query_of(alloc, net, query)?;
-    match vector_of(alloc, weights) {
-        Ok(vector) => {
-            let printed = check_for(alloc, net, &query, &vector, file, shelf);
-            drop(vector);
-            drop(query);
-            printed
-        }
-        Err(refusal) => {
-            drop(query);
-            Err(refusal)
-        }
-    }
+    let asked = read_texts(alloc, net, query, weights)?;
+    let printed = check_for(alloc, net, &asked.query, &asked.vector, file, shelf);
+    drop(asked);
+    printed
 }
 
 // That the certificate of a file is accepted for a query that was read.
@@ -95,7 +86,7 @@ fn check_for<'a, S: Shelf>(
     ensures files { AllStand (S.seen shelf.old) (S.seen shelf.new) }
     ensures calm { IfOk result (λ _. IsCalm (S.seen shelf.old) (S.seen shelf.new)) }
     ensures status { IfOk result (λ printed. printed.status ≡ 0) }
-    ensures believed { IfOk result (λ printed. (bytes : List ℕ) × (c : Certificate) × IsCertificateFile (S.seen shelf.old) file.now bytes × IsText c bytes × IsBelieved (problem_of net.now query.now vector.now) c printed.text) }
+    ensures believed { IfOk result (λ printed. (bytes : List ℕ) × (c : Certificate) × IsCertificateFile (S.seen shelf.old) file.now bytes × IsText c bytes × IsBelieved (problem_of net.now query.now vector.now) c × (printed.text ≡ accepted_text (word_of c.shown.claim))) }
     ensures refused { IfErr result (λ refusal. FromCertificate (S.seen shelf.old) (S.seen shelf.new) (problem_of net.now query.now vector.now) file.now refusal) }
 {
     net.keeps();
@@ -117,16 +108,33 @@ fn believed<'a>(
     requires bounds { AreBounds net.now query.now.bounds }
     requires text { IsWritable certificate.now }
     ensures status { IfOk result (λ printed. printed.status ≡ 0) }
-    ensures believed { IfOk result (λ printed. IsBelieved (problem_of net.now query.now vector.now) certificate.now printed.text) }
+    ensures text { IfOk result (λ printed. printed.text ≡ accepted_text (word_of certificate.now.shown.claim)) }
+    ensures believed { OnOk result (IsBelieved (problem_of net.now query.now vector.now) certificate.now) }
+    ensures refused { IfErr result (IsNotBelieved (problem_of net.now query.now vector.now) certificate.now) }
+{
+    let word = accepted_word(alloc, net, query, vector, certificate)?;
+    let text = accepted_text(alloc, word)?;
+    Ok(Printed { status: 0, text })
+}
+
+/// The word of a certificate's answer, if nothing speaks against the certificate.
+pub fn accepted_word<'a>(
+    alloc: Global,
+    net: &Network,
+    query: &Query,
+    vector: &Vector,
+    certificate: &Certificate,
+) -> Result<Word, Refusal<'a>>
+    requires bounds { AreBounds net.now query.now.bounds }
+    requires text { IsWritable certificate.now }
+    ensures word { IfOk result (λ word. word ≡ word_of certificate.now.shown.claim) }
+    ensures believed { OnOk result (IsBelieved (problem_of net.now query.now vector.now) certificate.now) }
     ensures refused { IfErr result (IsNotBelieved (problem_of net.now query.now vector.now) certificate.now) }
 {
     net.keeps();
     query.keeps();
     match check_certificate(alloc, net, query, vector, &query.bounds, certificate) {
-        Ok(accepted) => {
-            let text = accepted_text(alloc, accepted.word)?;
-            Ok(Printed { status: 0, text })
-        }
+        Ok(accepted) => Ok(accepted.word),
         Err(CheckRefused::Memory) => Err(Refusal::Memory),
         Err(fault) => Err(Refusal::NotAccepted(fault, vector.len())),
     }

@@ -5,10 +5,12 @@ mod answer;
 mod app;
 mod certificate_file;
 mod check;
+mod decided;
 mod fetch;
 mod laws;
 mod play;
 mod refusal;
+mod ring;
 mod texts;
 mod verify;
 

@@ -19,7 +19,7 @@ use wi_text::Text;
 
 // What is said where the words are no command.
 const USAGE: &[u8] =
-    b"usage: whatif verify NETWORK QUERY [--weights W] [--certificate FILE]\n       whatif check NETWORK QUERY CERTIFICATE [--weights W]\n       whatif play NETWORK SCRIPT K\n";
+    b"usage: whatif verify NETWORK QUERY [--weights W] [--certificate FILE]\n       whatif check NETWORK QUERY CERTIFICATE [--weights W]\n       whatif play NETWORK SCRIPT K\n       whatif gen SEED SIZE\n";
 
 // What is said where memory ran out.
 const NO_MEMORY: &[u8] = b"whatif: out of memory\n";

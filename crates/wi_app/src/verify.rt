@@ -12,13 +12,13 @@ ghost use Rattle.wi_app.specs.private.Stages.{FromAnswering, FromDeciding, IsKep
 
 use crate::answer::Printed;
 use crate::certificate_file::store_certificate;
+use crate::decided::decided;
 use crate::fetch::network;
 use crate::refusal::Refusal;
-use crate::texts::{query_of, vector_of};
+use crate::texts::read_texts;
 use std::alloc::Global;
 use wi_base::{NoMemory, Shelf};
 use wi_cert::Certificate;
-use wi_decide::{DecideRefused, decide};
 use wi_net::Network;
 use wi_quantity::Vector;
 use wi_query::Query;
@@ -65,20 +65,10 @@ fn answer<'a, S: Shelf>(
     ensures answered { IfOk result (λ printed. IsAnswer net.now query.now (option_map (λ s. s.now) weights.entry) (option_map (λ s. s.now) file.entry) (S.seen shelf.new) printed.status printed.text) }
     ensures refused { IfErr result (λ refusal. FromAnswering (S.seen shelf.old) (S.seen shelf.new) net.now query.now (option_map (λ s. s.now) weights.entry) (option_map (λ s. s.now) file.entry) refusal) }
 {
-    net.keeps();
-    let query = query_of(alloc, net, query)?;
-    match vector_of(alloc, weights) {
-        Ok(vector) => {
-            let printed = reported(alloc, net, &query, &vector, file, shelf);
-            drop(vector);
-            drop(query);
-            printed
-        }
-        Err(refusal) => {
-            drop(query);
-            Err(refusal)
-        }
-    }
+    let asked = read_texts(alloc, net, query, weights)?;
+    let printed = reported(alloc, net, &asked.query, &asked.vector, file, shelf);
+    drop(asked);
+    printed
 }
 
 // The report on a query that was read.
@@ -98,25 +88,17 @@ fn reported<'a, S: Shelf>(
     ensures reported { IfOk result (λ printed. IsReported (problem_of net.now query.now vector.now) (option_map (λ s. s.now) file.entry) (S.seen shelf.new) printed.status printed.text) }
     ensures refused { IfErr result (λ refusal. FromDeciding (S.seen shelf.old) (S.seen shelf.new) (problem_of net.now query.now vector.now) (option_map (λ s. s.now) file.entry) refusal) }
 {
-    net.keeps();
-    query.keeps();
-    match decide(alloc, net, query, vector) {
-        Ok((answer, certificate)) => {
-            let text = report(alloc, net, query, vector, &answer);
-            let status = status_for(answer.word);
-            drop(answer);
-            let printed = stored_and_printed(alloc, &certificate, file, status, text, shelf);
-            drop(certificate);
-            printed
-        }
-        Err(DecideRefused::Overflow(weight)) => Err(Refusal::Overflow(weight, vector.len())),
-        Err(DecideRefused::TooLong(effort)) => Err(Refusal::TooLong(effort)),
-        Err(DecideRefused::Memory) => Err(Refusal::Memory),
-    }
+    let (answer, certificate) = decided(alloc, net, query, vector)?;
+    let text = report(alloc, net, query, vector, &answer);
+    let status = status_for(answer.word);
+    drop(answer);
+    let printed = stored(alloc, &certificate, file, status, text, shelf);
+    drop(certificate);
+    printed
 }
 
 // A report, whose certificate is stored if there is a name for it.
-fn stored_and_printed<'a, S: Shelf>(
+fn stored<'a, S: Shelf>(
     alloc: Global,
     certificate: &Certificate,
     file: Option<&'a str>,

@@ -23,37 +23,40 @@ fn stops_at(rt: &impl Abort, alloc: Global, text: &str, byte: usize) {
     }
 }
 
+// Texts that are not of the form, and where they stop.
+const STOPS: &[(&str, usize)] = &[
+    ("", 0),
+    ("1a", 1),
+    ("01*Hops", 1),
+    ("a b", 2),
+    ("a1", 1),
+    ("a\u{b}", 1),
+    ("Hops+é", 5),
+    ("Hops é", 5),
+    ("Hopsé", 4),
+    ("Hops,", 5),
+    (",Hops", 0),
+    ("+", 0),
+    ("Hops++Hops", 5),
+    ("Hops+Speed,1*", 13),
+    ("2 Hops", 2),
+    ("2 * * Hops", 4),
+    ("*Hops", 0),
+    ("Hops\r\n\t +\t2", 11),
+    (
+        "123456789012345678901234567890123456789012345678901234567890",
+        60,
+    ),
+    (
+        "1000000000000000000000000000000000000000000000000000000000000000000000x",
+        70,
+    ),
+];
+
 #[test]
 fn texts_of_another_form_are_refused(rt: HostRuntime) {
-    for (text, byte) in [
-        ("", 0),
-        ("1a", 1),
-        ("01*Hops", 1),
-        ("a b", 2),
-        ("a1", 1),
-        ("a\u{b}", 1),
-        ("Hops+é", 5),
-        ("Hops é", 5),
-        ("Hopsé", 4),
-        ("Hops,", 5),
-        (",Hops", 0),
-        ("+", 0),
-        ("Hops++Hops", 5),
-        ("Hops+Speed,1*", 13),
-        ("2 Hops", 2),
-        ("2 * * Hops", 4),
-        ("*Hops", 0),
-        ("Hops\r\n\t +\t2", 11),
-        (
-            "123456789012345678901234567890123456789012345678901234567890",
-            60,
-        ),
-        (
-            "1000000000000000000000000000000000000000000000000000000000000000000000x",
-            70,
-        ),
-    ] {
-        stops_at(&rt, rt.alloc(), text, byte);
+    for (text, byte) in STOPS {
+        stops_at(&rt, rt.alloc(), text, *byte);
     }
 }
 
@@ -67,15 +70,18 @@ fn is_unknown(rt: &impl Abort, alloc: Global, text: &str, byte: usize, word: &st
     }
 }
 
+// Texts with a word that is no quantity, the byte where it starts, and the word.
+const UNKNOWN: &[(&str, usize, &str)] = &[
+    ("Speed", 0, "Speed"),
+    ("Hops + 2*hops, Speed", 9, "hops"),
+    ("Links,Links,Links,Links,Links,65536*Width", 36, "Width"),
+    ("LinksHops", 0, "LinksHops"),
+];
+
 #[test]
 fn words_that_are_no_quantities_are_refused(rt: HostRuntime) {
-    for (text, byte, word) in [
-        ("Speed", 0, "Speed"),
-        ("Hops + 2*hops, Speed", 9, "hops"),
-        ("Links,Links,Links,Links,Links,65536*Width", 36, "Width"),
-        ("LinksHops", 0, "LinksHops"),
-    ] {
-        is_unknown(&rt, rt.alloc(), text, byte, word);
+    for (text, byte, word) in UNKNOWN {
+        is_unknown(&rt, rt.alloc(), text, *byte, word);
     }
 }
 
@@ -86,18 +92,21 @@ fn has_too_many(rt: &impl Abort, alloc: Global, text: &str, count: usize) {
     }
 }
 
+// Texts with too many terms or parts, and how many there are.
+const TOO_MANY: &[(&str, usize)] = &[
+    ("Links,Links,Links,Links,Links,Links", 6),
+    ("Hops,Links+Links+Links+Links+Links+Links,1*Hops", 6),
+    ("65536*Links+Links+Links+Links+Links+Links+Links", 7),
+    (
+        "Links+Links+Links+Links+Links+Links,Hops,Hops,Hops,Hops,Hops,Hops",
+        7,
+    ),
+];
+
 #[test]
 fn more_than_five_terms_or_parts_are_refused(rt: HostRuntime) {
-    for (text, count) in [
-        ("Links,Links,Links,Links,Links,Links", 6),
-        ("Hops,Links+Links+Links+Links+Links+Links,1*Hops", 6),
-        ("65536*Links+Links+Links+Links+Links+Links+Links", 7),
-        (
-            "Links+Links+Links+Links+Links+Links,Hops,Hops,Hops,Hops,Hops,Hops",
-            7,
-        ),
-    ] {
-        has_too_many(&rt, rt.alloc(), text, count);
+    for (text, count) in TOO_MANY {
+        has_too_many(&rt, rt.alloc(), text, *count);
     }
 }
 
@@ -108,21 +117,24 @@ fn is_too_large(rt: &impl Abort, alloc: Global, text: &str, byte: usize) {
     }
 }
 
+// Texts with a number that is too large, and the byte where it starts.
+const TOO_LARGE: &[(&str, usize)] = &[
+    ("65536*Hops", 0),
+    ("0*Hops, 65535 * Links+99999 * Hops,70000*Links", 22),
+    (
+        "Links+123456789012345678901234567890123456789012345678901234567890*Hops",
+        6,
+    ),
+    (
+        "1000000000000000000000000000000000000000000000000000000000000000000000*Hops",
+        0,
+    ),
+];
+
 #[test]
 fn numbers_over_65535_are_refused(rt: HostRuntime) {
-    for (text, byte) in [
-        ("65536*Hops", 0),
-        ("0*Hops, 65535 * Links+99999 * Hops,70000*Links", 22),
-        (
-            "Links+123456789012345678901234567890123456789012345678901234567890*Hops",
-            6,
-        ),
-        (
-            "1000000000000000000000000000000000000000000000000000000000000000000000*Hops",
-            0,
-        ),
-    ] {
-        is_too_large(&rt, rt.alloc(), text, byte);
+    for (text, byte) in TOO_LARGE {
+        is_too_large(&rt, rt.alloc(), text, *byte);
     }
 }
 
@@ -162,6 +174,7 @@ fn a_text_means_a_vector(rt: HostRuntime) -> Result<(), Fail> {
     let text = " Hops ,\tDistance+3*Tunnels,\r\n65535 *Failures + 0*Links";
     let vector = read_weights(rt.alloc(), text)?;
     has_three_terms(&rt, &vector);
+    drop(vector);
     assert_eq!(rt; Vector::new(rt.alloc()).len(), 0);
     Ok(())
 }
@@ -183,6 +196,7 @@ fn there_may_be_five_terms_of_five_parts(rt: HostRuntime) -> Result<(), Fail> {
     let text = "2 * Hops + Links,Hops,Hops,Hops,Links+Links+Links+Links+Links";
     let vector = read_weights(rt.alloc(), text)?;
     has_five_terms(&rt, &vector);
+    drop(vector);
     Ok(())
 }
 
@@ -217,21 +231,35 @@ fn add_labels(builder: &mut NetworkBuilder) -> Result<(), BuildRefused>
     Ok(())
 }
 
-// Five routers. A way over c protects the link from a to b, which is in one risk group with that from b to y; the last
-// link leads from y to y.
-fn add_links(builder: &mut NetworkBuilder) -> Result<(), BuildRefused> {
+// The ends of a link, its distance and its risk group.
+type Line = (
+    &'static str,
+    &'static str,
+    &'static str,
+    &'static str,
+    u32,
+    Option<&'static str>,
+);
+
+// A way over c protects the link from a to b, which is in one risk group with that from b to y; the last link leads from y to y.
+const LINKS: &[Line] = &[
+    ("x", "o", "a", "x", 1, None),
+    ("a", "b", "b", "a", 1, Some("g")),
+    ("a", "c", "c", "a", 2, None),
+    ("c", "b", "b", "c", 2, None),
+    ("b", "y", "y", "b", 1, Some("g")),
+    ("y", "o", "y", "i", 7, None),
+];
+
+fn fill(builder: &mut NetworkBuilder) -> Result<(), BuildRefused>
+    requires { builder.old.net.classes ≡ [] }
+{
+    add_labels(builder)?;
     for name in ["x", "a", "b", "c", "y"] {
         builder.router(name)?;
     }
-    for ((from, out, to, into), distance, group) in [
-        (("x", "o", "a", "x"), 1, None),
-        (("a", "b", "b", "a"), 1, Some("g")),
-        (("a", "c", "c", "a"), 2, None),
-        (("c", "b", "b", "c"), 2, None),
-        (("b", "y", "y", "b"), 1, Some("g")),
-        (("y", "o", "y", "i"), 7, None),
-    ] {
-        builder.link(from, out, to, into, distance, group)?;
+    for (from, out, to, into, distance, group) in LINKS {
+        builder.link(from, out, to, into, *distance, *group)?;
     }
     Ok(())
 }
@@ -239,9 +267,13 @@ fn add_links(builder: &mut NetworkBuilder) -> Result<(), BuildRefused> {
 // A network whose tables have no row: the calls are given the groups.
 fn network(alloc: Global) -> Result<Network, Fail> {
     let mut builder = NetworkBuilder::new(alloc);
-    add_labels(&mut builder)?;
-    add_links(&mut builder)?;
-    Ok(builder.finish()?)
+    match fill(&mut builder) {
+        Ok(()) => Ok(builder.finish()?),
+        Err(refused) => {
+            drop(builder);
+            Err(refused.into())
+        }
+    }
 }
 
 // The weight of these terms.
@@ -318,8 +350,12 @@ fn single_is(
     let groups = singles(alloc, members)?;
     let last = groups.len().saturating_sub(1);
     step_is(rt, vector, net, groups.as_slice(), (last, 0), parts);
+    drop(groups);
     Ok(())
 }
+
+// The two ways out of a.
+const AT_A: &[(u32, &[Op])] = &[(1, &[PUSH_S10]), (2, &[PUSH_S10, PUSH_30])];
 
 fn detour_weighs(
     rt: &impl Abort,
@@ -327,41 +363,28 @@ fn detour_weighs(
     vector: &Vector,
     net: &Network,
 ) -> Result<(), Fail> {
-    let at_a: [(u32, &[Op]); 2] = [(1, &[PUSH_S10]), (2, &[PUSH_S10, PUSH_30])];
     begins_with(rt, vector, net, 0, [1, 1, 0, 0, 0]);
-    single_is(rt, alloc, vector, net, &at_a, [1, 8, 0, 0, 0])?;
+    single_is(rt, alloc, vector, net, AT_A, [1, 8, 0, 0, 0])?;
     single_is(rt, alloc, vector, net, &[(3, &[Op::Pop])], [1, 2, 0, 0, 0])?;
     single_is(rt, alloc, vector, net, &[(4, &[Op::Pop])], [1, 1, 0, 0, 0])
 }
 
-#[test]
-fn a_detour_weighs_what_its_steps_weigh(rt: HostRuntime) -> Result<(), Fail> {
-    let net = network(rt.alloc())?;
-    let vector = read_weights(rt.alloc(), "Hops, Distance+3*Tunnels")?;
-    detour_weighs(&rt, rt.alloc(), &vector, &net)
-}
-
-const EACH: &str = "Links,Hops,Distance,Failures,Tunnels";
+// Hops that stand alone: the link, the operations, how many risk groups fail, and what is added to each quantity.
+const HOPS: &[(u32, &[Op], usize, [u128; 5])] = &[
+    (2, &[Op::Pop, PUSH_30], 0, [1, 1, 2, 0, 0]),
+    (2, &[PUSH_S10, PUSH_30], 3, [1, 1, 2, 3, 2]),
+    (5, &[Op::Swap(IP1, Class::Ip)], 1, [1, 0, 7, 1, 0]),
+    (5, &[Op::Pop], 0, [1, 0, 7, 0, 0]),
+];
 
 fn hops_add(rt: &impl Abort, alloc: Global, vector: &Vector, net: &Network) -> Result<(), Fail> {
-    for (link, ops, failures, parts) in [
-        (2, &[Op::Pop, PUSH_30] as &[Op], 0, [1, 1, 2, 0, 0]),
-        (2, &[PUSH_S10, PUSH_30], 3, [1, 1, 2, 3, 2]),
-        (5, &[Op::Swap(IP1, Class::Ip)], 1, [1, 0, 7, 1, 0]),
-        (5, &[Op::Pop], 0, [1, 0, 7, 0, 0]),
-    ] {
-        let member = member(alloc, link, ops)?;
-        hop_is(rt, vector, net, &member, failures, parts);
+    for (link, ops, failures, parts) in HOPS {
+        let member = member(alloc, *link, ops)?;
+        hop_is(rt, vector, net, &member, *failures, *parts);
+        drop(member);
     }
     begins_with(rt, vector, net, 5, [1, 0, 7, 0, 0]);
     Ok(())
-}
-
-#[test]
-fn hops_add_to_each_quantity(rt: HostRuntime) -> Result<(), Fail> {
-    let net = network(rt.alloc())?;
-    let vector = read_weights(rt.alloc(), EACH)?;
-    hops_add(&rt, rt.alloc(), &vector, &net)
 }
 
 // Groups of members with these links and no operations.
@@ -381,19 +404,16 @@ fn pair(alloc: Global, first: u32, second: u32) -> Result<Group, Fail> {
     Ok(Listed::of(vec![in alloc; first, second]?))
 }
 
-// The second link and the last but one are in one risk group, and the tenth isn't the network's.
-fn groups_fail(rt: &impl Abort, vector: &Vector, net: &Network, groups: &[Group]) {
-    for (j, m, parts) in [
-        (0, 1, [1, 1, 1, 0, 0]),
-        (1, 0, [1, 1, 1, 1, 0]),
-        (2, 0, [1, 1, 2, 1, 0]),
-        (3, 0, [1, 1, 2, 2, 0]),
-        (4, 0, [1, 1, 1, 3, 0]),
-    ] {
-        step_is(rt, vector, net, groups, (j, m), parts);
-    }
-}
+// Numbers of a group and a member of five groups, and what the step adds to each quantity.
+const STEPS: &[(usize, usize, [u128; 5])] = &[
+    (0, 1, [1, 1, 1, 0, 0]),
+    (1, 0, [1, 1, 1, 1, 0]),
+    (2, 0, [1, 1, 2, 1, 0]),
+    (3, 0, [1, 1, 2, 2, 0]),
+    (4, 0, [1, 1, 1, 3, 0]),
+];
 
+// The second link and the last but one are in one risk group, and the tenth isn't the network's.
 fn risk_groups_fail(
     rt: &impl Abort,
     alloc: Global,
@@ -401,13 +421,34 @@ fn risk_groups_fail(
     net: &Network,
 ) -> Result<(), Fail> {
     let groups = groups_of(alloc, &[[1, 4], [4, 1], [3, 9], [2, 3], [0, 2]])?;
-    groups_fail(rt, vector, net, groups.as_slice());
+    for (j, m, parts) in STEPS {
+        step_is(rt, vector, net, groups.as_slice(), (*j, *m), *parts);
+    }
+    drop(groups);
     Ok(())
 }
 
+// A detour, hops that stand alone, and steps past groups that fail together.
+fn all_weigh(rt: &impl Abort, alloc: Global, net: &Network) -> Result<(), Fail> {
+    let vector = read_weights(alloc, "Hops, Distance+3*Tunnels")?;
+    let said = detour_weighs(rt, alloc, &vector, net);
+    drop(vector);
+    said?;
+    let vector = read_weights(alloc, "Links,Hops,Distance,Failures,Tunnels")?;
+    let said = each_weighs(rt, alloc, &vector, net);
+    drop(vector);
+    said
+}
+
+fn each_weighs(rt: &impl Abort, alloc: Global, vector: &Vector, net: &Network) -> Result<(), Fail> {
+    hops_add(rt, alloc, vector, net)?;
+    risk_groups_fail(rt, alloc, vector, net)
+}
+
 #[test]
-fn links_of_one_risk_group_fail_once(rt: HostRuntime) -> Result<(), Fail> {
+fn detours_hops_and_risk_groups_are_weighed(rt: HostRuntime) -> Result<(), Fail> {
     let net = network(rt.alloc())?;
-    let vector = read_weights(rt.alloc(), EACH)?;
-    risk_groups_fail(&rt, rt.alloc(), &vector, &net)
+    let said = all_weigh(&rt, rt.alloc(), &net);
+    drop(net);
+    said
 }

@@ -4,5 +4,6 @@ pub mod NetworkFaults
 pub mod QueryFaults
 pub mod WeightFaults
 pub mod Reports
+pub mod Summaries
 pub mod RefusedDecisions
 pub mod CertificateFaults

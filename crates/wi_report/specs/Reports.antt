@@ -69,9 +69,13 @@ word_shown Yes = codes "yes"
 word_shown No = codes "no"
 word_shown Inconclusive = codes "inconclusive"
 
+-- the line of an answer's word
+abbrev pub answer_line : Word → List ℕ
+answer_line word = codes "answer: " ++ word_shown word ++ codes "\n"
+
 -- the report on an answer, where runs are weighed by so many terms
 abbrev pub report_of : Net → Bounds → ℕ → Answer → List ℕ
-report_of net bounds terms a = codes "answer: " ++ word_shown a.word ++ codes "\n" ++ found_shown net bounds terms a.weight a.run a.verdict
+report_of net bounds terms a = answer_line a.word ++ found_shown net bounds terms a.weight a.run a.verdict
 
 -- what is said of a certificate that is accepted: the word of its answer
 abbrev pub accepted_text : Word → List ℕ

@@ -9,6 +9,7 @@ mod reports;
 mod script_faults;
 mod shown;
 mod state_lines;
+mod summaries;
 mod weight_faults;
 
 pub use certificate_faults::{bad_line_text, certificate_fault_text};
@@ -18,4 +19,5 @@ pub use refused_decisions::{overflow_text, too_long_text};
 pub use reports::{accepted_text, report};
 pub use script_faults::script_fault_text;
 pub use state_lines::states;
+pub use summaries::summary;
 pub use weight_faults::weight_fault_text;

@@ -10,7 +10,7 @@ ghost use Rattle.wi_world.specs.Moves.{AreBounds, moved};
 ghost use Rattle.wi_world.specs.Runs.{needs};
 ghost use Rattle.wi_quantity.specs.Weighing.{components};
 ghost use Rattle.wi_report.specs.Shown.{link_shown, links_shown, place_shown};
-ghost use Rattle.wi_report.specs.Reports.{IsKnownRun, numbers_shown, terms_shown, weight_shown, verdict_shown, step_shown, steps_shown, run_shown, moving_shown, found_shown, word_shown, report_of, accepted_text};
+ghost use Rattle.wi_report.specs.Reports.{IsKnownRun, answer_line, numbers_shown, terms_shown, weight_shown, verdict_shown, step_shown, steps_shown, run_shown, moving_shown, found_shown, word_shown, report_of, accepted_text};
 
 use crate::shown::{put_counted, put_known, put_links, put_location};
 use std::alloc::Global;
@@ -40,11 +40,18 @@ pub fn report(
     ensures { IfOk result (λ text. text ≡ report_of net.now query.now.bounds (length vector.now) answer.now) }
 {
     let mut text = Text::new(alloc);
-    text.put("answer: ")?;
-    put_word(answer.word, &mut text)?;
-    text.put("\n")?;
+    put_answered(answer.word, &mut text)?;
     put_found(alloc, net, &query.bounds, vector.len(), answer, &mut text)?;
     Ok(text)
+}
+
+/// Adds the line of the answer's word.
+pub(crate) fn put_answered(word: Word, text: &mut Text) -> Result<(), NoMemory>
+    ensures { OnOk result (text.new ≡ text.old ++ answer_line word) }
+{
+    text.put("answer: ")?;
+    put_word(word, text)?;
+    text.put("\n")
 }
 
 /// What is said of a certificate that is accepted: the word of its answer.
@@ -91,8 +98,8 @@ fn put_found(
     }
 }
 
-// Adds what a run weighs.
-fn put_weight(terms: usize, weight: &Weight, text: &mut Text) -> Result<(), NoMemory>
+/// Adds what a run weighs.
+pub(crate) fn put_weight(terms: usize, weight: &Weight, text: &mut Text) -> Result<(), NoMemory>
     ensures { OnOk result (text.new ≡ text.old ++ weight_shown terms weight.now) }
 {
     text.put("weight:")?;

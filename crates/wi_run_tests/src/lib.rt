@@ -10,6 +10,8 @@ mod called;
 #[cfg(test)]
 mod certificates;
 #[cfg(test)]
+mod doubles;
+#[cfg(test)]
 mod edges;
 #[cfg(test)]
 mod faults;
@@ -17,5 +19,7 @@ mod faults;
 mod plays;
 #[cfg(test)]
 mod ring;
+#[cfg(test)]
+mod rings;
 #[cfg(test)]
 mod samples;

@@ -11,7 +11,7 @@ some_digit [] is = cc
 some_digit (b ∷ s) is = omega arith
 
 pub past_all : {E : Type 0} (s : List ℕ) (r : Result ℕ E) (x : E) → is_count s ≡ true → ParsesUnsigned 32 10 s r → r ≡ Err x → 2 ^ 32 - 1 ≡ number_of s
-past_all s r x is parses e = largest (digits_value 10 s) (too_large s r x (some_digit s is) (count_digits s is) parses e)
+past_all s r x is parses e = largest (digits_value 10 s) (too_large 32 s r x (some_digit s is) (count_digits s is) parses e)
   where
     largest : (n : ℕ) → 2 ^ 32 ≤ n → 2 ^ 32 - 1 ≡ min (n - 1) (2 ^ 32 - 1)
     largest n large = omega arith

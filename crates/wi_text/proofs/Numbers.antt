@@ -1,4 +1,4 @@
--- Numbers that have more than 32 bits.
+-- Numbers that have more than so many bits.
 use Rattle.std.proofs.Common.{◌≡◌, ℕ, ◌<◌, ◌≤◌, ◌^◌, true, false, nat_le, nat_lt, List, [], ◌∷◌, Result, Err, length, arith}
 use Rattle.std.proofs.lemmas.Bool.{and_parts, leb-true}
 use Rattle.std.proofs.lemmas.Bool.Decides.{nat_tests}
@@ -23,12 +23,12 @@ all_digits (b ∷ s) all =
         let c : nat_lt b 58 ≡ true = grind (arith, nat_tests) in
         rw (a, c) (omega arith)
 
-parsed : {E : Type 0} (s : List ℕ) (r : Result ℕ E) → list_all is_digit s ≡ true → ParsesUnsigned 32 10 s r → OkIff r ((0 < length s) × (digits_value 10 s < 2 ^ 32)) (digits_value 10 s)
-parsed s r all parses = parse_digits (numerals_by_value (AllDigits 10) tells_digits) 32 s r parses (all_digits s all)
+parsed : {E : Type 0} (bits : ℕ) (s : List ℕ) (r : Result ℕ E) → list_all is_digit s ≡ true → ParsesUnsigned bits 10 s r → OkIff r ((0 < length s) × (digits_value 10 s < 2 ^ bits)) (digits_value 10 s)
+parsed bits s r all parses = parse_digits (numerals_by_value (AllDigits 10) tells_digits) bits s r parses (all_digits s all)
 
 -- digits that aren't parsed are a number that is too large
-pub too_large : {E : Type 0} (s : List ℕ) (r : Result ℕ E) (x : E) → 0 < length s → list_all is_digit s ≡ true → ParsesUnsigned 32 10 s r → r ≡ Err x → 2 ^ 32 ≤ digits_value 10 s
-too_large s r x some all parses e = large (digits_value 10 s) (λ small. OkIff-at_err r _ _ x (parsed s r all parses) e (some, small))
+pub too_large : {E : Type 0} (bits : ℕ) (s : List ℕ) (r : Result ℕ E) (x : E) → 0 < length s → list_all is_digit s ≡ true → ParsesUnsigned bits 10 s r → r ≡ Err x → 2 ^ bits ≤ digits_value 10 s
+too_large bits s r x some all parses e = large (2 ^ bits) (digits_value 10 s) (λ small. OkIff-at_err r _ _ x (parsed bits s r all parses) e (some, small))
   where
-    large : (n : ℕ) → (n < 2 ^ 32 → ⊥) → 2 ^ 32 ≤ n
-    large n over = omega arith
+    large : (m n : ℕ) → (n < m → ⊥) → m ≤ n
+    large m n over = omega arith

@@ -1,4 +1,4 @@
--- Numbers that have more than 32 bits.
+-- Numbers that have more than 64 bits.
 use Rattle.std.proofs.Common.{◌≡◌, ℕ, ◌<◌, ◌≤◌, ◌^◌, true, not, nat_lt, nat_eq, ◌&&◌, ◌||◌, List, [], ◌∷◌, None, Result, Ok, Err, length, refl, arith}
 use Rattle.std.proofs.lemmas.Bool.{and_parts}
 use Rattle.std.specs.List.{list_all}
@@ -14,8 +14,8 @@ number_digits (b ∷ s) is =
     let rest = and_parts (list_all is_digit s) (not (nat_eq b 48) || nat_lt (length s) 1) first.1 in
     (omega arith, rw first.0 rest.0)
 
-pub not_parsed : {E : Type 0} (s : List ℕ) (r : Result ℕ E) → is_number s ≡ true → ParsesUnsigned 32 10 s r → result_ok r ≡ None → 2 ^ 32 ≤ digits_value 10 s
+pub not_parsed : {E : Type 0} (s : List ℕ) (r : Result ℕ E) → is_number s ≡ true → ParsesUnsigned 64 10 s r → result_ok r ≡ None → 2 ^ 64 ≤ digits_value 10 s
 not_parsed s (Ok n) is parses none = cc
 not_parsed s (Err x) is parses none =
     let digits = number_digits s is in
-    too_large s (Err x) x digits.0 digits.1 parses refl
+    too_large 64 s (Err x) x digits.0 digits.1 parses refl

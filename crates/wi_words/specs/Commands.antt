@@ -1,6 +1,6 @@
 -- What the words of a command line are. Which words a command takes, and what it makes of them, is said by the definitions
 -- of the crate clap for simple commands.
-use Rattle.std.specs.Prelude.{ℕ, ◌&&◌, nat_le, Bool, true, false, codes, if◌then◌else◌, List, [], ◌∷◌, Option, Some, None}
+use Rattle.std.specs.Prelude.{ℕ, ◌-◌, ◌^◌, ◌≤◌, ◌&&◌, nat_le, Bool, true, false, codes, if◌then◌else◌, List, [], ◌∷◌, Option, Some, None}
 use Rattle.std.specs.Option.{option_map, option_and_then}
 use Rattle.std.specs.Str.{bytes_eq}
 use Rattle.std.specs.Str.Parse.{digits_value}
@@ -30,9 +30,13 @@ check = record (new_shape (codes "check")) { rules = operand (codes "NETWORK") �
 abbrev pub play : Shape
 play = record (new_shape (codes "play")) { rules = operand (codes "NETWORK") ∷ operand (codes "SCRIPT") ∷ operand (codes "K") ∷ [] }
 
+-- `gen SEED SIZE`
+abbrev pub gen : Shape
+gen = record (new_shape (codes "gen")) { rules = operand (codes "SEED") ∷ operand (codes "SIZE") ∷ [] }
+
 -- the program's commands, one of which has to be given
 abbrev pub program : App
-program = with_subcommand (with_subcommand (with_subcommand (record { top = record (new_shape (codes "whatif")) { subcommand_required = true }; subs = [] }) verify) check) play
+program = with_subcommand (with_subcommand (with_subcommand (with_subcommand (record { top = record (new_shape (codes "whatif")) { subcommand_required = true }; subs = [] }) verify) check) play) gen
 
 -- clap takes the words: its parse has no fault
 abbrev pub is_empty : {X : Type 0} → List X → Bool
@@ -42,15 +46,32 @@ is_empty (x ∷ xs) = false
 abbrev pub are_taken : List Text → Bool
 are_taken words = is_empty (fault_of program words)
 
--- a command, with what was given to it: the names of files, the texts of a query and of weights, how many risk groups may fail
+-- a command, with what was given to it: the names of files, the texts of a query and of weights, how many risk groups may fail, the
+-- seed and the size of a ring
 pub data Command : Type 0 where
   Verify : (network query : Text) (weights certificate : Option Text) → Command
   Check : (network query certificate : Text) (weights : Option Text) → Command
   Play : (network script : Text) (k : ℕ) → Command
+  Gen : (seed size : ℕ) → Command
 
--- a number of risk groups: a decimal from 0 to 65,535, without leading zeros
+-- a number from a least to a most one: a decimal without leading zeros
+abbrev pub number_within : ℕ → ℕ → Text → Option ℕ
+number_within least most s = if is_number s && (nat_le least (digits_value 10 s) && nat_le (digits_value 10 s) most) then Some (digits_value 10 s) else None
+
+-- how many risk groups may be failed; a seed; the size of a ring
 abbrev pub most_failed : Text → Option ℕ
-most_failed s = if is_number s && nat_le (digits_value 10 s) 65535 then Some (digits_value 10 s) else None
+most_failed s = number_within 0 65535 s
+
+abbrev pub seed_in : Text → Option ℕ
+seed_in s = number_within 0 (2 ^ 64 - 1) s
+
+abbrev pub size_in : Text → Option ℕ
+size_in s = number_within 4 2000 s
+
+-- the size of a ring is one that has a path and bypasses
+abbrev pub IsFit : Command → Type 0
+IsFit (Gen seed size) = (4 ≤ size) × (size ≤ 2000)
+IsFit _ = Unit {0}
 
 -- the command of a subcommand's entries
 abbrev pub verify_of : List Row → Option Command
@@ -68,11 +89,15 @@ play_of rows =
     option_and_then (λ network. option_and_then (λ script. option_map (λ k. Play network script k) (option_and_then most_failed (first_of (codes "K") rows))) (first_of (codes "SCRIPT") rows))
     (first_of (codes "NETWORK") rows)
 
+abbrev pub gen_of : List Row → Option Command
+gen_of rows = option_and_then (λ seed. option_map (λ size. Gen seed size) (option_and_then size_in (first_of (codes "SIZE") rows))) (option_and_then seed_in (first_of (codes "SEED") rows))
+
 abbrev pub command_named : Text × List Row → Option Command
 command_named met =
     if bytes_eq met.0 (codes "verify") then verify_of met.1
     else if bytes_eq met.0 (codes "check") then check_of met.1
     else if bytes_eq met.0 (codes "play") then play_of met.1
+    else if bytes_eq met.0 (codes "gen") then gen_of met.1
     else None
 
 -- the command that the words are, if they are one. The first word is the program's name and isn't looked at

@@ -2,8 +2,9 @@
 //! each call.
 ghost use Rattle.std.specs.Prelude.{◌≡◌, IfOk, false};
 ghost use Rattle.clap.specs.Words.{app_of, rule_of, shape_of};
+ghost use Rattle.clap.specs.Simple.{with_subcommand};
 ghost use Rattle.clap.specs.declared.builder.command.Command.TheViews.{out-Command as fields_of};
-ghost use Rattle.wi_words.specs.Commands.{check, operand, option, play, program, verify};
+ghost use Rattle.wi_words.specs.Commands.{check, gen, operand, option, play, program, verify};
 
 use clap::{Arg, ArgAction, Command};
 use std::alloc::{AllocError, Global};
@@ -73,17 +74,39 @@ fn play<'a>(alloc: Global) -> Result<Command<'a>, AllocError>
     Ok(command)
 }
 
+// `gen SEED SIZE`
+fn generate<'a>(alloc: Global) -> Result<Command<'a>, AllocError>
+    ensures shape { IfOk result (λ c. shape_of c ≡ gen) }
+    ensures local { IfOk result (λ c. (fields_of c).has_globals ≡ false) }
+{
+    let seed = operand(alloc, "SEED");
+    let size = operand(alloc, "SIZE");
+    let command = Command::new(alloc, "gen").arg(seed)?.arg(size)?;
+    Ok(command)
+}
+
+// The program with commands on files of a user's: these are added to one without commands.
+fn with_asking<'a>(alloc: Global, whole: Command<'a>) -> Result<Command<'a>, AllocError>
+    ensures { IfOk result (λ c. app_of c ≡ with_subcommand (with_subcommand (app_of whole.entry) verify) check) }
+{
+    let verify = verify(alloc)?;
+    let check = check(alloc)?;
+    Ok(whole.subcommand(verify)?.subcommand(check)?)
+}
+
+// A program with the commands that try the model and the program added.
+fn with_trying<'a>(alloc: Global, whole: Command<'a>) -> Result<Command<'a>, AllocError>
+    ensures { IfOk result (λ c. app_of c ≡ with_subcommand (with_subcommand (app_of whole.entry) play) gen) }
+{
+    let play = play(alloc)?;
+    let generate = generate(alloc)?;
+    Ok(whole.subcommand(play)?.subcommand(generate)?)
+}
+
 /// The program, whose commands are its subcommands.
 pub fn program<'a>(alloc: Global) -> Result<Command<'a>, AllocError>
     ensures { IfOk result (λ c. app_of c ≡ program) }
 {
-    let verify = verify(alloc)?;
-    let check = check(alloc)?;
-    let play = play(alloc)?;
-    let whole = Command::new(alloc, "whatif")
-        .subcommand_required(true)
-        .subcommand(verify)?
-        .subcommand(check)?
-        .subcommand(play)?;
-    Ok(whole)
+    let whole = Command::new(alloc, "whatif").subcommand_required(true);
+    with_trying(alloc, with_asking(alloc, whole)?)
 }

@@ -2,9 +2,9 @@
 //! ours.
 #![tactic(auto)]
 
-ghost use Rattle.std.specs.Prelude.{◌≡◌, IfOk, map, string_bytes, option_map};
-ghost use Rattle.wi_words.specs.Commands.{command_of};
-ghost use Rattle.wi_words.specs.private.Shown.{shown};
+ghost use Rattle.std.specs.Prelude.{◌≡◌, IfOk, IfSome, map, string_bytes, option_map};
+ghost use Rattle.wi_words.specs.Commands.{IsFit, command_of};
+ghost use Rattle.wi_words.specs.Shown.{shown};
 
 mod builder;
 mod reader;
@@ -40,12 +40,18 @@ pub enum Command<'a> {
         script: &'a str,
         k: u32,
     },
+    /// `gen SEED SIZE`: the seed and the size of a ring, from 4 to 2,000.
+    Gen {
+        seed: u64,
+        size: u32,
+    },
 }
 
 /// The command that the words are, if they are one. The first word is the program's name and isn't looked at; asking for
 /// help is no command.
 pub fn command_of(alloc: Global, words: &[String]) -> Result<Option<Command<'_>>, NoMemory>
-    ensures { IfOk result (λ command. option_map shown command ≡ command_of (map string_bytes words.now)) }
+    ensures command { IfOk result (λ command. option_map shown command ≡ command_of (map string_bytes words.now)) }
+    ensures fit { IfOk result (λ command. IfSome command (λ c. IsFit (shown c))) }
 {
     match program(alloc)?.try_get_matches_from(words) {
         Ok(matches) => Ok(command_in(&matches)),

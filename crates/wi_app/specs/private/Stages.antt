@@ -5,9 +5,8 @@ use Rattle.wi_net.specs.Net.{Net}
 use Rattle.wi_build.specs.Problems.{Problem, IsProblem}
 use Rattle.wi_cert.specs.declared.certificate.Certificate.{Certificate}
 use Rattle.wi_cert.specs.Text.{IsText, closed_text}
-use Rattle.wi_accept.specs.Answers.{IsDecided, answer_of, word_of}
+use Rattle.wi_accept.specs.Answers.{IsDecided, answer_of}
 use Rattle.wi_accept.specs.Causes.{IsAccepted, IsRefusal}
-use Rattle.wi_report.specs.Reports.{accepted_text}
 use Rattle.wi_app.specs.declared.refusal.Refusal.{Refusal}
 use Rattle.wi_app.specs.declared.refusal.Refusal.TheVariants.{CannotRead, CannotWrite, Script as BadScript, LargeCertificate, NotAccepted, NotWritten, Memory}
 use Rattle.wi_app.specs.Asked.{AreBadTexts, ForAsked}
@@ -56,12 +55,11 @@ FromParts old new name LargeCertificate = IsCalm old new × (old.told ≡ true �
 FromParts old new name Memory = IsCalm old new
 FromParts old new name refusal = ⊥
 
--- nothing speaks against the certificate, its answer holds, and its word is told
-pub record IsBelieved (problem : Problem) (c : Certificate) (text : List ℕ) : Type 0 where
+-- nothing speaks against the certificate, and its answer holds
+pub record IsBelieved (problem : Problem) (c : Certificate) : Type 0 where
   pub problem_is : IsProblem problem
   pub accepted : IsAccepted problem c
   pub holds : IsDecided problem (answer_of problem c.shown)
-  pub text_is : text ≡ accepted_text (word_of c.shown.claim)
 
 -- this speaks against the certificate
 abbrev pub IsNotBelieved : Problem → Certificate → Refusal → Type 0

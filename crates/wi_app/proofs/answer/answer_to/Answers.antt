@@ -1,3 +1,4 @@
+use Rattle.wi_app.proofs.Outcomes.{ring_answered}
 use Rattle.wi_app.proofs.answer.answer_to.Goals as goal
 
 pub returns-in-Verify-clause-refused : goal.returns-in-Verify-clause-refused
@@ -11,3 +12,7 @@ returns-in-Check-clause-refused g c = rw c.in-Check.is c.check.ensures.refused
 
 pub returns-in-Play-clause-refused : goal.returns-in-Play-clause-refused
 returns-in-Play-clause-refused g c = rw c.in-Play.is c.play.ensures.refused
+
+pub returns-in-Gen-clause-answered : goal.returns-in-Gen-clause-answered
+returns-in-Gen-clause-answered g c =
+    rw c.in-Gen.is (ring_answered c.summary_of_ring.result (g.S.Shelf.seen c.args.shelf.now) (g.S.Shelf.seen c.args.shelf.now) c.in-Gen.seed c.in-Gen.size c.summary_of_ring.ensures.status c.summary_of_ring.ensures.summary)

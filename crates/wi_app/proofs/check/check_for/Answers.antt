@@ -7,7 +7,7 @@ returns-in_err-certificate-clause-refused g c = err_as _ _ _ c.from_residual.ens
 
 pub returns-clause-believed : goal.returns-clause-believed
 returns-clause-believed g c =
-    file_believed c.believed-printed.result (g.S.Shelf.seen c.args.shelf.now) (problem_of c.args.net.now c.args.query.now c.args.vector.now) c.args.file.now c.in_ok-certificate.ensures.read.0 c.in_ok-certificate.certificate c.in_ok-certificate.ensures.read.1 c.in_ok-certificate.ensures.read.2 c.believed-printed.ensures.believed
+    file_believed c.believed-printed.result (g.S.Shelf.seen c.args.shelf.now) (problem_of c.args.net.now c.args.query.now c.args.vector.now) c.args.file.now c.in_ok-certificate.ensures.read.0 c.in_ok-certificate.certificate c.in_ok-certificate.ensures.read.1 c.in_ok-certificate.ensures.read.2 c.believed-printed.ensures.believed c.believed-printed.ensures.text
 
 pub returns-clause-refused : goal.returns-clause-refused
 returns-clause-refused g c =

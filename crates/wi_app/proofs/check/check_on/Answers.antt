@@ -1,14 +1,14 @@
-use Rattle.std.proofs.Common.{inl, inr, refl}
-use Rattle.wi_app.proofs.Outcomes.{believed_accepted, certificate_refused}
+use Rattle.std.proofs.Common.{inl, refl}
+use Rattle.wi_app.proofs.Outcomes.{believed_accepted, certificate_refused, err_as}
 use Rattle.wi_app.proofs.check.check_on.Goals as goal
 
-pub returns-in-Err-clause-refused : goal.returns-in-Err-clause-refused
-returns-in-Err-clause-refused g c = inl (inr (c.in_ok-query.query, c.in_ok-query.ensures.read, c.in-Err.ensures.refused), refl)
+pub returns-in_err-asked-clause-refused : goal.returns-in_err-asked-clause-refused
+returns-in_err-asked-clause-refused g c = err_as _ _ _ c.from_residual.ensures.1 (inl (c.in_err-asked.ensures.refused, refl))
 
-pub returns-in-Ok-clause-accepted : goal.returns-in-Ok-clause-accepted
-returns-in-Ok-clause-accepted g c =
-    believed_accepted c.check_for-printed.result (g.S.Shelf.seen c.args.shelf.now) _ _ _ _ _ _ (record { network = c.keeps.ensures; reads = c.in_ok-query.ensures.read; weighs = c.in-Ok.ensures.read }) c.check_for-printed.ensures.believed
+pub returns-clause-accepted : goal.returns-clause-accepted
+returns-clause-accepted g c =
+    believed_accepted c.check_for-printed.result (g.S.Shelf.seen c.args.shelf.now) _ _ _ _ _ _ c.in_ok-asked.ensures.read c.check_for-printed.ensures.believed
 
-pub returns-in-Ok-clause-refused : goal.returns-in-Ok-clause-refused
-returns-in-Ok-clause-refused g c =
-    certificate_refused c.check_for-printed.result (g.S.Shelf.seen c.args.shelf.now) (g.S.Shelf.seen c.check_for-printed.new.shelf) _ _ _ _ _ _ (record { network = c.keeps.ensures; reads = c.in_ok-query.ensures.read; weighs = c.in-Ok.ensures.read }) c.check_for-printed.ensures.refused
+pub returns-clause-refused : goal.returns-clause-refused
+returns-clause-refused g c =
+    certificate_refused c.check_for-printed.result (g.S.Shelf.seen c.args.shelf.now) (g.S.Shelf.seen c.check_for-printed.new.shelf) _ _ _ _ _ _ c.in_ok-asked.ensures.read c.check_for-printed.ensures.refused

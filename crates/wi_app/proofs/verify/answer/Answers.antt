@@ -1,14 +1,14 @@
-use Rattle.std.proofs.Common.{inl, inr, refl}
-use Rattle.wi_app.proofs.Outcomes.{asked_answered, asked_refused}
+use Rattle.std.proofs.Common.{inl, refl}
+use Rattle.wi_app.proofs.Outcomes.{asked_answered, asked_refused, err_as}
 use Rattle.wi_app.proofs.verify.answer.Goals as goal
 
-pub returns-in-Err-clause-refused : goal.returns-in-Err-clause-refused
-returns-in-Err-clause-refused g c = inl (inl (inr (c.in_ok-query.query, c.in_ok-query.ensures.read, c.in-Err.ensures.refused)), refl)
+pub returns-in_err-asked-clause-refused : goal.returns-in_err-asked-clause-refused
+returns-in_err-asked-clause-refused g c = err_as _ _ _ c.from_residual.ensures.1 (inl (inl c.in_err-asked.ensures.refused, refl))
 
-pub returns-in-Ok-clause-answered : goal.returns-in-Ok-clause-answered
-returns-in-Ok-clause-answered g c =
-    asked_answered c.reported-printed.result _ _ _ _ (g.S.Shelf.seen c.reported-printed.new.shelf) _ _ (record { network = c.keeps.ensures; reads = c.in_ok-query.ensures.read; weighs = c.in-Ok.ensures.read }) c.reported-printed.ensures.reported
+pub returns-clause-answered : goal.returns-clause-answered
+returns-clause-answered g c =
+    asked_answered c.reported-printed.result _ _ _ _ (g.S.Shelf.seen c.reported-printed.new.shelf) _ _ c.in_ok-asked.ensures.read c.reported-printed.ensures.reported
 
-pub returns-in-Ok-clause-refused : goal.returns-in-Ok-clause-refused
-returns-in-Ok-clause-refused g c =
-    asked_refused c.reported-printed.result (g.S.Shelf.seen c.args.shelf.now) (g.S.Shelf.seen c.reported-printed.new.shelf) _ _ _ _ _ _ (record { network = c.keeps.ensures; reads = c.in_ok-query.ensures.read; weighs = c.in-Ok.ensures.read }) c.reported-printed.ensures.refused
+pub returns-clause-refused : goal.returns-clause-refused
+returns-clause-refused g c =
+    asked_refused c.reported-printed.result (g.S.Shelf.seen c.args.shelf.now) (g.S.Shelf.seen c.reported-printed.new.shelf) _ _ _ _ _ _ c.in_ok-asked.ensures.read c.reported-printed.ensures.refused

@@ -1,19 +1,21 @@
+use Rattle.std.proofs.Common.{inl, refl}
 use Rattle.wi_build.specs.Problems.{problem_of}
 use Rattle.wi_app.proofs.Answers.{answer_known}
-use Rattle.wi_app.proofs.Outcomes.{decided_refused, decided_reported}
+use Rattle.wi_app.proofs.Outcomes.{decided_refused, decided_reported, err_as}
 use Rattle.wi_app.proofs.verify.reported.Goals as goal
 
 pub report-text-requires-clause-run : goal.report-text-requires-clause-run
-report-text-requires-clause-run g c = answer_known (problem_of c.args.net.now c.args.query.now c.args.vector.now) c.in-Ok.answer c.in-Ok.ensures.decided
+report-text-requires-clause-run g c = answer_known (problem_of c.args.net.now c.args.query.now c.args.vector.now) c.in_ok-answer.answer c.in_ok-answer.ensures.holds
 
-pub returns-in-Ok-clause-reported : goal.returns-in-Ok-clause-reported
-returns-in-Ok-clause-reported g c =
-    decided_reported c.stored_and_printed-printed.result (problem_of c.args.net.now c.args.query.now c.args.vector.now) _ (g.S.Shelf.seen c.stored_and_printed-printed.new.shelf) c.in-Ok.answer c.in-Ok.certificate _ _ c.in-Ok.ensures.decided c.in-Ok.ensures.unrefused
-    (record { problem_is = record { network = c.keeps.ensures; automata = c.keeps-2.ensures; bounds_of = c.requires }; made = c.in-Ok.ensures.made; accepted = c.in-Ok.ensures.accepted })
-    c.status_for-status.ensures c.report-text.ensures c.stored_and_printed-printed.ensures.status c.stored_and_printed-printed.ensures.text c.stored_and_printed-printed.ensures.kept
+pub returns-in_err-answer-clause-refused : goal.returns-in_err-answer-clause-refused
+returns-in_err-answer-clause-refused g c = err_as _ _ _ c.from_residual.ensures.1 (inl (c.in_err-answer.ensures.refused, refl))
 
-pub returns-in-Ok-clause-refused : goal.returns-in-Ok-clause-refused
-returns-in-Ok-clause-refused g c =
-    decided_refused c.stored_and_printed-printed.result (g.S.Shelf.seen c.args.shelf.now) (g.S.Shelf.seen c.stored_and_printed-printed.new.shelf) (problem_of c.args.net.now c.args.query.now c.args.vector.now) _ c.in-Ok.answer c.in-Ok.certificate c.in-Ok.ensures.decided
-    (record { problem_is = record { network = c.keeps.ensures; automata = c.keeps-2.ensures; bounds_of = c.requires }; made = c.in-Ok.ensures.made; accepted = c.in-Ok.ensures.accepted })
-    c.stored_and_printed-printed.ensures.refused
+pub returns-clause-reported : goal.returns-clause-reported
+returns-clause-reported g c =
+    decided_reported c.stored-printed.result (problem_of c.args.net.now c.args.query.now c.args.vector.now) _ (g.S.Shelf.seen c.stored-printed.new.shelf) c.in_ok-answer.answer c.in_ok-answer.certificate _ _
+    c.in_ok-answer.ensures.holds c.in_ok-answer.ensures.shown c.in_ok-answer.ensures.certified c.status_for-status.ensures c.report-text.ensures c.stored-printed.ensures.status c.stored-printed.ensures.text c.stored-printed.ensures.kept
+
+pub returns-clause-refused : goal.returns-clause-refused
+returns-clause-refused g c =
+    decided_refused c.stored-printed.result (g.S.Shelf.seen c.args.shelf.now) (g.S.Shelf.seen c.stored-printed.new.shelf) (problem_of c.args.net.now c.args.query.now c.args.vector.now) _ c.in_ok-answer.answer c.in_ok-answer.certificate
+    c.in_ok-answer.ensures.holds c.in_ok-answer.ensures.certified c.stored-printed.ensures.refused

@@ -1,0 +1,105 @@
+//! A ring is asked by its texts, as a user would ask, and its certificate is held against it, so that one command tries the whole
+//! way. The network is let go before anything is printed.
+ghost use Rattle.std.specs.Prelude.{◌≡◌, ◌≤◌, string_bytes, length, IfOk, IfErr, OnOk};
+ghost use Rattle.wi_world.specs.Moves.{AreBounds};
+ghost use Rattle.wi_build.specs.Problems.{problem_of};
+ghost use Rattle.wi_cert.specs.Text.{IsWritable};
+ghost use Rattle.wi_gen.specs.Ring.{net_of, ring_of};
+ghost use Rattle.wi_gen.specs.Texts.{query_text, weights_text};
+ghost use Rattle.wi_report.specs.Summaries.{summary_of};
+ghost use Rattle.wi_app.specs.Decided.{FromDecision};
+ghost use Rattle.wi_app.specs.Generated.{FromRing, IsSummary, IsSummed};
+ghost use Rattle.wi_app.specs.private.Stages.{IsBelieved, IsNotBelieved};
+
+use crate::answer::Printed;
+use crate::check::accepted_word;
+use crate::decided::decided;
+use crate::refusal::Refusal;
+use crate::texts::read_texts;
+use std::alloc::Global;
+use wi_cert::Certificate;
+use wi_gen::{Generated, generate, the_texts_have_no_fault};
+use wi_net::Network;
+use wi_quantity::Vector;
+use wi_query::Query;
+use wi_report::summary;
+use wi_trace::Answer;
+
+/// The summary of a ring that is generated and of the answer to what is asked of it, or why there is none.
+pub fn summary_of_ring<'a>(alloc: Global, seed: u64, size: u32) -> Result<Printed, Refusal<'a>>
+    requires least { 4 ≤ size }
+    requires most { size ≤ 2000 }
+    ensures status { IfOk result (λ printed. printed.status ≡ 0) }
+    ensures summary { IfOk result (λ printed. IsSummary seed size printed.text) }
+    ensures refused { IfErr result (FromRing seed size) }
+{
+    let generated = generate(alloc, seed, size)?;
+    let printed = summary_of_generated(alloc, (seed, size), &generated);
+    drop(generated);
+    printed
+}
+
+// The summary of what was generated.
+fn summary_of_generated<'a>(
+    alloc: Global,
+    ring: (u64, u32),
+    generated: &Generated,
+) -> Result<Printed, Refusal<'a>>
+    requires least { 4 ≤ ring.1 }
+    requires most { ring.1 ≤ 2000 }
+    requires network { generated.now.network ≡ net_of (ring_of ring.0 ring.1) }
+    requires query { string_bytes generated.now.query ≡ query_text (ring_of ring.0 ring.1) }
+    requires weights { string_bytes generated.now.weights ≡ weights_text }
+    ensures status { IfOk result (λ printed. printed.status ≡ 0) }
+    ensures summary { IfOk result (λ printed. IsSummary ring.0 ring.1 printed.text) }
+    ensures refused { IfErr result (FromRing ring.0 ring.1) }
+{
+    the_texts_have_no_fault();
+    let net = &generated.network;
+    let asked = read_texts(alloc, net, &generated.query, Some(&generated.weights))?;
+    let printed = summary_of_asked(alloc, ring, net, &asked.query, &asked.vector);
+    drop(asked);
+    printed
+}
+
+// The summary, for a query that was read.
+fn summary_of_asked<'a>(
+    alloc: Global,
+    ring: (u64, u32),
+    net: &Network,
+    query: &Query,
+    vector: &Vector,
+) -> Result<Printed, Refusal<'a>>
+    requires { AreBounds net.now query.now.bounds }
+    ensures status { IfOk result (λ printed. printed.status ≡ 0) }
+    ensures summed { IfOk result (λ printed. IsSummed ring.0 ring.1 (problem_of net.now query.now vector.now) printed.text) }
+    ensures refused { IfErr result (FromDecision (problem_of net.now query.now vector.now)) }
+{
+    let (answer, certificate) = decided(alloc, net, query, vector)?;
+    let printed = summary_if_accepted(alloc, ring, net, query, vector, &answer, &certificate);
+    drop(certificate);
+    drop(answer);
+    printed
+}
+
+// The summary, if the certificate is accepted.
+fn summary_if_accepted<'a>(
+    alloc: Global,
+    ring: (u64, u32),
+    net: &Network,
+    query: &Query,
+    vector: &Vector,
+    answer: &Answer,
+    certificate: &Certificate,
+) -> Result<Printed, Refusal<'a>>
+    requires bounds { AreBounds net.now query.now.bounds }
+    requires text { IsWritable certificate.now }
+    ensures status { IfOk result (λ printed. printed.status ≡ 0) }
+    ensures text { IfOk result (λ printed. printed.text ≡ summary_of ring.0 ring.1 net.now query.now.bounds (length vector.now) answer.now) }
+    ensures believed { OnOk result (IsBelieved (problem_of net.now query.now vector.now) certificate.now) }
+    ensures refused { IfErr result (IsNotBelieved (problem_of net.now query.now vector.now) certificate.now) }
+{
+    accepted_word(alloc, net, query, vector, certificate)?;
+    let text = summary(alloc, ring, net, query, vector, answer)?;
+    Ok(Printed { status: 0, text })
+}

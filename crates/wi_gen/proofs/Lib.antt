@@ -1,0 +1,14 @@
+pub mod NameLemmas
+pub mod RouterLemmas
+pub mod LabelLemmas
+pub mod RangeLemmas
+pub mod TurnLemmas
+pub mod LinkLemmas
+pub mod TextsTokens
+pub mod TextsWritten
+pub mod TextsNames
+pub mod TextsFine
+pub mod RowLemmas
+pub mod BlockLemmas
+pub mod KnownLemmas
+pub mod LeftLemmas

@@ -1,0 +1,20 @@
+use Rattle.std.proofs.Common.{Ok, ap, sym, ◌∙◌}
+use Rattle.wi_wire.proofs.ValueLemmas.{known_at, walk_entry, walk_ip, walk_stop, err_is}
+use Rattle.wi_wire.proofs.values.entries_of.Goals as goal
+use Rattle.wi_wire.proofs.values.entries_of.Goals.{in-Some+in_ok-add_entry, in_default}
+
+pub entry_at-requires : goal.entry_at-requires
+entry_at-requires c = known_at c.args.net.now _ _ _ _ c.requires.known c.at.ensures c.unwrap-class.ensures
+
+pub returns-in_err-entry-clause-refused : goal.returns-in_err-entry-clause-refused
+returns-in_err-entry-clause-refused c =
+    err_is _ _ _ c.from_residual.ensures.1
+    (walk_stop c.args.net.now c.args.ttl c.args.header.now c.loop-i.i c.unwrap-class.result.0 c.unwrap-class.result.1 c.loop-i.entries.items c.in_err-entry.field-0.0 (sym c.at.ensures ∙ c.unwrap-class.ensures) (sym c.in_err-entry.ensures) c.loop-i.invariant)
+
+pub loop-i-preserved : goal.loop-i-preserved
+loop-i-preserved c = elim c.match-branch-2.branch [
+  | in-Some+in_ok-add_entry w ↦ walk_entry c.args.net.now c.args.ttl c.args.header.now c.loop-i.i c.unwrap-class.result.0 c.unwrap-class.result.1 c.loop-i.entries.items c.match-branch-2.entries.items w.in-Some.entry
+      (sym c.at.ensures ∙ c.unwrap-class.ensures) (sym c.in_ok-entry.ensures ∙ ap Ok w.in-Some.is) (ap (λ v. v.items) w.entries-is ∙ w.in_ok-add_entry.ensures) c.loop-i.invariant
+  | in_default w ↦ walk_ip c.args.net.now c.args.ttl c.args.header.now c.loop-i.i c.unwrap-class.result.0 c.unwrap-class.result.1 c.loop-i.entries.items c.match-branch-2.entries.items
+      (sym c.at.ensures ∙ c.unwrap-class.ensures) (sym c.in_ok-entry.ensures ∙ ap Ok w.in_default.is) (ap (λ v. v.items) w.entries-is) c.loop-i.invariant
+]

@@ -1,2 +1,0 @@
--- What only private contracts and proofs use: no public contract reaches it.
-pub mod Shown

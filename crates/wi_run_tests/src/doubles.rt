@@ -10,14 +10,15 @@ fn doubles(alloc: Global, n: usize) -> Result<String, AllocError> {
         alloc,
         r#"{"format":"mpls-whatif-1","routers":["r"],"labels":{"smpls":["s1"],"ip":["ip1"],"mpls":["d0""#,
     )?;
-    for i in 1..=n {
+    for below in 0..n {
+        let i = below + 1;
         text.push_str(&format!(in alloc; ",\"d{i}\"")?)?;
     }
     text.push_str(
         r#"]},"links":[{"from":"r","out":"o","to":"r","in":"i","distance":1}],"tables":[{"at":"r","in":"i","label":"d0","groups":[[{"out":"o","ops":[["pop"]]}]]}"#,
     )?;
-    for i in 1..=n {
-        let below = i - 1;
+    for below in 0..n {
+        let i = below + 1;
         text.push_str(&format!(in alloc;
             ",{{\"at\":\"r\",\"in\":\"i\",\"label\":\"d{i}\",\"groups\":[[{{\"out\":\"o\",\"ops\":[[\"swap\",\"d{below}\"],[\"push\",\"d{below}\"]]}}]]}}"
         )?)?;

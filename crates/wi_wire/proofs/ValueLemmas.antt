@@ -19,6 +19,7 @@ abbrev with_value : ℕ → Label → Option ℕ → Result (List Entry) Label �
 with_value ttl l (Some v) below = result_map_both (λ (es : List Entry). record { label = v; exp = 0; ttl = ttl } ∷ es) (λ (x : Label). x) below
 with_value ttl l None below = Err l
 
+-- entries by their definition, for the classes that have values
 entries_step : (net : Net) (ttl : ℕ) (l : Label) (c : Class) (below : List Labelled) → (c ≡ Ip → ⊥) → entries_of net ttl ((l, c) ∷ below) ≡ with_value ttl l (value_at net (l, c)) (entries_of net ttl below)
 entries_step net ttl l Ip below other = absurd (other refl)
 entries_step net ttl l Mpls below other = go (value_at net (l, Mpls)) refl
@@ -59,14 +60,14 @@ after_more : (made : List Entry) (e : Entry) (r : Result (List Entry) Label) →
 after_more made e (Ok es) = ap Ok (sym (append_assoc made (e ∷ []) es))
 after_more made e (Err x) = refl
 
--- an ip label has no entry, and each other label has one or is refused
+-- labels above the bottom aren't ip labels
 not_ip_mpls : Mpls ≡ Ip → ⊥
 not_ip_mpls h = cc
 
 not_ip_smpls : Smpls ≡ Ip → ⊥
 not_ip_smpls h = cc
 
--- where labels are left, the entries of the first go over those of the others
+-- what is left, with its first label apart
 walk_step : (net : Net) (ttl : ℕ) (header : List Labelled) (i : ℕ) (l : Label) (c : Class) (made : List Entry) → (c ≡ Ip → ⊥) → slice_get header i ≡ Some (l, c)
     → entries_of net ttl header ≡ after made (entries_of net ttl (drop i header)) → entries_of net ttl header ≡ after made (with_value ttl l (value_at net (l, c)) (entries_of net ttl (drop (i + 1) header)))
 walk_step net ttl header i l c made other here walk = walk ∙ ap (λ (h : List Labelled). after made (entries_of net ttl h)) (drop_at header i (l, c) here) ∙ ap (after made) (entries_step net ttl l c (drop (i + 1) header) other)
@@ -85,6 +86,7 @@ walk_entry net ttl header i l Ip made more e here gives push walk = cc
 walk_entry net ttl header i l Mpls made more e here gives push walk = value_goes_on net ttl l (value_at net (l, Mpls)) _ _ made more e gives push (walk_step net ttl header i l Mpls made not_ip_mpls here walk)
 walk_entry net ttl header i l Smpls made more e here gives push walk = value_goes_on net ttl l (value_at net (l, Smpls)) _ _ made more e gives push (walk_step net ttl header i l Smpls made not_ip_smpls here walk)
 
+-- a label of those classes isn't passed over
 value_is_some : (ttl : ℕ) (l : Label) (o : Option ℕ) → entry_with ttl l o ≡ Ok None → ⊥
 value_is_some ttl l None gives = cc
 value_is_some ttl l (Some v) gives = cc

@@ -117,6 +117,7 @@ fn stacks_are_read(rt: HostRuntime) {
     }
 }
 
+// Labels are numbered through the lists of their names, below.
 const M30: (Label, Class) = (Label(0), Class::Mpls);
 
 const M007: (Label, Class) = (Label(1), Class::Mpls);

@@ -1,6 +1,5 @@
-use Rattle.std.proofs.Common.{arith}
-use Rattle.std.proofs.lemmas.Grind.{common_steps}
+use Rattle.wi_wire.proofs.ReadingLemmas.{write_next}
 use Rattle.wi_wire.proofs.stack.write_stack.Goals as goal
 
 pub loop-i-preserved : goal.loop-i-preserved
-loop-i-preserved c = grind (arith, common_steps)
+loop-i-preserved c = write_next _ _ (record { label = 0; exp = 0; ttl = 0 }) _ _ c.loop-i-test.true c.in_ok-put_entry.ensures c.loop-i.invariant

@@ -1,5 +1,5 @@
 -- Of closed rows those below a lower bound are closed under it.
-use Rattle.std.proofs.Common.{◌≡◌, ℕ, List, [], ◌∷◌, Option, Some, None, IfSome, subst}
+use Rattle.std.proofs.Common.{ℕ, List, [], ◌∷◌, Option, Some, None, IfSome, subst}
 use Rattle.wi_weight.specs.Weights.{Scale, WeightLaws, IsWeight, plus, Below, AtMost}
 use Rattle.wi_weight.specs.lemmas.Order.{weight_zero, below_from_at_most, below_to_at_most}
 use Rattle.wi_pds.specs.declared.rule.Rule.{Rule}

@@ -6,6 +6,7 @@ pub mod Turns
 pub mod Walks
 pub mod Lookups
 pub mod Pushes
+pub mod Offering
 pub mod Waiting
 pub mod Made
 pub mod Searching

@@ -1,10 +1,10 @@
 -- Heaps that get candidates of rules and rows.
-use Rattle.std.specs.Prelude.{◌≡◌, ℕ, zero, suc, ◌+◌, ◌<◌, ◌^◌, ◌⊎◌, List, ◌∷◌, Some, length, slice_get, get_or, refl, IsPermutation}
+use Rattle.std.specs.Prelude.{◌≡◌, ℕ, zero, suc, ◌+◌, ◌<◌, ◌^◌, ◌⊎◌, List, ◌∷◌, Some, length, slice_get, get_or, refl}
 use Rattle.std.specs.List.{Contains}
 use Rattle.std.proofs.Common.{sym, ap, ◌∙◌, subst, inl, inr, arith}
-use Rattle.std.proofs.lemmas.List.Sorted.{Contains-permutation, IsPermutation-sym}
 use Rattle.std.proofs.lemmas.Option.{slice_get_within, slice_get_read}
-use Rattle.wi_weight.specs.Weights.{EachBelow, plus}
+use Rattle.wi_weight.specs.Weights.{Scale, WeightLaws, IsWeight, EachBelow, plus}
+use Rattle.wi_weight.specs.lemmas.Order.{at_most_self, at_most_trans}
 use Rattle.wi_weight.specs.lemmas.Sums.{each_below_more, each_below_plus}
 use Rattle.wi_pds.specs.declared.rule.Word2.{Word2}
 use Rattle.wi_pds.specs.declared.rule.Word2.TheVariants.{Empty, One, Two}
@@ -18,7 +18,9 @@ use Rattle.wi_saturate.specs.private.Chains.{ChainsView}
 use Rattle.wi_saturate.specs.private.Candidates.{AllFit}
 use Rattle.wi_saturate.specs.private.Indexes.{IsPlace, BeginsAt, IsIndexed}
 use Rattle.wi_saturate.specs.declared.turn.Turn.{Turn}
-use Rattle.wi_saturate.specs.private.Searches.{ArePair, IsSum, IsSound, Has, Adds, IsFirst, IsOne, IsTwo, HasOne, HasTwo, AreWaits, AreRowPlaces}
+use Rattle.wi_saturate.specs.declared.frontier.Frontier.{Frontier}
+use Rattle.wi_saturate.specs.private.Frontiers.{Covers, Offers}
+use Rattle.wi_saturate.specs.private.Searches.{ArePair, IsSum, IsSound, IsHeld, Adds, IsFirst, IsOne, IsTwo, HasOne, HasTwo, AreWaits, AreRowPlaces}
 use Rattle.wi_saturate.specs.private.Turns.{heads_of, rules_of, rows_of, IsTurn, IsFirstOf, ArePushed}
 use Rattle.wi_saturate.proofs.Lookups.{once}
 use Rattle.wi_saturate.proofs.Elements.{same_some, get_from_contains, contains_from_get, read_there, got_there, some_there}
@@ -33,109 +35,129 @@ here_or_there {X} xs t x h = let at = get_from_contains (t ∷ xs) x h in go at.
     go zero e = inl (same_some e)
     go (suc i) e = inr (contains_from_get xs i x e)
 
-module _ {W : Type 0} (c : W → List ℕ) (flat : List (Ruled W)) (rows : List (Row W)) where
-  pub adds_none : (heap : List (Candidate W)) → Adds c flat rows heap heap
-  adds_none heap = record { keeps = λ t h. h; sound = λ t h. inl h }
+module _ {W : Type 0} (m : Scale) (c : W → List ℕ) (laws : WeightLaws m) (admitted : (w : W) → IsWeight m (c w)) (flat : List (Ruled W)) (rows : List (Row W)) where
+  pub adds_none : (frontier : Frontier W) → Adds m c flat rows frontier frontier
+  adds_none frontier = record {
+    keeps = λ t h. h;
+    sound = λ t h. inl h;
+    lighter = λ head q x at. (x, at, at_most_self laws (c x) (admitted x));
+    held = λ head q x at. inl at;
+  }
 
-  pub adds_both : (a b d : List (Candidate W)) → Adds c flat rows a b → Adds c flat rows b d → Adds c flat rows a d
+  -- what was offered as light stays so
+  pub covers_kept : (old new : Frontier W) → Adds m c flat rows old new → (head q : ℕ) (w : List ℕ) → IsWeight m w → Covers m c old head q w → Covers m c new head q w
+  covers_kept old new adds head q w weight h =
+      let is = adds.lighter head q h.0 h.1 in
+      (is.0, is.1, at_most_trans laws (c is.0) (c h.0) w (admitted is.0) (admitted h.0) weight is.2 h.2)
+
+  pub held_kept : (old new : List (Candidate W)) → ((t : Candidate W) → Contains old t → Contains new t) → (head q : ℕ) (x : W) → IsHeld flat old head q x → IsHeld flat new head q x
+  held_kept old new keeps head q x h = (h.0, h.1, keeps h.0 h.2, h.3, h.4, h.5, h.6)
+
+  pub adds_both : (a b d : Frontier W) → Adds m c flat rows a b → Adds m c flat rows b d → Adds m c flat rows a d
   adds_both a b d first second = record {
     keeps = λ t h. second.keeps t (first.keeps t h);
     sound = λ t h. elim (second.sound t h) [
       | inl old ↦ first.sound t old
       | inr sound ↦ inr sound
     ];
-  }
-
-  pub adds_one : (old new : List (Candidate W)) (t : Candidate W) → IsPermutation (t ∷ old) new → IsSound c flat rows t → Adds c flat rows old new
-  adds_one old new t moved sound = record {
-    keeps = λ x h. Contains-permutation (t ∷ old) new x moved (contains_there old t x h);
-    sound = λ x h. elim (here_or_there old t x (Contains-permutation new (t ∷ old) x (IsPermutation-sym (t ∷ old) new moved) h)) [
-      | inl same ↦ inr (subst (λ z. IsSound c flat rows z) same sound)
-      | inr old ↦ inl old
+    lighter = λ head q x at. covers_kept b d second head q (c x) (admitted x) (first.lighter head q x at);
+    held = λ head q x at. elim (second.held head q x at) [
+      | inl old ↦ elim (first.held head q x old) [
+        | inl older ↦ inl older
+        | inr is ↦ inr (held_kept b.heap d.heap second.keeps head q x is)
+      ]
+      | inr is ↦ inr is
     ];
   }
 
-  pub has_pushed : (old new : List (Candidate W)) (t : Candidate W) → IsPermutation (t ∷ old) new → Has c new t.rule t.left t.right (c t.weight)
-  has_pushed old new t moved = (t, Contains-permutation (t ∷ old) new t moved (contains_from_get (t ∷ old) 0 t refl), refl, refl, refl, refl)
+  -- a sound candidate was offered
+  pub adds_one : (old new : Frontier W) (t : Candidate W) (f : Ruled W) → slice_get flat t.rule ≡ Some f → IsSum c rows f.rule.to (c f.rule.weight) f.rule.word t.left t.right t.q (c t.weight)
+      → Offers m c f.head t old new → Adds m c flat rows old new
+  adds_one old new t f at sum offered = record {
+    keeps = offered.keeps;
+    sound = λ x h. elim (offered.only x h) [
+      | inl before ↦ inl before
+      | inr same ↦ inr (subst (λ z. IsSound c flat rows z) same (f, at, sum))
+    ];
+    lighter = offered.lighter;
+    held = λ head q x h. elim (offered.held head q x h) [
+      | inl before ↦ inl before
+      | inr is ↦ inr (t, f, is.3, at, sym is.0, sym is.1, sym is.2)
+    ];
+  }
 
-  pub has_kept : (old new : List (Candidate W)) → Adds c flat rows old new → (k i j : ℕ) (w : List ℕ) → Has c old k i j w → Has c new k i j w
-  has_kept old new adds k i j w h = (h.0, adds.keeps h.0 h.1, h.2, h.3, h.4, h.5)
+  pub one_kept : (old new : Frontier W) → Adds m c flat rows old new → (k i : ℕ) → HasOne m c flat rows old k i → HasOne m c flat rows new k i
+  one_kept old new adds k i h u f r at word row p g =
+      covers_kept old new adds f.head r.q _ (laws.sum (c f.rule.weight) (c r.weight) (admitted f.rule.weight) (admitted r.weight)) (h u f r at word row p g)
 
-  pub one_kept : (old new : List (Candidate W)) → Adds c flat rows old new → (k i : ℕ) → HasOne c flat rows old k i → HasOne c flat rows new k i
-  one_kept old new adds k i h u f r at word row p g = has_kept old new adds k i 0 _ (h u f r at word row p g)
+  pub two_weighs : (x y z : W) → IsWeight m (plus (plus (c x) (c y)) (c z))
+  two_weighs x y z = laws.sum (plus (c x) (c y)) (c z) (laws.sum (c x) (c y) (admitted x) (admitted y)) (admitted z)
 
-  pub two_kept : (old new : List (Candidate W)) → Adds c flat rows old new → (k i j : ℕ) → HasTwo c flat rows old k i j → HasTwo c flat rows new k i j
-  two_kept old new adds k i j h u v f r s at word row row' pair = has_kept old new adds k i j _ (h u v f r s at word row row' pair)
+  pub two_kept : (old new : Frontier W) → Adds m c flat rows old new → (k i j : ℕ) → HasTwo m c flat rows old k i j → HasTwo m c flat rows new k i j
+  two_kept old new adds k i j h u v f r s at word row row' pair =
+      covers_kept old new adds f.head s.q _ (two_weighs f.rule.weight r.weight s.weight) (h u v f r s at word row row' pair)
 
   -- the candidate of a rule and a row
   module _ (k i : ℕ) (f : Ruled W) (r : Row W) (at : slice_get flat k ≡ Some f) (row : slice_get rows i ≡ Some r) where
-    one_added : (old new : List (Candidate W)) (x : W) → c x ≡ plus (c f.rule.weight) (c r.weight) → IsOne flat rows k i
-        → IsPermutation (record { weight = x; rule = k; left = i; right = 0 } ∷ old) new → Adds c flat rows old new × HasOne c flat rows new k i
-    one_added old new x sum one moved =
+    one_added : (old new : Frontier W) (x : W) → c x ≡ plus (c f.rule.weight) (c r.weight) → IsOne flat rows k i
+        → Offers m c f.head (record { weight = x; q = r.q; rule = k; left = i; right = 0 }) old new → Adds m c flat rows old new × HasOne m c flat rows new k i
+    one_added old new x sum one offered =
         let same : one.0 ≡ f = same_some (sym one.3 ∙ at) in
         let same' : one.1 ≡ r = same_some (sym one.5 ∙ row) in (
-          adds_one old new (record { weight = x; rule = k; left = i; right = 0 }) moved (
-            f,
-            at,
-            subst (λ z. IsSum c rows f.rule.to (c f.rule.weight) z i 0 (c x)) (sym (ap (λ (z : Ruled W). z.rule.word) (sym same) ∙ one.4))
-                (r, row, ap (λ (z : Row W). z.p) (sym same') ∙ one.6 ∙ ap (λ (z : Ruled W). z.rule.to) same, ap (λ (z : Row W). z.g) (sym same') ∙ one.7, sum),
-          ),
+          adds_one old new (record { weight = x; q = r.q; rule = k; left = i; right = 0 }) f at
+              (subst (λ z. IsSum c rows f.rule.to (c f.rule.weight) z i 0 r.q (c x)) (sym (ap (λ (z : Ruled W). z.rule.word) (sym same) ∙ one.4))
+              (r, row, ap (λ (z : Row W). z.p) (sym same') ∙ one.6 ∙ ap (λ (z : Ruled W). z.rule.to) same, ap (λ (z : Row W). z.g) (sym same') ∙ one.7, refl, sum)) offered,
           λ u g s at' word row' p q.
               let alike : f ≡ g = same_some (sym at ∙ at') in
               let alike' : r ≡ s = same_some (sym row ∙ row') in
-              subst (λ (z : Ruled W). Has c new k i 0 (plus (c z.rule.weight) (c s.weight))) alike
-              (subst (λ (z : Row W). Has c new k i 0 (plus (c f.rule.weight) (c z.weight))) alike'
-              (subst (λ w. Has c new k i 0 w) sum (has_pushed old new (record { weight = x; rule = k; left = i; right = 0 }) moved))),
+              subst (λ (z : Ruled W). Covers m c new z.head s.q (plus (c z.rule.weight) (c s.weight))) alike
+              (subst (λ (z : Row W). Covers m c new f.head z.q (plus (c f.rule.weight) (c z.weight))) alike'
+              (subst (λ w. Covers m c new f.head r.q w) sum offered.covers)),
         )
 
     -- the candidate of a rule and two rows
-    two_added : (j : ℕ) (s : Row W) → slice_get rows j ≡ Some s → (old new : List (Candidate W)) (x : W) → c x ≡ plus (plus (c f.rule.weight) (c r.weight)) (c s.weight) → IsTwo flat rows k i j
-        → IsPermutation (record { weight = x; rule = k; left = i; right = j } ∷ old) new → Adds c flat rows old new × HasTwo c flat rows new k i j
-    two_added j s second old new x sum two moved =
+    two_added : (j : ℕ) (s : Row W) → slice_get rows j ≡ Some s → (old new : Frontier W) (x : W) → c x ≡ plus (plus (c f.rule.weight) (c r.weight)) (c s.weight) → IsTwo flat rows k i j
+        → Offers m c f.head (record { weight = x; q = s.q; rule = k; left = i; right = j }) old new → Adds m c flat rows old new × HasTwo m c flat rows new k i j
+    two_added j s second old new x sum two offered =
         let same : two.0 ≡ f = same_some (sym two.5 ∙ at) in
         let same' : two.1 ≡ r = same_some (sym two.7 ∙ row) in
         let same'' : two.2 ≡ s = same_some (sym two.8 ∙ second) in
         let pair : ArePair f.rule.to two.3 two.4 r s =
         subst (λ (z : Row W). ArePair f.rule.to two.3 two.4 r z) same'' (subst (λ (z : Row W). ArePair f.rule.to two.3 two.4 z two.2) same' (subst (λ (z : Ruled W). ArePair z.rule.to two.3 two.4 two.1 two.2) same two.9)) in (
-          adds_one old new (record { weight = x; rule = k; left = i; right = j }) moved (
-            f,
-            at,
-            subst (λ z. IsSum c rows f.rule.to (c f.rule.weight) z i j (c x)) (sym (ap (λ (z : Ruled W). z.rule.word) (sym same) ∙ two.6)) (r, s, row, second, pair, sum),
-          ),
+          adds_one old new (record { weight = x; q = s.q; rule = k; left = i; right = j }) f at
+              (subst (λ z. IsSum c rows f.rule.to (c f.rule.weight) z i j s.q (c x)) (sym (ap (λ (z : Ruled W). z.rule.word) (sym same) ∙ two.6)) (r, s, row, second, pair, refl, sum)) offered,
           λ u v g r' s' at' word row' second' pair'.
               let alike : f ≡ g = same_some (sym at ∙ at') in
               let alike' : r ≡ r' = same_some (sym row ∙ row') in
               let alike'' : s ≡ s' = same_some (sym second ∙ second') in
-              subst (λ (z : Ruled W). Has c new k i j (plus (plus (c z.rule.weight) (c r'.weight)) (c s'.weight))) alike
-              (subst (λ (z : Row W). Has c new k i j (plus (plus (c f.rule.weight) (c z.weight)) (c s'.weight))) alike'
-              (subst (λ (z : Row W). Has c new k i j (plus (plus (c f.rule.weight) (c r.weight)) (c z.weight))) alike''
-              (subst (λ w. Has c new k i j w) sum (has_pushed old new (record { weight = x; rule = k; left = i; right = j }) moved)))),
+              subst (λ (z : Ruled W). Covers m c new z.head s'.q (plus (plus (c z.rule.weight) (c r'.weight)) (c s'.weight))) alike
+              (subst (λ (z : Row W). Covers m c new f.head s'.q (plus (plus (c f.rule.weight) (c z.weight)) (c s'.weight))) alike'
+              (subst (λ (z : Row W). Covers m c new f.head z.q (plus (plus (c f.rule.weight) (c r.weight)) (c z.weight))) alike''
+              (subst (λ w. Covers m c new f.head s.q w) sum offered.covers))),
         )
 
   -- the same, at what the code reads
-  pub one_pushed : (k i : ℕ) (f : Ruled W) (d : Row W) → f ≡ get_or flat k f → (old new : List (Candidate W)) (x : W) → c x ≡ plus (c f.rule.weight) (c (get_or rows i d).weight) → IsOne flat rows k i
-      → IsPermutation (record { weight = x; rule = k; left = i; right = 0 } ∷ old) new → Adds c flat rows old new × HasOne c flat rows new k i
-  one_pushed k i f d is old new x sum one moved = one_added k i f (get_or rows i d) (read_there flat k f one.0 one.3 is) (got_there rows i d one.1 one.5) old new x sum one moved
+  pub one_pushed : (k i : ℕ) (f : Ruled W) (d : Row W) → f ≡ get_or flat k f → (old new : Frontier W) (x : W) → c x ≡ plus (c f.rule.weight) (c (get_or rows i d).weight) → IsOne flat rows k i
+      → Offers m c f.head (record { weight = x; q = (get_or rows i d).q; rule = k; left = i; right = 0 }) old new → Adds m c flat rows old new × HasOne m c flat rows new k i
+  one_pushed k i f d is old new x sum one offered = one_added k i f (get_or rows i d) (read_there flat k f one.0 one.3 is) (got_there rows i d one.1 one.5) old new x sum one offered
 
-  pub two_pushed : (k i j : ℕ) (f : Ruled W) (d e : Row W) → f ≡ get_or flat k f → (old new : List (Candidate W)) (x h : W) → c h ≡ plus (c f.rule.weight) (c (get_or rows i d).weight)
-      → c x ≡ plus (c h) (c (get_or rows j e).weight) → IsTwo flat rows k i j → IsPermutation (record { weight = x; rule = k; left = i; right = j } ∷ old) new → Adds c flat rows old new × HasTwo c flat rows new k i j
-  two_pushed k i j f d e is old new x h half sum two moved =
+  pub two_pushed : (k i j : ℕ) (f : Ruled W) (d e : Row W) → f ≡ get_or flat k f → (old new : Frontier W) (x h : W) → c h ≡ plus (c f.rule.weight) (c (get_or rows i d).weight)
+      → c x ≡ plus (c h) (c (get_or rows j e).weight) → IsTwo flat rows k i j → Offers m c f.head (record { weight = x; q = (get_or rows j e).q; rule = k; left = i; right = j }) old new
+      → Adds m c flat rows old new × HasTwo m c flat rows new k i j
+  two_pushed k i j f d e is old new x h half sum two offered =
       two_added k i f (get_or rows i d) (read_there flat k f two.0 two.5 is) (got_there rows i d two.1 two.7) j (get_or rows j e) (got_there rows j e two.2 two.8) old new x
-      (sum ∙ ap (λ w. plus w (c (get_or rows j e).weight)) half) two moved
+      (sum ∙ ap (λ w. plus w (c (get_or rows j e).weight)) half) two offered
 
 -- nothing was pushed, or something and then more
-module _ {W : Type 0} (c : W → List ℕ) (turn : Turn W) where
-  pub pushed_none : (heap : List (Candidate W)) (n : ℕ) → ArePushed c turn heap heap n n
-  pushed_none heap n = record { adds = adds_none c (rules_of turn) (rows_of turn) heap; lengths = refl }
+module _ {W : Type 0} (m : Scale) (c : W → List ℕ) (laws : WeightLaws m) (admitted : (w : W) → IsWeight m (c w)) (turn : Turn W) where
+  pub pushed_none : (frontier : Frontier W) (n : ℕ) → ArePushed m c turn frontier frontier n n
+  pushed_none frontier n = record { adds = adds_none m c laws admitted (rules_of turn) (rows_of turn) frontier; lengths = refl }
 
-  pub pushed_both : (a b d : List (Candidate W)) (l m n : ℕ) → ArePushed c turn a b l m → ArePushed c turn b d m n → ArePushed c turn a d l n
-  pushed_both a b d l m n first second = record {
-    adds = adds_both c (rules_of turn) (rows_of turn) a b d first.adds second.adds;
-    lengths = let h : length b + l ≡ length a + m = first.lengths in let k : length d + m ≡ length b + n = second.lengths in omega arith;
+  pub pushed_both : (a b d : Frontier W) (l k n : ℕ) → ArePushed m c turn a b l k → ArePushed m c turn b d k n → ArePushed m c turn a d l n
+  pushed_both a b d l k n first second = record {
+    adds = adds_both m c laws admitted (rules_of turn) (rows_of turn) a b d first.adds second.adds;
+    lengths = let h : length b.heap + l ≡ length a.heap + k = first.lengths in let i : length d.heap + k ≡ length b.heap + n = second.lengths in omega arith;
   }
-
-  pub pushed_one : (a b : List (Candidate W)) (l m : ℕ) → Adds c (rules_of turn) (rows_of turn) a b → length b ≡ length a + 1 → m ≡ l + 1 → ArePushed c turn a b l m
-  pushed_one a b l m adds longer more = record { adds = adds; lengths = omega arith }
 
 -- the sums can be made
 module _ {W : Type 0} (c : W → List ℕ) (flat : List (Ruled W)) (rows : List (Row W)) (small : (k : ℕ) (f : Ruled W) → slice_get flat k ≡ Some f → EachBelow (2 ^ 64) (c f.rule.weight)) (fit : AllFit c rows) where
@@ -180,9 +202,9 @@ one_first flat rows k i u f within within' is first word =
     (f, r.0, u, at, word, r.1, parts.0, parts.1)
 
 -- where the rule isn't one of one symbol
-pub no_one : {W : Type 0} (c : W → List ℕ) (flat : List (Ruled W)) (rows : List (Row W)) (heap : List (Candidate W)) (k i : ℕ) (f : Ruled W) → k < length flat → f ≡ get_or flat k f
-    → ((u : ℕ) → f.rule.word ≡ One u → ⊥) → HasOne c flat rows heap k i
-no_one c flat rows heap k i f within is none u g r at word row p q =
+pub no_one : {W : Type 0} (m : Scale) (c : W → List ℕ) (flat : List (Ruled W)) (rows : List (Row W)) (frontier : Frontier W) (k i : ℕ) (f : Ruled W) → k < length flat → f ≡ get_or flat k f
+    → ((u : ℕ) → f.rule.word ≡ One u → ⊥) → HasOne m c flat rows frontier k i
+no_one m c flat rows frontier k i f within is none u g r at word row p q =
     let same : f ≡ g = same_some (sym (slice_get_read flat (length flat) k f refl within is) ∙ at) in
     absurd (none u (ap (λ (z : Ruled _). z.rule.word) same ∙ word))
 

@@ -24,14 +24,18 @@ use Rattle.wi_saturate.specs.private.Chains.{ChainsView}
 use Rattle.wi_saturate.specs.Rows.{summaries, Settled}
 use Rattle.wi_saturate.specs.private.Candidates.{BestAtMost, IsBeaten, IsOpen, IsCandidate, IsSeen}
 use Rattle.wi_saturate.specs.private.Indexes.{IsIndex}
-use Rattle.wi_saturate.specs.private.Searches.{ArePair, IsSum, Has, Adds, HasOne, HasTwo, HasPops, IsKept, IsKeptRule, AreRowPlaces, AreWaits, HasWait, EndsIn, EndsThere, IsRowOf, IsSearch}
+use Rattle.std.specs.HashMap.{get}
+use Rattle.wi_saturate.specs.declared.frontier.Frontier.{Frontier}
+use Rattle.wi_saturate.specs.private.Frontiers.{same_summary, IsUnoffered, Covers, Offers}
+use Rattle.wi_saturate.specs.private.Searches.{ArePair, IsSum, IsHeld, Adds, HasOne, HasTwo, HasPops, IsCovered, AreHeld, AreRowPlaces, AreWaits, HasWait, EndsThere, IsRowOf, Begins, IsSearch}
 use Rattle.std.specs.List.{sum_by}
 use Rattle.std.proofs.lemmas.List.Sums.{sum_by-append}
 use Rattle.wi_saturate.specs.private.Tries.{of_head, all_begun, begun, IsMore}
 use Rattle.wi_saturate.proofs.Counts.{sum_same, sum_both, begun_more}
 use Rattle.wi_saturate.proofs.Elements.{same_some, same_item, get_push, get_before, get_last, contains_from_get, some_there, false_when}
 use Rattle.wi_saturate.proofs.Lookups.{ruled_named, ruled_all, once}
-use Rattle.wi_saturate.proofs.Pushes.{here_or_there, contains_there, adds_one, adds_both, has_pushed, has_kept}
+use Rattle.wi_weight.specs.lemmas.Order.{at_most_trans}
+use Rattle.wi_saturate.proofs.Pushes.{here_or_there, contains_there, adds_one, adds_both, covers_kept, held_kept, two_weighs}
 use Rattle.wi_saturate.proofs.RuleRows.{seen_empty, seen_one, seen_two, made_at}
 
 -- what is settled stays so with one row more, which is settled too
@@ -44,39 +48,45 @@ settled_last rows b = (length rows, b, get_last rows b, (refl, refl, refl))
 pub taken_there : {X : Type 0} (old new : List X) (t : X) → IsPermutation old (t ∷ new) → Contains old t
 taken_there old new t taken = Contains-permutation (t ∷ new) old t (IsPermutation-sym old (t ∷ new) taken) (contains_from_get (t ∷ new) 0 t refl)
 
--- a candidate is taken out, and what it makes is settled
+-- a candidate is taken off the heap, and what it makes is settled
 module _ {W : Type 0} (m : Scale) (c : W → List ℕ) (heads : List (ℕ × ℕ)) (flat : List (Ruled W)) (rows settled settled' : List (Row W)) (more : (p g q : ℕ) → Settled settled p g q → Settled settled' p g q)
-    (t : Candidate W) (heap heap' : List (Candidate W)) (taken : IsPermutation heap (t ∷ heap')) (b : Row W) (done : Settled settled' b.p b.g b.q) where
-  kept_moved : (p g q k i j : ℕ) (w : List ℕ) → (t.rule ≡ k → t.left ≡ i → t.right ≡ j → (b.p ≡ p) × (b.g ≡ g) × (b.q ≡ q)) → IsKept c settled heap p g q k i j w → IsKept c settled' heap' p g q k i j w
-  kept_moved p g q k i j w is h = elim h [
+    (t : Candidate W) (old new : Frontier W) (taken : IsPermutation old.heap (t ∷ new.heap)) (same : new.lightest ≡ old.lightest) (b : Row W) (done : Settled settled' b.p b.g b.q) (of : IsRowOf m c heads flat rows t b) where
+  before : (x : Candidate W) → Contains new.heap x → Contains old.heap x
+  before x at = Contains-permutation (t ∷ new.heap) old.heap x (IsPermutation-sym old.heap (t ∷ new.heap) taken) (contains_there new.heap t x at)
+
+  covers_still : (head q : ℕ) (w : List ℕ) → Covers m c old head q w → Covers m c new head q w
+  covers_still head q w h = (h.0, subst (λ z. get same_summary z (head, q) ≡ Some h.0) (sym same) h.1, h.2)
+
+  covered_still : (head to : ℕ) (x : List ℕ) (word : Word2) → IsCovered m c rows old head to x word → IsCovered m c rows new head to x word
+  covered_still head to x Empty h = covers_still head to x h
+  covered_still head to x (One u) h = λ i r at from symbol. covers_still head r.q _ (h i r at from symbol)
+  covered_still head to x (Two u v) h = λ i j r s at at' pair. covers_still head s.q _ (h i j r s at at' pair)
+
+  -- what the candidate makes is settled
+  taken_settled : (head p g q : ℕ) (x : W) → slice_get heads head ≡ Some (p, g) → (is : IsHeld flat old.heap head q x) → t ≡ is.0 → Settled settled' p g q
+  taken_settled head p g q x at is e =
+      let by = of.by is.1 (subst (λ (z : Candidate W). slice_get flat z.rule ≡ Some is.1) (sym e) is.3) in
+      let pair : (b.p, b.g) ≡ (p, g) = same_some (sym by.0 ∙ ap (λ n. slice_get heads n) is.4 ∙ at) in
+      let end : b.q ≡ q = of.end ∙ ap (λ (z : Candidate W). z.q) e ∙ is.5 in
+      subst (λ z. Settled settled' z g q) (ap (λ z. z.0) pair) (subst (λ z. Settled settled' b.p z q) (ap (λ z. z.1) pair) (subst (λ z. Settled settled' b.p b.g z) end done))
+
+  held_still : AreHeld heads flat settled old → AreHeld heads flat settled' new
+  held_still held head p g q x at here = elim (held head p g q x (subst (λ z. get same_summary z (head, q) ≡ Some x) same at) here) [
     | inl s ↦ inl (more p g q s)
-    | inr has ↦ elim (here_or_there heap' t has.0 (Contains-permutation heap (t ∷ heap') has.0 taken has.1)) [
-      | inl same ↦
-          let at = is (ap (λ (z : Candidate W). z.rule) same ∙ has.2) (ap (λ (z : Candidate W). z.left) same ∙ has.3) (ap (λ (z : Candidate W). z.right) same ∙ has.4) in
-          inl (subst (λ x. Settled settled' x g q) at.0 (subst (λ x. Settled settled' b.p x q) at.1 (subst (λ x. Settled settled' b.p b.g x) at.2 done)))
-      | inr there ↦ inr (has.0, there, has.2, has.3, has.4, has.5)
+    | inr is ↦ elim (here_or_there new.heap t is.0 (Contains-permutation old.heap (t ∷ new.heap) is.0 taken is.2)) [
+      | inl e ↦ inl (taken_settled head p g q x here is e)
+      | inr there ↦ inr (is.0, is.1, there, is.3, is.4, is.5, is.6)
     ]
   ]
 
-  kept_word : (p g k to : ℕ) (x : List ℕ) (word : Word2) → (t.rule ≡ k → (b.p ≡ p) × (b.g ≡ g) × EndsIn rows to word t.left t.right b.q)
-      → IsKeptRule c rows settled heap p g k to x word → IsKeptRule c rows settled' heap' p g k to x word
-  kept_word p g k to x Empty is h = kept_moved p g to k 0 0 x (λ e _ _. let z = is e in (z.0, z.1, z.2)) h
-  kept_word p g k to x (One u) is h = λ i r at from symbol.
-      kept_moved p g r.q k i 0 _ (λ e l _. let z = is e in (z.0, z.1, z.2 r (subst (λ n. slice_get rows n ≡ Some r) (sym l) at))) (h i r at from symbol)
-  kept_word p g k to x (Two u v) is h = λ i j r s at at' pair.
-      kept_moved p g s.q k i j _ (λ e _ l. let z = is e in (z.0, z.1, z.2 s (subst (λ n. slice_get rows n ≡ Some s) (sym l) at'))) (h i j r s at at' pair)
-
-  pub taken_out : IsRowOf m c heads flat rows t b → (search search' : Search W) → search.heap ≡ heap → search'.heap ≡ heap' → search'.rows ≡ search.rows → search'.waits ≡ search.waits
-      → IsSearch c heads flat rows settled search → IsSearch c heads flat rows settled' search'
-  taken_out of search search' e e' r ws h = record {
-    sound = λ x at. h.sound x (subst (λ z. Contains z x) (sym e) (Contains-permutation (t ∷ heap') heap x (IsPermutation-sym heap (t ∷ heap') taken) (contains_there heap' t x (subst (λ z. Contains z x) e' at))));
-    kept = λ k p g f at head.
-        subst (λ z. IsKeptRule c rows settled' z p g k f.rule.to (c f.rule.weight) f.rule.word) (sym e')
-        (kept_word p g k f.rule.to (c f.rule.weight) f.rule.word (λ same.
-        let by = of.by f (subst (λ n. slice_get flat n ≡ Some f) (sym same) at) in
-        let pair : (b.p, b.g) ≡ (p, g) = same_some (sym by.0 ∙ head) in
-        (ap (λ z. z.0) pair, ap (λ z. z.1) pair, by.1))
-        (subst (λ z. IsKeptRule c rows settled z p g k f.rule.to (c f.rule.weight) f.rule.word) e (h.kept k p g f at head)));
+  pub taken_out : (search search' : Search W) → search.frontier ≡ old → search'.frontier ≡ new → search'.rows ≡ search.rows → search'.waits ≡ search.waits
+      → IsSearch m c heads flat rows settled search → IsSearch m c heads flat rows settled' search'
+  taken_out search search' e e' r ws h = record {
+    sound = λ x at. h.sound x (subst (λ (z : Frontier W). Contains z.heap x) (sym e) (before x (subst (λ (z : Frontier W). Contains z.heap x) e' at)));
+    covered = λ k f at.
+        subst (λ z. IsCovered m c rows z f.head f.rule.to (c f.rule.weight) f.rule.word) (sym e')
+        (covered_still f.head f.rule.to (c f.rule.weight) f.rule.word (subst (λ z. IsCovered m c rows z f.head f.rule.to (c f.rule.weight) f.rule.word) e (h.covered k f at)));
+    held = subst (λ z. AreHeld heads flat settled' z) (sym e') (held_still (subst (λ z. AreHeld heads flat settled z) e h.held));
     places = subst (λ z. AreRowPlaces heads rows z) (sym r) h.places;
     waits = subst (λ z. AreWaits heads flat rows z) (sym ws) h.waits;
     waiting = subst (λ z. (k i : ℕ) → HasWait heads flat rows z 0 k i) (sym ws) h.waiting;
@@ -93,45 +103,52 @@ module _ {W : Type 0} (m : Scale) (c : W → List ℕ) (laws : WeightLaws m) (ad
       let is = ruled_named rules all_heads k f (subst (λ z. slice_get z k ≡ Some f) indexed.listed at) in
       slice_get_within all_heads f.head is.0 is.1
 
+  best_most : (best : Option (Row W)) (v : W) (w : List ℕ) → IsWeight m w → AtMost m (c v) w → BestAtMost m c best (c v) → BestAtMost m c best w
+  best_most None v w weight more h = h
+  best_most (Some b) v w weight more h = at_most_trans laws (c b.weight) (c v) w (admitted b.weight) (admitted v) weight h more
+
   -- what the rules make is beaten by what none of the candidates is lighter than
-  module _ (heap : List (Candidate W)) (best : Option (Row W)) (lightest : (x : Candidate W) → Contains heap x → BestAtMost m c best (c x.weight)) where
-    beaten : (p g q k i j : ℕ) (w : List ℕ) → IsKept c rows heap p g q k i j w → IsBeaten m c rows best p g q w
-    beaten p g q k i j w h = elim h [
+  module _ (search : Search W) (is : IsSearch m c all_heads index.rules.items rows rows search) (best : Option (Row W))
+      (lightest : (x : Candidate W) → Contains search.frontier.heap x → BestAtMost m c best (c x.weight)) where
+    beaten : (head p g q : ℕ) (w : List ℕ) → slice_get all_heads head ≡ Some (p, g) → IsWeight m w → Covers m c search.frontier head q w → IsBeaten m c rows best p g q w
+    beaten head p g q w at weight h = elim (is.held head p g q h.0 h.1 at) [
       | inl s ↦ inl s
-      | inr has ↦ inr (subst (λ z. BestAtMost m c best z) has.5 (lightest has.0 has.1))
+      | inr held ↦ inr (best_most best h.0 w weight h.2 (subst (λ (z : W). BestAtMost m c best (c z)) held.6 (lightest held.0 held.2)))
     ]
 
-    seen_word : (p g k : ℕ) (rule : Rule W) (word : Word2) → IsKeptRule c rows rows heap p g k rule.to (c rule.weight) word
+    seen_word : (head p g : ℕ) (rule : Rule W) (word : Word2) → slice_get all_heads head ≡ Some (p, g) → IsCovered m c rows search.frontier head rule.to (c rule.weight) word
         → (q : ℕ) (w : List ℕ) → Chain m (summaries c rows) rule.to (symbols word) q w → IsBeaten m c rows best p g q (plus (c rule.weight) w)
-    seen_word p g k rule Empty h = seen_empty m c laws admitted rows p g 0 rule best (beaten p g rule.to k 0 0 (c rule.weight) h)
-    seen_word p g k rule (One u) h = seen_one m c laws admitted rows p g 0 rule best u (λ i r at from symbol. beaten p g r.q k i 0 _ (h i r at from symbol))
-    seen_word p g k rule (Two u v) h =
-        seen_two m c laws admitted rows p g 0 rule best u v (λ i j r s at from symbol at' next symbol'. beaten p g s.q k i j _ (h i j r s at at' (from, symbol, next, symbol')))
+    seen_word head p g rule Empty at h = seen_empty m c laws admitted rows p g 0 rule best (beaten head p g rule.to (c rule.weight) at (admitted rule.weight) h)
+    seen_word head p g rule (One u) at h =
+        seen_one m c laws admitted rows p g 0 rule best u (λ i r there from symbol. beaten head p g r.q _ at (laws.sum (c rule.weight) (c r.weight) (admitted rule.weight) (admitted r.weight)) (h i r there from symbol))
+    seen_word head p g rule (Two u v) at h =
+        seen_two m c laws admitted rows p g 0 rule best u v
+        (λ i j r s there from symbol there' next symbol'. beaten head p g s.q _ at
+        (laws.sum (plus (c rule.weight) (c r.weight)) (c s.weight) (laws.sum (c rule.weight) (c r.weight) (admitted rule.weight) (admitted r.weight)) (admitted s.weight)) (h i j r s there there' (from, symbol, next, symbol')))
 
-    pub all_seen : (search : Search W) → search.heap ≡ heap → IsSearch c all_heads index.rules.items rows rows search → IsSeen m c rules all_heads rows best
-    all_seen search e h p g rule head at q w chain =
-        let is = ruled_all rules all_heads p g rule head at in
-        let there : slice_get index.rules.items is.0 ≡ Some is.1 = subst (λ z. slice_get z is.0 ≡ Some is.1) (sym indexed.listed) is.2 in
-        let kept : IsKeptRule c rows rows heap p g is.0 is.1.rule.to (c is.1.rule.weight) is.1.rule.word =
-        subst (λ z. IsKeptRule c rows rows z p g is.0 is.1.rule.to (c is.1.rule.weight) is.1.rule.word) e (h.kept is.0 p g is.1 there is.3) in
-        seen_word p g is.0 rule rule.word (subst (λ (z : Rule W). IsKeptRule c rows rows heap p g is.0 z.to (c z.weight) z.word) is.4 kept) q w chain
+    pub all_seen : IsSeen m c rules all_heads rows best
+    all_seen p g rule head at q w chain =
+        let named = ruled_all rules all_heads p g rule head at in
+        let there : slice_get index.rules.items named.0 ≡ Some named.1 = subst (λ z. slice_get z named.0 ≡ Some named.1) (sym indexed.listed) named.2 in
+        seen_word named.1.head p g rule rule.word named.3
+        (subst (λ (z : Rule W). IsCovered m c rows search.frontier named.1.head z.to (c z.weight) z.word) named.4 (is.covered named.0 named.1 there)) q w chain
 
   -- nothing is left
-  pub none_seen : (search : Search W) → search.heap ≡ [] → IsSearch c all_heads index.rules.items rows rows search → IsSeen m c rules all_heads rows None
-  none_seen search e h = all_seen [] None (λ x at. let within : at.0 < 0 = at.1 in absurd (omega arith)) search e h
+  pub none_seen : (search : Search W) → search.frontier.heap ≡ [] → IsSearch m c all_heads index.rules.items rows rows search → IsSeen m c rules all_heads rows None
+  none_seen search e h = all_seen search h None (λ x at. let none : Contains [] x = subst (λ z. Contains z x) e at in let within : none.0 < 0 = none.1 in absurd (omega arith))
 
   module _ (t : Candidate W) (b : Row W) (of : IsRowOf m c all_heads index.rules.items rows t b) where
     -- the lightest is taken out
-    pub lightest_seen : (search : Search W) → All (λ (x : Candidate W). AtMost m (c t.weight) (c x.weight)) search.heap → IsSearch c all_heads index.rules.items rows rows search → IsSeen m c rules all_heads rows (Some b)
+    pub lightest_seen : (search : Search W) → All (λ (x : Candidate W). AtMost m (c t.weight) (c x.weight)) search.frontier.heap → IsSearch m c all_heads index.rules.items rows rows search → IsSeen m c rules all_heads rows (Some b)
     lightest_seen search least h =
-        all_seen search.heap (Some b) (λ x at. subst (λ (z : W). AtMost m (c z) (c x.weight)) (sym of.weight) (All-contains (λ (x : Candidate W). AtMost m (c t.weight) (c x.weight)) search.heap x least at)) search refl h
+        all_seen search h (Some b) (λ x at. subst (λ (z : W). AtMost m (c z) (c x.weight)) (sym of.weight) (All-contains (λ (x : Candidate W). AtMost m (c t.weight) (c x.weight)) search.frontier.heap x least at))
 
     pub open_candidate : (f : Ruled W) → slice_get index.rules.items t.rule ≡ Some f → IsOpen rows b → IsCandidate m c rules all_heads rows b
     open_candidate f at unsettled =
         let by = of.by f at in
         let is = ruled_named rules all_heads t.rule f (subst (λ z. slice_get z t.rule ≡ Some f) indexed.listed at) in
         let pair : is.0 ≡ (b.p, b.g) = same_item all_heads f.head is.0 (b.p, b.g) is.1 by.0 in
-        let made = made_at m c rules rows b.p b.g f.at f.rule b (subst (λ (z : ℕ × ℕ). slice_get (rules z.0 z.1) f.at ≡ Some f.rule) pair is.2) by.2 in
+        let made = made_at m c rules rows b.p b.g f.at f.rule b (subst (λ (z : ℕ × ℕ). slice_get (rules z.0 z.1) f.at ≡ Some f.rule) pair is.2) by.1 in
         (contains_from_get all_heads f.head (b.p, b.g) by.0, made.2, unsettled)
 
 -- whether a row at a place ends in a state, by a walk along the rows at the place
@@ -164,36 +181,52 @@ module _ {W : Type 0} (heads : List (ℕ × ℕ)) (rise : IsStrictlySortedBy pai
       (s.0, s.1, s.2, subst (λ n. slice_get places.places s.0 ≡ Some n) (once heads rise at.0 place p g there head) at.1, s.3.2)
 
 -- the candidates of rules that take their symbol off
-module _ {W : Type 0} (c : W → List ℕ) (flat : List (Ruled W)) (k : ℕ) (f : Ruled W) (at : slice_get flat k ≡ Some f) where
-  pub pop_pushed : (old new : List (Candidate W)) → f.rule.word ≡ Empty → IsPermutation (record { weight = f.rule.weight; rule = k; left = 0; right = 0 } ∷ old) new → Adds c flat [] old new × HasPops c flat new k
-  pop_pushed old new word moved = (
-    adds_one c flat [] old new (record { weight = f.rule.weight; rule = k; left = 0; right = 0 }) moved
-        (f, at, subst (λ z. IsSum c [] f.rule.to (c f.rule.weight) z 0 0 (c f.rule.weight)) (sym word) refl),
-    λ g there _. subst (λ (z : Ruled W). Has c new k 0 0 (c z.rule.weight)) (same_item flat k f g at there)
-        (has_pushed c flat [] old new (record { weight = f.rule.weight; rule = k; left = 0; right = 0 }) moved),
+module _ {W : Type 0} (m : Scale) (c : W → List ℕ) (laws : WeightLaws m) (admitted : (w : W) → IsWeight m (c w)) (flat : List (Ruled W)) (k : ℕ) (f : Ruled W) (at : slice_get flat k ≡ Some f) where
+  pub pop_pushed : (old new : Frontier W) → f.rule.word ≡ Empty → Offers m c f.head (record { weight = f.rule.weight; q = f.rule.to; rule = k; left = 0; right = 0 }) old new → Adds m c flat [] old new × HasPops m c flat new k
+  pop_pushed old new word offered = (
+    adds_one m c laws admitted flat [] old new (record { weight = f.rule.weight; q = f.rule.to; rule = k; left = 0; right = 0 }) f at
+        (subst (λ z. IsSum c [] f.rule.to (c f.rule.weight) z 0 0 f.rule.to (c f.rule.weight)) (sym word) (refl, refl)) offered,
+    λ g there _. subst (λ (z : Ruled W). Covers m c new z.head z.rule.to (c z.rule.weight)) (same_item flat k f g at there) offered.covers,
   )
 
-  pub no_pop : (heap : List (Candidate W)) → (f.rule.word ≡ Empty → ⊥) → HasPops c flat heap k
-  no_pop heap none g there word = absurd (none (ap (λ (z : Ruled W). z.rule.word) (same_item flat k f g at there) ∙ word))
+  pub no_pop : (frontier : Frontier W) → (f.rule.word ≡ Empty → ⊥) → HasPops m c flat frontier k
+  no_pop frontier none g there word = absurd (none (ap (λ (z : Ruled W). z.rule.word) (same_item flat k f g at there) ∙ word))
 
-pub pops_kept : {W : Type 0} (c : W → List ℕ) (flat : List (Ruled W)) (old new : List (Candidate W)) → Adds c flat [] old new → (k : ℕ) → HasPops c flat old k → HasPops c flat new k
-pops_kept c flat old new adds k h f at word = has_kept c flat [] old new adds k 0 0 _ (h f at word)
+pub pops_kept : {W : Type 0} (m : Scale) (c : W → List ℕ) (laws : WeightLaws m) (admitted : (w : W) → IsWeight m (c w)) (flat : List (Ruled W)) (k : ℕ) (old new : Frontier W) → Adds m c flat [] old new → HasPops m c flat old k → HasPops m c flat new k
+pops_kept m c laws admitted flat k old new adds h g there word = covers_kept m c laws admitted flat [] old new adds g.head g.rule.to (c g.rule.weight) (admitted g.rule.weight) (h g there word)
 
 -- a search begins
-module _ {W : Type 0} (c : W → List ℕ) (heads : List (ℕ × ℕ)) (flat : List (Ruled W)) where
-  first_kept : (heap : List (Candidate W)) (p g k to : ℕ) (x : List ℕ) (word : Word2) → (word ≡ Empty → Has c heap k 0 0 x) → IsKeptRule c [] [] heap p g k to x word
-  first_kept heap p g k to x Empty h = inr (h refl)
-  first_kept heap p g k to x (One u) h = λ i r at from symbol. cc
-  first_kept heap p g k to x (Two u v) h = λ i j r s at at' pair. cc
+module _ {W : Type 0} (m : Scale) (c : W → List ℕ) (flat : List (Ruled W)) where
+  pub begins_none : (frontier : Frontier W) → frontier.heap ≡ [] → IsUnoffered frontier → Begins m c flat frontier
+  begins_none frontier none unoffered = record {
+    sound = λ t h. let is : Contains [] t = subst (λ z. Contains z t) none h in let within : is.0 < 0 = is.1 in absurd (omega arith);
+    held = λ head q x at. let off : None ≡ Some x = sym (unoffered head q) ∙ at in cc;
+  }
 
-  pub search_begins : (search : Search W) (count : ℕ) → count ≡ length heads → Adds c flat [] [] search.heap → ((k : ℕ) → HasPops c flat search.heap k)
-      → search.rows ≡ record { count = count; places = [] } → search.waits.items.items ≡ [] → search.waits.places ≡ record { count = count; places = [] } → IsSearch c heads flat [] [] search
-  search_begins search count room adds has rows items places = record {
+  pub begins_more : (old new : Frontier W) → Begins m c flat old → Adds m c flat [] old new → Begins m c flat new
+  begins_more old new begins adds = record {
     sound = λ t h. elim (adds.sound t h) [
-      | inl none ↦ let within : none.0 < 0 = none.1 in absurd (omega arith)
+      | inl before ↦ begins.sound t before
       | inr sound ↦ sound
     ];
-    kept = λ k p g f at head. first_kept search.heap p g k f.rule.to (c f.rule.weight) f.rule.word (has k f at);
+    held = λ head q x at. elim (adds.held head q x at) [
+      | inl before ↦ let is = begins.held head q x before in (is.0, is.1, adds.keeps is.0 is.2, is.3, is.4, is.5, is.6)
+      | inr is ↦ is
+    ];
+  }
+
+module _ {W : Type 0} (m : Scale) (c : W → List ℕ) (heads : List (ℕ × ℕ)) (flat : List (Ruled W)) where
+  first_covered : (frontier : Frontier W) (head to : ℕ) (x : List ℕ) (word : Word2) → (word ≡ Empty → Covers m c frontier head to x) → IsCovered m c [] frontier head to x word
+  first_covered frontier head to x Empty h = h refl
+  first_covered frontier head to x (One u) h = λ i r at from symbol. cc
+  first_covered frontier head to x (Two u v) h = λ i j r s at at' pair. cc
+
+  pub search_begins : (search : Search W) (count : ℕ) → count ≡ length heads → Begins m c flat search.frontier → ((k : ℕ) → HasPops m c flat search.frontier k)
+      → search.rows ≡ record { count = count; places = [] } → search.waits.items.items ≡ [] → search.waits.places ≡ record { count = count; places = [] } → IsSearch m c heads flat [] [] search
+  search_begins search count room begins has rows items places = record {
+    sound = begins.sound;
+    covered = λ k f at. first_covered search.frontier f.head f.rule.to (c f.rule.weight) f.rule.word (has k f at);
+    held = λ head p g q x at here. inr (begins.held head q x at);
     places = record {
       room = ap (λ v. v.count) rows ∙ room;
       count = ap (λ v. length v.places) rows;
@@ -211,10 +244,10 @@ module _ {W : Type 0} (c : W → List ℕ) (heads : List (ℕ × ℕ)) (flat : L
 -- a row comes in
 module _ {W : Type 0} (c : W → List ℕ) (heads : List (ℕ × ℕ)) (flat : List (Ruled W)) (earlier : List (Row W)) (row : Row W) where
   -- what was so of the rows before it
-  sum_longer : (to : ℕ) (x : List ℕ) (word : Word2) (i j : ℕ) (w : List ℕ) → IsSum c earlier to x word i j w → IsSum c (earlier ++ row ∷ []) to x word i j w
-  sum_longer to x Empty i j w h = h
-  sum_longer to x (One u) i j w h = (h.0, get_before earlier row i h.0 h.1, h.2, h.3, h.4)
-  sum_longer to x (Two u v) i j w h = (h.0, h.1, get_before earlier row i h.0 h.2, get_before earlier row j h.1 h.3, h.4, h.5)
+  sum_longer : (to : ℕ) (x : List ℕ) (word : Word2) (i j q : ℕ) (w : List ℕ) → IsSum c earlier to x word i j q w → IsSum c (earlier ++ row ∷ []) to x word i j q w
+  sum_longer to x Empty i j q w h = h
+  sum_longer to x (One u) i j q w h = (h.0, get_before earlier row i h.0 h.1, h.2, h.3, h.4, h.5)
+  sum_longer to x (Two u v) i j q w h = (h.0, h.1, get_before earlier row i h.0 h.2, get_before earlier row j h.1 h.3, h.4, h.5, h.6)
 
   pub waits_longer : (rows : List (Row W)) → rows ≡ earlier ++ row ∷ [] → (waits : Waits) → AreWaits heads flat earlier waits → AreWaits heads flat rows waits
   waits_longer rows pushed waits are = subst (λ z. AreWaits heads flat z waits) (sym pushed) (record {
@@ -252,23 +285,20 @@ module _ {W : Type 0} (c : W → List ℕ) (heads : List (ℕ × ℕ)) (flat : L
   last_there rows pushed last same = subst (λ z. slice_get z last ≡ Some row) (sym pushed) (subst (λ n. slice_get (earlier ++ row ∷ []) n ≡ Some row) (sym same) (get_last earlier row))
 
   module _ (rows : List (Row W)) (pushed : rows ≡ earlier ++ row ∷ []) (last place : ℕ) (same : last ≡ length earlier) (head : slice_get heads place ≡ Some (row.p, row.g))
-      (once : (i j p g : ℕ) → slice_get heads i ≡ Some (p, g) → slice_get heads j ≡ Some (p, g) → i ≡ j) (old new : Search W) (old_stands : IsSearch c heads flat earlier rows old) (h1 h2 : List (Candidate W))
-      (adds1 : Adds c flat rows old.heap h1) (adds2 : Adds c flat rows h1 h2) (adds3 : Adds c flat rows h2 new.heap)
-      (ended : (n : ℕ) (w : Wait) → slice_get old.waits.items.items n ≡ Some w → slice_get old.waits.places.places n ≡ Some place → HasTwo c flat rows h1 w.rule w.row last)
-      (ones : (k : ℕ) → HasOne c flat rows h2 k last)
+      (once : (i j p g : ℕ) → slice_get heads i ≡ Some (p, g) → slice_get heads j ≡ Some (p, g) → i ≡ j) (old new : Search W) (m : Scale) (laws : WeightLaws m) (admitted : (w : W) → IsWeight m (c w)) (old_stands : IsSearch m c heads flat earlier rows old) (h1 h2 : Frontier W)
+      (adds1 : Adds m c flat rows old.frontier h1) (adds2 : Adds m c flat rows h1 h2) (adds3 : Adds m c flat rows h2 new.frontier)
+      (ended : (n : ℕ) (w : Wait) → slice_get old.waits.items.items n ≡ Some w → slice_get old.waits.places.places n ≡ Some place → HasTwo m c flat rows h1 w.rule w.row last)
+      (ones : (k : ℕ) → HasOne m c flat rows h2 k last)
       (more : (n : ℕ) (w : Wait) → slice_get old.waits.items.items n ≡ Some w → slice_get new.waits.items.items n ≡ Some w)
       (from : ℕ) (waiting : (k : ℕ) → HasWait heads flat rows new.waits from k last)
-      (started : (n : ℕ) (w : Wait) (place j : ℕ) → from ≤ n → slice_get new.waits.items.items n ≡ Some w → slice_get new.waits.places.places n ≡ Some place → slice_get new.rows.places j ≡ Some place → HasTwo c flat rows new.heap w.rule w.row j)
+      (started : (n : ℕ) (w : Wait) (place j : ℕ) → from ≤ n → slice_get new.waits.items.items n ≡ Some w → slice_get new.waits.places.places n ≡ Some place → slice_get new.rows.places j ≡ Some place → HasTwo m c flat rows new.frontier w.rule w.row j)
       (places : AreRowPlaces heads rows new.rows) (waits : AreWaits heads flat rows new.waits)
       (further : IsMore heads old.waits.places.places new.waits.places.places (λ F. sum_by (λ f. begun F row f.rule.to f.rule.word) flat)) where
-    adds : Adds c flat rows old.heap new.heap
-    adds = adds_both c flat rows old.heap h2 new.heap (adds_both c flat rows old.heap h1 h2 adds1 adds2) adds3
+    adds : Adds m c flat rows old.frontier new.frontier
+    adds = adds_both m c laws admitted flat rows old.frontier h2 new.frontier (adds_both m c laws admitted flat rows old.frontier h1 h2 adds1 adds2) adds3
 
-    kept_more : (p g q k i j : ℕ) (w : List ℕ) → IsKept c rows old.heap p g q k i j w → IsKept c rows new.heap p g q k i j w
-    kept_more p g q k i j w h = elim h [
-      | inl s ↦ inl s
-      | inr has ↦ inr (has_kept c flat rows old.heap new.heap adds k i j w has)
-    ]
+    covers_more : (head q : ℕ) (w : List ℕ) → IsWeight m w → Covers m c old.frontier head q w → Covers m c new.frontier head q w
+    covers_more = covers_kept m c laws admitted flat rows old.frontier new.frontier adds
 
     -- a row is an earlier one, or the last
     which : (i : ℕ) (r : Row W) → slice_get rows i ≡ Some r → (slice_get earlier i ≡ Some r) ⊎ ((i ≡ last) × (row ≡ r))
@@ -282,7 +312,7 @@ module _ {W : Type 0} (c : W → List ℕ) (heads : List (ℕ × ℕ)) (flat : L
 
     -- the first row is an earlier one and the second the last
     ends_here : (k i u v : ℕ) (f : Ruled W) (r : Row W) → slice_get flat k ≡ Some f → f.rule.word ≡ Two u v → slice_get earlier i ≡ Some r → slice_get rows i ≡ Some r → ArePair f.rule.to u v r row
-        → Has c new.heap k i last (plus (plus (c f.rule.weight) (c r.weight)) (c row.weight))
+        → Covers m c new.frontier f.head row.q (plus (plus (c f.rule.weight) (c r.weight)) (c row.weight))
     ends_here k i u v f r at word there here pair =
         let meets : slice_get heads place ≡ Some (r.q, v) = head ∙ ap (λ x. Some (x, row.g)) pair.2 ∙ ap (λ x. Some (r.q, x)) pair.3 in
         let wait = old_stands.waiting k i u v place f r at word there pair.0 pair.1 meets in
@@ -295,12 +325,12 @@ module _ {W : Type 0} (c : W → List ℕ) (heads : List (ℕ × ℕ)) (flat : L
         let second : is.3 ≡ v = cc in
         let stands : slice_get heads spot.0 ≡ Some (r.q, v) = is.9 ∙ ap (λ x. Some (x, is.3)) (ap (λ (z : Row W). z.q) alike) ∙ ap (λ x. Some (r.q, x)) second in
         let here_it_is : slice_get old.waits.places.places wait.0 ≡ Some place = subst (λ n. slice_get old.waits.places.places wait.0 ≡ Some n) (once spot.0 place r.q v stands meets) spot.1 in
-        has_kept c flat rows h1 new.heap (adds_both c flat rows h1 h2 new.heap adds2 adds3) k i last _
+        covers_kept m c laws admitted flat rows h1 new.frontier (adds_both m c laws admitted flat rows h1 h2 new.frontier adds2 adds3) f.head row.q _ (two_weighs m c laws admitted flat rows f.rule.weight r.weight row.weight)
         (ended wait.0 (record { rule = k; row = i }) wait.2 here_it_is u v f r row at word here last_at pair)
 
     -- the first row is the last
     begins_here : (k j u v : ℕ) (f : Ruled W) (s : Row W) → slice_get flat k ≡ Some f → f.rule.word ≡ Two u v → slice_get rows j ≡ Some s → ArePair f.rule.to u v row s
-        → Has c new.heap k last j (plus (plus (c f.rule.weight) (c row.weight)) (c s.weight))
+        → Covers m c new.frontier f.head s.q (plus (plus (c f.rule.weight) (c row.weight)) (c s.weight))
     begins_here k j u v f s at word there pair =
         let spot = some_there new.rows.places j (let within = slice_get_within rows j s there in omega (arith, within, places.count)) in
         let stands : slice_get heads spot.0 ≡ Some (row.q, v) = places.each j spot.0 s there spot.1 ∙ ap (λ x. Some (x, s.g)) pair.2 ∙ ap (λ x. Some (row.q, x)) pair.3 in
@@ -316,27 +346,34 @@ module _ {W : Type 0} (c : W → List ℕ) (heads : List (ℕ × ℕ)) (flat : L
         let here_it_is : slice_get new.waits.places.places wait.0 ≡ Some spot.0 = subst (λ n. slice_get new.waits.places.places wait.0 ≡ Some n) (once spot'.0 spot.0 row.q v stands' stands) spot'.1 in
         started wait.0 (record { rule = k; row = last }) spot.0 j wait.1 wait.2 here_it_is spot.1 u v f row s at word last_at there pair
 
-    kept_with : (p g k : ℕ) (f : Ruled W) → slice_get flat k ≡ Some f → (word : Word2) → f.rule.word ≡ word
-        → IsKeptRule c earlier rows old.heap p g k f.rule.to (c f.rule.weight) word → IsKeptRule c rows rows new.heap p g k f.rule.to (c f.rule.weight) word
-    kept_with p g k f at Empty word h = kept_more p g f.rule.to k 0 0 (c f.rule.weight) h
-    kept_with p g k f at (One u) word h = λ i r there from symbol. elim (which i r there) [
-      | inl before ↦ kept_more p g r.q k i 0 _ (h i r before from symbol)
+    covered_with : (k : ℕ) (f : Ruled W) → slice_get flat k ≡ Some f → (word : Word2) → f.rule.word ≡ word
+        → IsCovered m c earlier old.frontier f.head f.rule.to (c f.rule.weight) word → IsCovered m c rows new.frontier f.head f.rule.to (c f.rule.weight) word
+    covered_with k f at Empty word h = covers_more f.head f.rule.to (c f.rule.weight) (admitted f.rule.weight) h
+    covered_with k f at (One u) word h = λ i r there from symbol. elim (which i r there) [
+      | inl before ↦ covers_more f.head r.q _ (laws.sum (c f.rule.weight) (c r.weight) (admitted f.rule.weight) (admitted r.weight)) (h i r before from symbol)
       | inr here ↦
-          inr (subst (λ n. Has c new.heap k n 0 (plus (c f.rule.weight) (c r.weight))) (sym here.0)
-          (has_kept c flat rows h2 new.heap adds3 k last 0 _ (ones k u f r at word (subst (λ n. slice_get rows n ≡ Some r) here.0 there) from symbol)))
+          covers_kept m c laws admitted flat rows h2 new.frontier adds3 f.head r.q _ (laws.sum (c f.rule.weight) (c r.weight) (admitted f.rule.weight) (admitted r.weight))
+          (ones k u f r at word (subst (λ n. slice_get rows n ≡ Some r) here.0 there) from symbol)
     ]
-    kept_with p g k f at (Two u v) word h = λ i j r s there there' pair. elim (which i r there) [
+    covered_with k f at (Two u v) word h = λ i j r s there there' pair. elim (which i r there) [
       | inl before ↦ elim (which j s there') [
-        | inl before' ↦ kept_more p g s.q k i j _ (h i j r s before before' pair)
+        | inl before' ↦ covers_more f.head s.q _ (two_weighs m c laws admitted flat rows f.rule.weight r.weight s.weight) (h i j r s before before' pair)
         | inr here ↦
-            inr (subst (λ n. Has c new.heap k i n (plus (plus (c f.rule.weight) (c r.weight)) (c s.weight))) (sym here.0)
-            (subst (λ (z : Row W). Has c new.heap k i last (plus (plus (c f.rule.weight) (c r.weight)) (c z.weight))) here.1
-            (ends_here k i u v f r at word before there (subst (λ (z : Row W). ArePair f.rule.to u v r z) (sym here.1) pair))))
+            subst (λ (z : Row W). Covers m c new.frontier f.head z.q (plus (plus (c f.rule.weight) (c r.weight)) (c z.weight))) here.1
+            (ends_here k i u v f r at word before there (subst (λ (z : Row W). ArePair f.rule.to u v r z) (sym here.1) pair))
       ]
       | inr here ↦
-          inr (subst (λ n. Has c new.heap k n j (plus (plus (c f.rule.weight) (c r.weight)) (c s.weight))) (sym here.0)
-          (subst (λ (z : Row W). Has c new.heap k last j (plus (plus (c f.rule.weight) (c z.weight)) (c s.weight))) here.1
-          (begins_here k j u v f s at word there' (subst (λ (z : Row W). ArePair f.rule.to u v z s) (sym here.1) pair))))
+          subst (λ (z : Row W). Covers m c new.frontier f.head s.q (plus (plus (c f.rule.weight) (c z.weight)) (c s.weight))) here.1
+          (begins_here k j u v f s at word there' (subst (λ (z : Row W). ArePair f.rule.to u v z s) (sym here.1) pair))
+    ]
+
+    held_now : AreHeld heads flat rows new.frontier
+    held_now head p g q x at here = elim (adds.held head q x at) [
+      | inl before ↦ elim (old_stands.held head p g q x before here) [
+        | inl s ↦ inl s
+        | inr is ↦ inr (held_kept m c laws admitted flat rows old.frontier.heap new.frontier.heap adds.keeps head q x is)
+      ]
+      | inr is ↦ inr is
     ]
 
     waiting_now : (k i : ℕ) → HasWait heads flat rows new.waits 0 k i
@@ -357,15 +394,16 @@ module _ {W : Type 0} (c : W → List ℕ) (heads : List (ℕ × ℕ)) (flat : L
         ∙ sum_both (λ f. all_begun F earlier f.rule.to f.rule.word) (λ f. begun F row f.rule.to f.rule.word) flat in
         omega (arith, all, whole, old_stands.counted F, further.2 F)
 
-    pub row_taken_in : IsSearch c heads flat rows rows new
+    pub row_taken_in : IsSearch m c heads flat rows rows new
     row_taken_in = record {
       sound = λ t h. elim (adds.sound t h) [
         | inl before ↦
             let is = old_stands.sound t before in
-            (is.0, is.1, subst (λ z. IsSum c z is.0.rule.to (c is.0.rule.weight) is.0.rule.word t.left t.right (c t.weight)) (sym pushed) (sum_longer is.0.rule.to (c is.0.rule.weight) is.0.rule.word t.left t.right (c t.weight) is.2))
+            (is.0, is.1, subst (λ z. IsSum c z is.0.rule.to (c is.0.rule.weight) is.0.rule.word t.left t.right t.q (c t.weight)) (sym pushed) (sum_longer is.0.rule.to (c is.0.rule.weight) is.0.rule.word t.left t.right t.q (c t.weight) is.2))
         | inr sound ↦ sound
       ];
-      kept = λ k p g f at head. kept_with p g k f at f.rule.word refl (old_stands.kept k p g f at head);
+      covered = λ k f at. covered_with k f at f.rule.word refl (old_stands.covered k f at);
+      held = held_now;
       places = places;
       waits = waits;
       waiting = waiting_now;

@@ -12,7 +12,8 @@ ghost use Rattle.wi_saturate.specs.private.Searches.{IsOne, IsTwo, HasOne, HasTw
 ghost use Rattle.wi_saturate.specs.private.Turns.{heads_of, rules_of, rows_of, IsTurn, IsFirstOf, ArePlaced, AreWaiting, ArePushed};
 
 use crate::chains::Chains;
-use crate::heap::{Candidate, Heap};
+use crate::frontier::Frontier;
+use crate::heap::Candidate;
 use crate::steps::Steps;
 use crate::turn::Turn;
 use crate::waits::Waits;
@@ -23,7 +24,7 @@ use wi_weight::Domain;
 
 // The candidate of a rule and a row.
 fn push_one<W: Domain, M: Ledger>(
-    heap: &mut Heap<W>,
+    frontier: &mut Frontier<W>,
     turn: &Turn<'_, W>,
     rule: usize,
     i: usize,
@@ -31,20 +32,18 @@ fn push_one<W: Domain, M: Ledger>(
 ) -> Result<(), NoMemory>
     requires turn { IsTurn W.components turn.now }
     requires one { IsOne (rules_of turn.now) (rows_of turn.now) rule i }
-    ensures pushed { OnOk result (ArePushed W.components turn.now heap.old heap.new tries.old tries.new) }
-    ensures has { OnOk result (HasOne W.components (rules_of turn.now) (rows_of turn.now) heap.new rule i) }
-    ensures tries { OnOk result (tries.new ≡ tries.old + 1) }
+    ensures pushed { OnOk result (ArePushed W.scale W.components turn.now frontier.old frontier.new tries.old tries.new) }
+    ensures has { OnOk result (HasOne W.scale W.components (rules_of turn.now) (rows_of turn.now) frontier.new rule i) }
+    ensures tries { OnOk result (tries.new ≤ tries.old + 1) }
 {
-    let weight = turn
-        .index
-        .rules
-        .get(rule)
-        .rule
-        .weight
-        .extend(turn.rows[i].weight);
-    heap.push(
+    let ruled = turn.index.rules.get(rule);
+    let row = &turn.rows[i];
+    let weight = ruled.rule.weight.extend(row.weight);
+    frontier.offer(
+        ruled.head,
         Candidate {
             weight,
+            q: row.q,
             rule,
             left: i,
             right: 0,
@@ -55,7 +54,7 @@ fn push_one<W: Domain, M: Ledger>(
 
 // The candidate of a rule and two rows.
 fn push_two<W: Domain, M: Ledger>(
-    heap: &mut Heap<W>,
+    frontier: &mut Frontier<W>,
     turn: &Turn<'_, W>,
     rule: usize,
     i: usize,
@@ -64,21 +63,19 @@ fn push_two<W: Domain, M: Ledger>(
 ) -> Result<(), NoMemory>
     requires turn { IsTurn W.components turn.now }
     requires two { IsTwo (rules_of turn.now) (rows_of turn.now) rule i j }
-    ensures pushed { OnOk result (ArePushed W.components turn.now heap.old heap.new tries.old tries.new) }
-    ensures has { OnOk result (HasTwo W.components (rules_of turn.now) (rows_of turn.now) heap.new rule i j) }
-    ensures tries { OnOk result (tries.new ≡ tries.old + 1) }
+    ensures pushed { OnOk result (ArePushed W.scale W.components turn.now frontier.old frontier.new tries.old tries.new) }
+    ensures has { OnOk result (HasTwo W.scale W.components (rules_of turn.now) (rows_of turn.now) frontier.new rule i j) }
+    ensures tries { OnOk result (tries.new ≤ tries.old + 1) }
 {
-    let half = turn
-        .index
-        .rules
-        .get(rule)
-        .rule
-        .weight
-        .extend(turn.rows[i].weight);
-    let weight = half.extend(turn.rows[j].weight);
-    heap.push(
+    let ruled = turn.index.rules.get(rule);
+    let half = ruled.rule.weight.extend(turn.rows[i].weight);
+    let second = &turn.rows[j];
+    let weight = half.extend(second.weight);
+    frontier.offer(
+        ruled.head,
         Candidate {
             weight,
+            q: second.q,
             rule,
             left: i,
             right: j,
@@ -89,7 +86,7 @@ fn push_two<W: Domain, M: Ledger>(
 
 // The candidate of a rule and the last row, which is for its first symbol, if it writes one.
 fn push_if_one<W: Domain, M: Ledger>(
-    heap: &mut Heap<W>,
+    frontier: &mut Frontier<W>,
     turn: &Turn<'_, W>,
     rule: usize,
     tries: &mut Steps<M>,
@@ -97,33 +94,33 @@ fn push_if_one<W: Domain, M: Ledger>(
     requires turn { IsTurn W.components turn.now }
     requires rule { rule < length (rules_of turn.now) }
     requires first { IsFirstOf turn.now rule }
-    ensures pushed { OnOk result (ArePushed W.components turn.now heap.old heap.new tries.old tries.new) }
-    ensures has { OnOk result (HasOne W.components (rules_of turn.now) (rows_of turn.now) heap.new rule turn.now.last) }
+    ensures pushed { OnOk result (ArePushed W.scale W.components turn.now frontier.old frontier.new tries.old tries.new) }
+    ensures has { OnOk result (HasOne W.scale W.components (rules_of turn.now) (rows_of turn.now) frontier.new rule turn.now.last) }
     ensures tries { OnOk result ((f : Ruled W) (r : Row W) → slice_get (rules_of turn.now) rule ≡ Some f → slice_get (rows_of turn.now) turn.now.last ≡ Some r →
-        tries.new ≡ tries.old + one_ways r f.rule.to f.rule.word) }
+        tries.new ≤ tries.old + one_ways r f.rule.to f.rule.word) }
 {
     match turn.index.rules.get(rule).rule.word {
-        Word2::One(_) => push_one(heap, turn, rule, turn.last, tries),
+        Word2::One(_) => push_one(frontier, turn, rule, turn.last, tries),
         _ => Ok(()),
     }
 }
 
 // The candidates of the last row and the rules that write its symbol alone.
 pub(crate) fn push_ones<W: Domain, M: Ledger>(
-    heap: &mut Heap<W>,
+    frontier: &mut Frontier<W>,
     turn: &Turn<'_, W>,
     tries: &mut Steps<M>,
 ) -> Result<(), NoMemory>
     requires turn { IsTurn W.components turn.now }
-    ensures pushed { OnOk result (ArePushed W.components turn.now heap.old heap.new tries.old tries.new) }
-    ensures has { OnOk result ((k : ℕ) → HasOne W.components (rules_of turn.now) (rows_of turn.now) heap.new k turn.now.last) }
+    ensures pushed { OnOk result (ArePushed W.scale W.components turn.now frontier.old frontier.new tries.old tries.new) }
+    ensures has { OnOk result ((k : ℕ) → HasOne W.scale W.components (rules_of turn.now) (rows_of turn.now) frontier.new k turn.now.last) }
     ensures tries { OnOk result ((r : Row W) → slice_get (rows_of turn.now) turn.now.last ≡ Some r →
-        tries.new ≡ tries.old + sum_by (λ f. one_ways r f.rule.to f.rule.word) (rules_of turn.now)) }
+        tries.new ≤ tries.old + sum_by (λ f. one_ways r f.rule.to f.rule.word) (rules_of turn.now)) }
 {
     let mut end = turn.index.begins.end(turn.place);
     while 0 < end {
         let rule = end - 1;
-        push_if_one(heap, turn, rule, tries)?;
+        push_if_one(frontier, turn, rule, tries)?;
         end = turn.index.begins.end_before(rule);
     }
     Ok(())
@@ -131,23 +128,23 @@ pub(crate) fn push_ones<W: Domain, M: Ledger>(
 
 // The candidates of the last row and what waits for it.
 pub(crate) fn end_waits<W: Domain, M: Ledger>(
-    heap: &mut Heap<W>,
+    frontier: &mut Frontier<W>,
     turn: &Turn<'_, W>,
     waits: &Waits,
     tries: &mut Steps<M>,
 ) -> Result<(), NoMemory>
     requires turn { IsTurn W.components turn.now }
     requires waits { AreWaiting turn.now waits.now }
-    ensures pushed { OnOk result (ArePushed W.components turn.now heap.old heap.new tries.old tries.new) }
+    ensures pushed { OnOk result (ArePushed W.scale W.components turn.now frontier.old frontier.new tries.old tries.new) }
     ensures has { OnOk result ((n : ℕ) (w : Wait) → slice_get waits.now.items.items n ≡ Some w → slice_get waits.now.places.places n ≡ Some turn.now.place →
-        HasTwo W.components (rules_of turn.now) (rows_of turn.now) heap.new w.rule w.row turn.now.last) }
-    ensures tries { OnOk result (tries.new ≡ tries.old + count_by (λ p. p == turn.now.place) waits.now.places.places) }
+        HasTwo W.scale W.components (rules_of turn.now) (rows_of turn.now) frontier.new w.rule w.row turn.now.last) }
+    ensures tries { OnOk result (tries.new ≤ tries.old + count_by (λ p. p == turn.now.place) waits.now.places.places) }
 {
     let mut end = waits.places.end(turn.place);
     while 0 < end {
         let n = end - 1;
         let wait = waits.items.get(n);
-        push_two(heap, turn, wait.rule, wait.row, turn.last, tries)?;
+        push_two(frontier, turn, wait.rule, wait.row, turn.last, tries)?;
         end = waits.places.end_before(n);
     }
     Ok(())
@@ -155,7 +152,7 @@ pub(crate) fn end_waits<W: Domain, M: Ledger>(
 
 // The candidates of what waits at place `n` and the rows that it waits for.
 fn push_pairs<W: Domain, M: Ledger>(
-    heap: &mut Heap<W>,
+    frontier: &mut Frontier<W>,
     turn: &Turn<'_, W>,
     places: &Chains,
     waits: &Waits,
@@ -166,18 +163,18 @@ fn push_pairs<W: Domain, M: Ledger>(
     requires places { ArePlaced turn.now places.now }
     requires waits { AreWaiting turn.now waits.now }
     requires within { n < length waits.now.items.items }
-    ensures pushed { OnOk result (ArePushed W.components turn.now heap.old heap.new tries.old tries.new) }
+    ensures pushed { OnOk result (ArePushed W.scale W.components turn.now frontier.old frontier.new tries.old tries.new) }
     ensures has { OnOk result ((w : Wait) (place j : ℕ) → slice_get waits.now.items.items n ≡ Some w → slice_get waits.now.places.places n ≡ Some place →
-        slice_get places.now.places j ≡ Some place → HasTwo W.components (rules_of turn.now) (rows_of turn.now) heap.new w.rule w.row j) }
+        slice_get places.now.places j ≡ Some place → HasTwo W.scale W.components (rules_of turn.now) (rows_of turn.now) frontier.new w.rule w.row j) }
     ensures tries { OnOk result ((place : ℕ) → slice_get waits.now.places.places n ≡ Some place →
-        tries.new ≡ tries.old + of_head (rows_from (rows_of turn.now)) (heads_of turn.now) place) }
+        tries.new ≤ tries.old + of_head (rows_from (rows_of turn.now)) (heads_of turn.now) place) }
 {
     let wait = waits.items.get(n);
     let place = waits.places.place(n);
     let mut end = places.end(place);
     while 0 < end {
         let j = end - 1;
-        push_two(heap, turn, wait.rule, wait.row, j, tries)?;
+        push_two(frontier, turn, wait.rule, wait.row, j, tries)?;
         end = places.end_before(j);
     }
     Ok(())
@@ -185,7 +182,7 @@ fn push_pairs<W: Domain, M: Ledger>(
 
 // The candidates of what waits from place `from` on, and the rows that it waits for.
 pub(crate) fn begin_waits<W: Domain, M: Ledger>(
-    heap: &mut Heap<W>,
+    frontier: &mut Frontier<W>,
     turn: &Turn<'_, W>,
     places: &Chains,
     waits: &Waits,
@@ -195,13 +192,13 @@ pub(crate) fn begin_waits<W: Domain, M: Ledger>(
     requires turn { IsTurn W.components turn.now }
     requires places { ArePlaced turn.now places.now }
     requires waits { AreWaiting turn.now waits.now }
-    ensures pushed { OnOk result (ArePushed W.components turn.now heap.old heap.new tries.old tries.new) }
+    ensures pushed { OnOk result (ArePushed W.scale W.components turn.now frontier.old frontier.new tries.old tries.new) }
     ensures has { OnOk result ((n : ℕ) (w : Wait) (place j : ℕ) → from ≤ n → slice_get waits.now.items.items n ≡ Some w → slice_get waits.now.places.places n ≡ Some place →
-        slice_get places.now.places j ≡ Some place → HasTwo W.components (rules_of turn.now) (rows_of turn.now) heap.new w.rule w.row j) }
-    ensures tries { OnOk result (tries.new ≡ tries.old + sum_by (of_head (rows_from (rows_of turn.now)) (heads_of turn.now)) (drop from waits.now.places.places)) }
+        slice_get places.now.places j ≡ Some place → HasTwo W.scale W.components (rules_of turn.now) (rows_of turn.now) frontier.new w.rule w.row j) }
+    ensures tries { OnOk result (tries.new ≤ tries.old + sum_by (of_head (rows_from (rows_of turn.now)) (heads_of turn.now)) (drop from waits.now.places.places)) }
 {
     for n in from..waits.items.len() {
-        push_pairs(heap, turn, places, waits, n, tries)?;
+        push_pairs(frontier, turn, places, waits, n, tries)?;
     }
     Ok(())
 }

@@ -5,12 +5,13 @@
 //! Its least weight is that of the lightest such run.
 //!
 //! Rows are settled one by one, the lightest first. What a rule and settled rows make is a candidate for the next one, and lies
-//! on a heap. A row that is settled meets the rules that lead to its head, which an index finds, and the rules that have a row
+//! on a heap, if nothing as light was found for its summary. A row that is settled meets the rules that lead to its head, which an index finds, and the rules that have a row
 //! for their first symbol and wait for its head as that of their second. Rules, rows and what waits are numbered, and each lies
 //! at the place of a head among the listed ones, in a chain from the last to the first.
 #![tactic(auto)]
 
 mod chains;
+mod frontier;
 mod heap;
 mod index;
 mod joins;

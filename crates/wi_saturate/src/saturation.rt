@@ -66,10 +66,10 @@ fn settle<W: Domain, S: System<W>, L: Ledger, M: Ledger>(
     tries: &mut Steps<M>,
 ) -> Result<Table<W>, LeastRefused<W>>
     requires asked { IsAsked W.components (S.rules sys.now) asked.now }
-    requires search { IsSearch W.components asked.now.index.now.rules.heads asked.now.index.now.rules.items [] [] search.old }
+    requires search { IsSearch W.scale W.components asked.now.index.now.rules.heads asked.now.index.now.rules.items [] [] search.old }
     ensures table { IfOk result (λ t. IsLeastTable W.scale W.components (S.rules sys.now) asked.now.index.now.rules.heads asked.now.goal (option_map W.components asked.now.cut) t.rows (option_map W.components t.best)) }
     ensures steps { IfOk result (λ t. steps.new ≡ steps.old + length t.rows) }
-    ensures tried { IfOk result (λ t. tries.old + length t.rows ≤ tries.new + length search.old.heap) }
+    ensures tried { IfOk result (λ t. tries.old + length t.rows ≤ tries.new + length search.old.frontier.heap) }
     ensures tries { IfOk result (λ t. tries.new + all_ways asked.now.index.now.rules.items [] ≤ tries.old + all_ways asked.now.index.now.rules.items t.rows) }
     ensures refusal { IfErr result (IsRefusal W.scale W.components (S.rules sys.now) asked.now.index.now.rules.heads asked.now.goal (option_map W.components asked.now.cut)) }
 {
@@ -133,14 +133,16 @@ fn table_of<W: Domain, S: System<W>, L: Ledger, M: Ledger>(
 /// state.
 ///
 /// Each turn settles a lightest row that a rule and settled rows make, and adds one to `steps`; which of several lightest rows
-/// comes first is not said. What a rule makes of rows is put on a heap once, when the last of these rows is settled, and adds
-/// one to `tries`; the lightest of the heap is settled next. The system is asked for the rules of each head once.
+/// comes first is not said. What a rule makes of rows is found once, when the last of these rows is settled. It is put on a heap,
+/// and adds one to `tries`, if it is lighter than each that went there for its summary; the lightest of the heap is settled next.
+/// The system is asked for the rules of each head once.
 ///
-/// What it costs: each listed head is asked for its rules once, before the first turn. Each candidate is pushed and taken at
-/// most once, at the logarithm of the heap's length. The place of a head among the heads is looked up for each rule and each rule
-/// that begins to wait, at the logarithm of the number of heads. Whether a summary is settled is looked for along
-/// the rows of its head. Each rule is kept without its head's numbers, and its weight mostly once for many rules; besides, each
-/// row, each candidate that wasn't taken, and an entry for each rule that waits.
+/// What it costs: each listed head is asked for its rules once, before the first turn. Each candidate is looked up once by its
+/// summary, and pushed and taken at most once, at the logarithm of the heap's length. The place of a head among the heads is
+/// looked up for each rule and each rule that begins to wait, at the logarithm of the number of heads. Whether a summary is
+/// settled is looked for along the rows of its head. Each rule is kept without its head's numbers, and its weight mostly once for
+/// many rules; besides, each row, each candidate that wasn't taken, a weight for each summary that was reached, and an entry for
+/// each rule that waits.
 ///
 /// `Overflow` tells the lightest summary that doesn't fit and would have been settled. It may come where the goal's own
 /// weight would fit. Where the call is refused, `steps` and `tries` may have risen.

@@ -1,16 +1,18 @@
-//! Whether a summary is settled is asked when a candidate is taken and not when it is pushed, since only then all lighter rows
-//! are there. So heavier ways to a summary stay on the heap until then, and are left out. A summary is looked for along the
-//! rows of its head.
-ghost use Rattle.std.specs.Prelude.{◌≡◌, option_map, ◌+◌, ◌<◌, ◌≤◌, take, ◌++◌, ◌∷◌, ℕ, [], OnOk, IfOk, IfSome, IsTrue, ◌↔◌, Some, slice_get, length};
+//! Whether a summary is settled is asked when a candidate is taken and not when it is offered, since only then all lighter rows
+//! are there. So a heavier way to a summary stays on the heap until then, where a lighter one came later, and is left out. A
+//! summary is looked for along the rows of its head.
+ghost use Rattle.std.specs.Prelude.{◌≡◌, option_map, ◌+◌, ◌<◌, ◌≤◌, take, ◌++◌, ◌∷◌, ℕ, List, [], OnOk, IfOk, IfSome, IsTrue, ◌↔◌, Some, slice_get, length};
+ghost use Rattle.wi_saturate.specs.declared.row.Row.{Row};
 ghost use Rattle.wi_saturate.specs.declared.rules.Ruled.{Ruled};
 ghost use Rattle.wi_saturate.specs.private.Candidates.{IsCandidate, IsSeen};
 ghost use Rattle.wi_saturate.specs.private.Indexes.{IsIndex};
 ghost use Rattle.wi_saturate.specs.private.Tries.{pop_ways, all_ways};
-ghost use Rattle.wi_saturate.specs.private.Searches.{Adds, IsSound, IsRowOf, IsSearch, IsBehind, HasPops, EndsThere};
+ghost use Rattle.wi_saturate.specs.private.Searches.{Adds, Begins, IsSound, IsRowOf, IsSearch, IsBehind, HasPops, EndsThere};
 ghost use Rattle.wi_saturate.specs.private.Turns.{heads_of, rules_of, rows_of, IsTurn};
 
 use crate::chains::Chains;
-use crate::heap::{Candidate, Heap};
+use crate::frontier::Frontier;
+use crate::heap::Candidate;
 use crate::index::Index;
 use crate::joins::{begin_waits, end_waits, push_ones};
 use crate::row::Row;
@@ -27,23 +29,22 @@ use wi_weight::Domain;
 // Where a search stands: the candidates, the rows at the places of their heads, and what waits for further rows.
 #[derive(Drop)]
 pub(crate) struct Search<W: Domain> {
-    pub(crate) heap: Heap<W>,
+    pub(crate) frontier: Frontier<W>,
     pub(crate) rows: Chains,
     pub(crate) waits: Waits,
 }
 
 // What the candidate makes.
-fn row_of<W: Domain>(rules: &Rules<'_, W>, rows: &[Row<W>], candidate: Candidate<W>) -> Row<W>
-    requires sound { IsSound W.components rules.now.items rows.now candidate }
-    requires heads { (f : Ruled W) → slice_get rules.now.items candidate.rule ≡ Some f → f.head < length rules.now.heads }
-    ensures { IsRowOf W.scale W.components rules.now.heads rules.now.items rows.now candidate result }
+fn row_of<W: Domain>(rules: &Rules<'_, W>, candidate: Candidate<W>) -> Row<W>
+    requires { (f : Ruled W) × (slice_get rules.now.items candidate.rule ≡ Some f) × (f.head < length rules.now.heads) }
+    ensures { (rows : List (Row W)) → IsSound W.components rules.now.items rows candidate → IsRowOf W.scale W.components rules.now.heads rules.now.items rows candidate result }
 {
     let ruled = rules.get(candidate.rule);
     let (p, g) = rules.heads()[ruled.head];
     let draft = Row {
         p,
         g,
-        q: ruled.rule.to,
+        q: candidate.q,
         weight: candidate.weight,
         id: RuleId { p, g, at: ruled.at },
         rule: ruled.rule,
@@ -53,12 +54,10 @@ fn row_of<W: Domain>(rules: &Rules<'_, W>, rows: &[Row<W>], candidate: Candidate
     match ruled.rule.word {
         Word2::Empty => draft,
         Word2::One(_) => Row {
-            q: rows[candidate.left].q,
             left: Some(candidate.left),
             ..draft
         },
         Word2::Two(_, _) => Row {
-            q: rows[candidate.right].q,
             left: Some(candidate.left),
             right: Some(candidate.right),
             ..draft
@@ -85,22 +84,24 @@ fn is_settled<W>(rows: &[Row<W>], places: &Chains, place: usize, q: u64) -> bool
 
 // The candidate of the rule at a place, if it takes its symbol off.
 fn push_if_pop<W: Domain, M: Ledger>(
-    heap: &mut Heap<W>,
+    frontier: &mut Frontier<W>,
     rules: &Rules<'_, W>,
     rule: usize,
     tries: &mut Steps<M>,
 ) -> Result<(), NoMemory>
     requires { rule < length rules.now.items }
-    ensures adds { OnOk result (Adds W.components rules.now.items [] heap.old heap.new) }
-    ensures has { OnOk result (HasPops W.components rules.now.items heap.new rule) }
-    ensures lengths { OnOk result (length heap.new + tries.old ≡ length heap.old + tries.new) }
-    ensures tries { OnOk result ((f : Ruled W) → slice_get rules.now.items rule ≡ Some f → tries.new ≡ tries.old + pop_ways f.rule.word) }
+    ensures adds { OnOk result (Adds W.scale W.components rules.now.items [] frontier.old frontier.new) }
+    ensures has { OnOk result (HasPops W.scale W.components rules.now.items frontier.new rule) }
+    ensures lengths { OnOk result (length frontier.new.heap + tries.old ≡ length frontier.old.heap + tries.new) }
+    ensures tries { OnOk result ((f : Ruled W) → slice_get rules.now.items rule ≡ Some f → tries.new ≤ tries.old + pop_ways f.rule.word) }
 {
     let ruled = rules.get(rule);
     match ruled.rule.word {
-        Word2::Empty => heap.push(
+        Word2::Empty => frontier.offer(
+            ruled.head,
             Candidate {
                 weight: ruled.rule.weight,
+                q: ruled.rule.to,
                 rule,
                 left: 0,
                 right: 0,
@@ -116,17 +117,17 @@ fn pops<W: Domain, M: Ledger>(
     alloc: Global,
     rules: &Rules<'_, W>,
     tries: &mut Steps<M>,
-) -> Result<Heap<W>, NoMemory>
-    ensures sound { IfOk result (λ heap. Adds W.components rules.now.items [] [] heap) }
-    ensures has { IfOk result (λ heap. (k : ℕ) → HasPops W.components rules.now.items heap k) }
-    ensures lengths { IfOk result (λ heap. length heap + tries.old ≡ tries.new) }
-    ensures tries { OnOk result (tries.new ≡ tries.old + all_ways {W = W} rules.now.items []) }
+) -> Result<Frontier<W>, NoMemory>
+    ensures begins { IfOk result (Begins W.scale W.components rules.now.items) }
+    ensures has { IfOk result (λ frontier. (k : ℕ) → HasPops W.scale W.components rules.now.items frontier k) }
+    ensures lengths { IfOk result (λ frontier. length frontier.heap + tries.old ≡ tries.new) }
+    ensures tries { OnOk result (tries.new ≤ tries.old + all_ways {W = W} rules.now.items []) }
 {
-    let mut heap = Heap::new(alloc);
+    let mut frontier = Frontier::new(alloc);
     for rule in 0..rules.len() {
-        push_if_pop(&mut heap, rules, rule, tries)?;
+        push_if_pop(&mut frontier, rules, rule, tries)?;
     }
-    Ok(heap)
+    Ok(frontier)
 }
 
 impl<W: Domain> Search<W> {
@@ -136,13 +137,13 @@ impl<W: Domain> Search<W> {
         rules: &Rules<'_, W>,
         tries: &mut Steps<M>,
     ) -> Result<Self, NoMemory>
-        ensures search { IfOk result (IsSearch W.components rules.now.heads rules.now.items [] []) }
-        ensures lengths { IfOk result (λ search. length search.heap + tries.old ≡ tries.new) }
-        ensures tries { OnOk result (tries.new ≡ tries.old + all_ways {W = W} rules.now.items []) }
+        ensures search { IfOk result (IsSearch W.scale W.components rules.now.heads rules.now.items [] []) }
+        ensures lengths { IfOk result (λ search. length search.frontier.heap + tries.old ≡ tries.new) }
+        ensures tries { OnOk result (tries.new ≤ tries.old + all_ways {W = W} rules.now.items []) }
     {
         let places = rules.heads().len();
         Ok(Search {
-            heap: pops(alloc, rules, tries)?,
+            frontier: pops(alloc, rules, tries)?,
             rows: Chains::new(alloc, places)?,
             waits: Waits::new(alloc, places)?,
         })
@@ -156,15 +157,15 @@ impl<W: Domain> Search<W> {
         rows: &[Row<W>],
     ) -> Option<(usize, Row<W>)>
         requires index { IsIndex W.components (S.rules sys.now) index.now }
-        requires search { IsSearch W.components index.now.rules.heads index.now.rules.items rows.now rows.now self.old }
+        requires search { IsSearch W.scale W.components index.now.rules.heads index.now.rules.items rows.now rows.now self.old }
         ensures made { IfSome result (λ next. IsCandidate W.scale W.components (S.rules sys.now) index.now.rules.heads rows.now next.1) }
         ensures place { IfSome result (λ next. slice_get index.now.rules.heads next.0 ≡ Some (next.1.p, next.1.g)) }
-        ensures fewer { IfSome result (λ next. length self.new.heap + 1 ≤ length self.old.heap) }
+        ensures fewer { IfSome result (λ next. length self.new.frontier.heap + 1 ≤ length self.old.frontier.heap) }
         ensures least { IsSeen W.scale W.components (S.rules sys.now) index.now.rules.heads rows.now (option_map (λ next. next.1) result) }
-        ensures search { IfSome result (λ next. IsSearch W.components index.now.rules.heads index.now.rules.items rows.now (rows.now ++ next.1 ∷ []) self.new) }
+        ensures search { IfSome result (λ next. IsSearch W.scale W.components index.now.rules.heads index.now.rules.items rows.now (rows.now ++ next.1 ∷ []) self.new) }
     {
-        while let Some(candidate) = self.heap.pop() {
-            let row = row_of(&index.rules, rows, candidate);
+        while let Some(candidate) = self.frontier.heap.pop() {
+            let row = row_of(&index.rules, candidate);
             let place = index.rules.get(candidate.rule).head;
             if !is_settled(rows, &self.rows, place, row.q) {
                 return Some((place, row));
@@ -180,16 +181,23 @@ impl<W: Domain> Search<W> {
         tries: &mut Steps<M>,
     ) -> Result<(), NoMemory>
         requires turn { IsTurn W.components turn.now }
-        requires search { IsBehind W.components (heads_of turn.now) (rules_of turn.now) (rows_of turn.now) turn.now.last self.old }
-        ensures search { OnOk result (IsSearch W.components (heads_of turn.now) (rules_of turn.now) (rows_of turn.now) (rows_of turn.now) self.new) }
-        ensures lengths { OnOk result (length self.new.heap + tries.old ≡ length self.old.heap + tries.new) }
+        requires search { IsBehind W.scale W.components (heads_of turn.now) (rules_of turn.now) (rows_of turn.now) turn.now.last self.old }
+        ensures search { OnOk result (IsSearch W.scale W.components (heads_of turn.now) (rules_of turn.now) (rows_of turn.now) (rows_of turn.now) self.new) }
+        ensures lengths { OnOk result (length self.new.frontier.heap + tries.old ≡ length self.old.frontier.heap + tries.new) }
         ensures tries { OnOk result (tries.new + all_ways (rules_of turn.now) (take turn.now.last (rows_of turn.now)) ≤ tries.old + all_ways (rules_of turn.now) (rows_of turn.now)) }
     {
         self.rows.add(turn.place)?;
-        end_waits(&mut self.heap, turn, &self.waits, tries)?;
-        push_ones(&mut self.heap, turn, tries)?;
+        end_waits(&mut self.frontier, turn, &self.waits, tries)?;
+        push_ones(&mut self.frontier, turn, tries)?;
         let from = self.waits.items.len();
         self.waits.extend(turn)?;
-        begin_waits(&mut self.heap, turn, &self.rows, &self.waits, from, tries)
+        begin_waits(
+            &mut self.frontier,
+            turn,
+            &self.rows,
+            &self.waits,
+            from,
+            tries,
+        )
     }
 }

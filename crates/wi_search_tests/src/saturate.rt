@@ -197,6 +197,7 @@ fn candidates_of<L: Ledger, M: Ledger>(
 fn candidate(count: u128) -> Candidate<Effort> {
     Candidate {
         weight: Effort { count },
+        q: 0,
         rule: 0,
         left: 0,
         right: 0,

@@ -14,30 +14,36 @@ use Rattle.wi_saturate.specs.declared.search.Search.{Search}
 use Rattle.wi_saturate.specs.private.Chains.{ChainsView}
 use Rattle.wi_saturate.specs.Rows.{Settled}
 use Rattle.wi_saturate.specs.private.Candidates.{IsRowBy}
+use Rattle.wi_saturate.specs.private.Frontiers.{Covers, lightest_of}
+use Rattle.wi_saturate.specs.declared.frontier.Frontier.{Frontier}
 
 -- the rows are for the symbols u and v that a rule writes which goes to a state
 abbrev pub ArePair : {W : Type 0} → ℕ → ℕ → ℕ → Row W → Row W → Type 0
 ArePair to u v r s = (r.p ≡ to) × (r.g ≡ u) × (s.p ≡ r.q) × (s.g ≡ v)
 
--- w is the sum of a rule's weight and of the rows at the places, which are for the symbols that it writes
-abbrev pub IsSum : {W : Type 0} → (W → List ℕ) → List (Row W) → ℕ → List ℕ → Word2 → ℕ → ℕ → List ℕ → Type 0
-IsSum c rows to x Empty i j w = w ≡ x
-IsSum {W} c rows to x (One u) i j w = (r : Row W) × (slice_get rows i ≡ Some r) × (r.p ≡ to) × (r.g ≡ u) × (w ≡ plus x (c r.weight))
-IsSum {W} c rows to x (Two u v) i j w =
-    (r s : Row W) × (slice_get rows i ≡ Some r) × (slice_get rows j ≡ Some s) × ArePair to u v r s × (w ≡ plus (plus x (c r.weight)) (c s.weight))
+-- q is where the rows at the places end, which are for the symbols that a rule writes, and w the sum of its weight and theirs
+abbrev pub IsSum : {W : Type 0} → (W → List ℕ) → List (Row W) → ℕ → List ℕ → Word2 → ℕ → ℕ → ℕ → List ℕ → Type 0
+IsSum c rows to x Empty i j q w = (q ≡ to) × (w ≡ x)
+IsSum {W} c rows to x (One u) i j q w = (r : Row W) × (slice_get rows i ≡ Some r) × (r.p ≡ to) × (r.g ≡ u) × (q ≡ r.q) × (w ≡ plus x (c r.weight))
+IsSum {W} c rows to x (Two u v) i j q w =
+    (r s : Row W) × (slice_get rows i ≡ Some r) × (slice_get rows j ≡ Some s) × ArePair to u v r s × (q ≡ s.q) × (w ≡ plus (plus x (c r.weight)) (c s.weight))
 
 -- the candidate is of a rule and of rows for what it writes
 abbrev pub IsSound : {W : Type 0} → (W → List ℕ) → List (Ruled W) → List (Row W) → Candidate W → Type 0
-IsSound {W} c flat rows t = (f : Ruled W) × (slice_get flat t.rule ≡ Some f) × IsSum c rows f.rule.to (c f.rule.weight) f.rule.word t.left t.right (c t.weight)
+IsSound {W} c flat rows t = (f : Ruled W) × (slice_get flat t.rule ≡ Some f) × IsSum c rows f.rule.to (c f.rule.weight) f.rule.word t.left t.right t.q (c t.weight)
 
--- there is a candidate of the rule and the rows at these places, and it weighs w
-abbrev pub Has : {W : Type 0} → (W → List ℕ) → List (Candidate W) → ℕ → ℕ → ℕ → List ℕ → Type 0
-Has {W} c heap k i j w = (t : Candidate W) × Contains heap t × (t.rule ≡ k) × (t.left ≡ i) × (t.right ≡ j) × (c t.weight ≡ w)
+-- a candidate of this weight for a summary is on the heap
+abbrev pub IsHeld : {W : Type 0} → List (Ruled W) → List (Candidate W) → ℕ → ℕ → W → Type 0
+IsHeld {W} flat heap head q x = (t : Candidate W) × (f : Ruled W) × Contains heap t × (slice_get flat t.rule ≡ Some f) × (f.head ≡ head) × (t.q ≡ q) × (t.weight ≡ x)
 
--- new has the candidates of old, and sound ones
-pub record Adds {W : Type 0} (c : W → List ℕ) (flat : List (Ruled W)) (rows : List (Row W)) (old new : List (Candidate W)) : Type 0 where
-  pub keeps : (t : Candidate W) → Contains old t → Contains new t
-  pub sound : (t : Candidate W) → Contains new t → Contains old t ⊎ IsSound c flat rows t
+-- Sound candidates were offered.
+pub record Adds {W : Type 0} (m : Scale) (c : W → List ℕ) (flat : List (Ruled W)) (rows : List (Row W)) (old new : Frontier W) : Type 0 where
+  pub keeps : (t : Candidate W) → Contains old.heap t → Contains new.heap t
+  pub sound : (t : Candidate W) → Contains new.heap t → Contains old.heap t ⊎ IsSound c flat rows t
+  -- no weight that was offered gets heavier
+  pub lighter : (head q : ℕ) (x : W) → lightest_of old head q ≡ Some x → Covers m c new head q (c x)
+  -- a weight that is new is that of a candidate on the heap
+  pub held : (head q : ℕ) (x : W) → lightest_of new head q ≡ Some x → (lightest_of old head q ≡ Some x) ⊎ IsHeld flat new.heap head q x
 
 -- the rule at the place writes one symbol, and the row at place i is for it
 abbrev pub IsOne : {W : Type 0} → List (Ruled W) → List (Row W) → ℕ → ℕ → Type 0
@@ -50,30 +56,31 @@ IsTwo {W} flat rows k i j =
     (f : Ruled W) × (r s : Row W) × (u v : ℕ) × (slice_get flat k ≡ Some f) × (f.rule.word ≡ Two u v) × (slice_get rows i ≡ Some r) × (slice_get rows j ≡ Some s)
     × ArePair f.rule.to u v r s
 
--- if the rule writes one symbol and the row is for it, the candidate is there
-abbrev pub HasOne : {W : Type 0} → (W → List ℕ) → List (Ruled W) → List (Row W) → List (Candidate W) → ℕ → ℕ → Type 0
-HasOne {W} c flat rows heap k i =
+-- if the rule writes one symbol and the row is for it, the summary that they make was offered as light
+abbrev pub HasOne : {W : Type 0} → Scale → (W → List ℕ) → List (Ruled W) → List (Row W) → Frontier W → ℕ → ℕ → Type 0
+HasOne {W} m c flat rows frontier k i =
     (u : ℕ) (f : Ruled W) (r : Row W) → slice_get flat k ≡ Some f → f.rule.word ≡ One u → slice_get rows i ≡ Some r → r.p ≡ f.rule.to → r.g ≡ u
-    → Has c heap k i 0 (plus (c f.rule.weight) (c r.weight))
+    → Covers m c frontier f.head r.q (plus (c f.rule.weight) (c r.weight))
 
--- if the rule writes two symbols and the rows are for them, the candidate is there
-abbrev pub HasTwo : {W : Type 0} → (W → List ℕ) → List (Ruled W) → List (Row W) → List (Candidate W) → ℕ → ℕ → ℕ → Type 0
-HasTwo {W} c flat rows heap k i j =
+-- if the rule writes two symbols and the rows are for them, the summary that they make was offered as light
+abbrev pub HasTwo : {W : Type 0} → Scale → (W → List ℕ) → List (Ruled W) → List (Row W) → Frontier W → ℕ → ℕ → ℕ → Type 0
+HasTwo {W} m c flat rows frontier k i j =
     (u v : ℕ) (f : Ruled W) (r s : Row W) → slice_get flat k ≡ Some f → f.rule.word ≡ Two u v → slice_get rows i ≡ Some r → slice_get rows j ≡ Some s
-    → ArePair f.rule.to u v r s → Has c heap k i j (plus (plus (c f.rule.weight) (c r.weight)) (c s.weight))
+    → ArePair f.rule.to u v r s → Covers m c frontier f.head s.q (plus (plus (c f.rule.weight) (c r.weight)) (c s.weight))
 
--- the summary is settled, or its candidate is there
-abbrev pub IsKept : {W : Type 0} → (W → List ℕ) → List (Row W) → List (Candidate W) → ℕ → ℕ → ℕ → ℕ → ℕ → ℕ → List ℕ → Type 0
-IsKept c settled heap p g q k i j w = Settled settled p g q ⊎ Has c heap k i j w
-
--- what the rule at place k, of the head (p, g), makes of the rows is settled, or its candidate is there
-abbrev pub IsKeptRule : {W : Type 0} → (W → List ℕ) → List (Row W) → List (Row W) → List (Candidate W) → ℕ → ℕ → ℕ → ℕ → List ℕ → Word2 → Type 0
-IsKeptRule c rows settled heap p g k to x Empty = IsKept c settled heap p g to k 0 0 x
-IsKeptRule {W} c rows settled heap p g k to x (One u) =
-    (i : ℕ) (r : Row W) → slice_get rows i ≡ Some r → r.p ≡ to → r.g ≡ u → IsKept c settled heap p g r.q k i 0 (plus x (c r.weight))
-IsKeptRule {W} c rows settled heap p g k to x (Two u v) =
+-- each summary that a rule of a head makes of the rows was offered as light
+abbrev pub IsCovered : {W : Type 0} → Scale → (W → List ℕ) → List (Row W) → Frontier W → ℕ → ℕ → List ℕ → Word2 → Type 0
+IsCovered m c rows frontier head to x Empty = Covers m c frontier head to x
+IsCovered {W} m c rows frontier head to x (One u) =
+    (i : ℕ) (r : Row W) → slice_get rows i ≡ Some r → r.p ≡ to → r.g ≡ u → Covers m c frontier head r.q (plus x (c r.weight))
+IsCovered {W} m c rows frontier head to x (Two u v) =
     (i j : ℕ) (r s : Row W) → slice_get rows i ≡ Some r → slice_get rows j ≡ Some s → ArePair to u v r s
-    → IsKept c settled heap p g s.q k i j (plus (plus x (c r.weight)) (c s.weight))
+    → Covers m c frontier head s.q (plus (plus x (c r.weight)) (c s.weight))
+
+-- a summary for which a weight was offered is settled, or a candidate of this weight is on the heap
+abbrev pub AreHeld : {W : Type 0} → List (ℕ × ℕ) → List (Ruled W) → List (Row W) → Frontier W → Type 0
+AreHeld {W} heads flat settled frontier =
+    (head p g q : ℕ) (x : W) → lightest_of frontier head q ≡ Some x → slice_get heads head ≡ Some (p, g) → Settled settled p g q ⊎ IsHeld flat frontier.heap head q x
 
 -- each row stands at the place of its head
 pub record AreRowPlaces {W : Type 0} (heads : List (ℕ × ℕ)) (rows : List (Row W)) (places : ChainsView) : Type 0 where
@@ -109,34 +116,35 @@ HasWait {W} heads flat rows waits from k i =
     (u v place : ℕ) (f : Ruled W) (r : Row W) → slice_get flat k ≡ Some f → f.rule.word ≡ Two u v → slice_get rows i ≡ Some r → r.p ≡ f.rule.to → r.g ≡ u
     → slice_get heads place ≡ Some (r.q, v) → (n : ℕ) × (from ≤ n) × (slice_get waits.items.items n ≡ Some (record { rule = k; row = i }))
 
--- A search over the rows: each candidate is sound, and each one of a summary that isn't settled is there.
-pub record IsSearch {W : Type 0} (c : W → List ℕ) (heads : List (ℕ × ℕ)) (flat : List (Ruled W)) (rows settled : List (Row W)) (search : Search W) : Type 0 where
-  pub sound : (t : Candidate W) → Contains search.heap t → IsSound c flat rows t
-  pub kept : (k p g : ℕ) (f : Ruled W) → slice_get flat k ≡ Some f → slice_get heads f.head ≡ Some (p, g) → IsKeptRule c rows settled search.heap p g k f.rule.to (c f.rule.weight) f.rule.word
+-- A search over the rows: each candidate is sound, and each summary that isn't settled has a lightest one there.
+pub record IsSearch {W : Type 0} (m : Scale) (c : W → List ℕ) (heads : List (ℕ × ℕ)) (flat : List (Ruled W)) (rows settled : List (Row W)) (search : Search W) : Type 0 where
+  pub sound : (t : Candidate W) → Contains search.frontier.heap t → IsSound c flat rows t
+  pub covered : (k : ℕ) (f : Ruled W) → slice_get flat k ≡ Some f → IsCovered m c rows search.frontier f.head f.rule.to (c f.rule.weight) f.rule.word
+  pub held : AreHeld heads flat settled search.frontier
   pub places : AreRowPlaces heads rows search.rows
   pub waits : AreWaits heads flat rows search.waits
   pub waiting : (k i : ℕ) → HasWait heads flat rows search.waits 0 k i
   pub counted : (F : ℕ → ℕ → ℕ) → sum_by (of_head F heads) search.waits.places.places ≤ sum_by (λ f. all_begun F rows f.rule.to f.rule.word) flat
 
--- the row that a candidate makes ends in q
-abbrev pub EndsIn : {W : Type 0} → List (Row W) → ℕ → Word2 → ℕ → ℕ → ℕ → Type 0
-EndsIn rows to Empty i j q = q ≡ to
-EndsIn {W} rows to (One u) i j q = (r : Row W) → slice_get rows i ≡ Some r → q ≡ r.q
-EndsIn {W} rows to (Two u v) i j q = (s : Row W) → slice_get rows j ≡ Some s → q ≡ s.q
-
 -- b is the row that the candidate makes
 pub record IsRowOf {W : Type 0} (m : Scale) (c : W → List ℕ) (heads : List (ℕ × ℕ)) (flat : List (Ruled W)) (rows : List (Row W)) (t : Candidate W) (b : Row W) : Type 0 where
   pub weight : b.weight ≡ t.weight
-  pub by : (f : Ruled W) → slice_get flat t.rule ≡ Some f → (slice_get heads f.head ≡ Some (b.p, b.g)) × EndsIn rows f.rule.to f.rule.word t.left t.right b.q × IsRowBy m c rows b.p b.g f.at f.rule b
+  pub end : b.q ≡ t.q
+  pub by : (f : Ruled W) → slice_get flat t.rule ≡ Some f → (slice_get heads f.head ≡ Some (b.p, b.g)) × IsRowBy m c rows b.p b.g f.at f.rule b
 
--- if the rule at place k takes its symbol off, its candidate is there
-abbrev pub HasPops : {W : Type 0} → (W → List ℕ) → List (Ruled W) → List (Candidate W) → ℕ → Type 0
-HasPops {W} c flat heap k = (f : Ruled W) → slice_get flat k ≡ Some f → f.rule.word ≡ Empty → Has c heap k 0 0 (c f.rule.weight)
+-- if the rule at place k takes its symbol off, what it makes was offered as light
+abbrev pub HasPops : {W : Type 0} → Scale → (W → List ℕ) → List (Ruled W) → Frontier W → ℕ → Type 0
+HasPops {W} m c flat frontier k = (f : Ruled W) → slice_get flat k ≡ Some f → f.rule.word ≡ Empty → Covers m c frontier f.head f.rule.to (c f.rule.weight)
+
+-- a frontier before any row: what was offered is sound and on the heap
+pub record Begins {W : Type 0} (m : Scale) (c : W → List ℕ) (flat : List (Ruled W)) (frontier : Frontier W) : Type 0 where
+  pub sound : (t : Candidate W) → Contains frontier.heap t → IsSound c flat [] t
+  pub held : (head q : ℕ) (x : W) → lightest_of frontier head q ≡ Some x → IsHeld flat frontier.heap head q x
 
 -- a search over the rows before the last one
-pub record IsBehind {W : Type 0} (c : W → List ℕ) (heads : List (ℕ × ℕ)) (flat : List (Ruled W)) (rows : List (Row W)) (last : ℕ) (search : Search W) : Type 0 where
+pub record IsBehind {W : Type 0} (m : Scale) (c : W → List ℕ) (heads : List (ℕ × ℕ)) (flat : List (Ruled W)) (rows : List (Row W)) (last : ℕ) (search : Search W) : Type 0 where
   pub earlier : List (Row W)
   pub row : Row W
   pub pushed : rows ≡ earlier ++ row ∷ []
   pub place : last ≡ length earlier
-  pub stands : IsSearch c heads flat earlier rows search
+  pub stands : IsSearch m c heads flat earlier rows search

@@ -1,7 +1,8 @@
 -- Turns: what the rules, the rows so far and the last of these make.
 use Rattle.std.specs.Prelude.{◌≡◌, ℕ, ◌+◌, ◌<◌, List, Some, length, slice_get}
 use Rattle.wi_saturate.specs.declared.row.Row.{Row}
-use Rattle.wi_saturate.specs.declared.heap.Candidate.{Candidate}
+use Rattle.wi_weight.specs.Weights.{Scale}
+use Rattle.wi_saturate.specs.declared.frontier.Frontier.{Frontier}
 use Rattle.wi_saturate.specs.declared.rules.Ruled.{Ruled}
 use Rattle.wi_saturate.specs.declared.waits.Wait.{Wait}
 use Rattle.wi_saturate.specs.declared.waits.Waits.{Waits}
@@ -48,7 +49,7 @@ KeepsWaits old new = (n : ℕ) (w : Wait) → slice_get old.items.items n ≡ So
 abbrev pub WaitsFor : {W : Type 0} → Turn W → Waits → ℕ → ℕ → Type 0
 WaitsFor turn waits n k = HasWait (heads_of turn) (rules_of turn) (rows_of turn) waits n k turn.last
 
--- candidates were pushed, each sound, and each was a try
-pub record ArePushed {W : Type 0} (c : W → List ℕ) (turn : Turn W) (old new : List (Candidate W)) (before after : ℕ) : Type 0 where
-  pub adds : Adds c (rules_of turn) (rows_of turn) old new
-  pub lengths : length new + before ≡ length old + after
+-- sound candidates were offered, and each that was put on the heap was a try
+pub record ArePushed {W : Type 0} (m : Scale) (c : W → List ℕ) (turn : Turn W) (old new : Frontier W) (before after : ℕ) : Type 0 where
+  pub adds : Adds m c (rules_of turn) (rows_of turn) old new
+  pub lengths : length new.heap + before ≡ length old.heap + after

@@ -11,7 +11,6 @@ use borrow.Author.Count.{below_more}
 
 pub loop-n-preserved : goal.loop-n-preserved
 loop-n-preserved g c =
-    let w = g.W.Domain.components in
     let flat = (rules_of c.args.turn.now) in
     let rows = (rows_of c.args.turn.now) in
     let places = c.args.waits.now.places.places in
@@ -19,9 +18,9 @@ loop-n-preserved g c =
     let p = some_there places c.loop-n.n (omega (arith, c.loop-n-test.true, c.len-n-end.ensures, c.requires.waits.count)) in
     record {
       tries = omega (arith, c.loop-n.invariant.tries, c.in_ok-push_pairs.ensures.tries p.0 p.1, sum_at (of_head (rows_from rows) heads) places c.loop-n.n p.0 p.1);
-      pushed = pushed_both w c.args.turn.now c.args.heap.now c.loop-n.heap c.push_pairs.new.heap c.args.tries.now c.loop-n.tries c.push_pairs.new.tries c.loop-n.invariant.pushed c.in_ok-push_pairs.ensures.pushed;
+      pushed = pushed_both g.W.Domain.scale g.W.Domain.components g.met.W.Domain.laws g.met.W.Domain.admitted c.args.turn.now c.args.frontier.now c.loop-n.frontier c.push_pairs.new.frontier c.args.tries.now c.loop-n.tries c.push_pairs.new.tries c.loop-n.invariant.pushed c.in_ok-push_pairs.ensures.pushed;
       has = below_more _ _
-          (λ n low x place j from at there here. two_kept w flat rows c.loop-n.heap c.push_pairs.new.heap c.in_ok-push_pairs.ensures.pushed.adds x.rule x.row j (c.loop-n.invariant.has n low x place j from at there here))
+          (λ n low x place j from at there here. two_kept g.W.Domain.scale g.W.Domain.components g.met.W.Domain.laws g.met.W.Domain.admitted flat rows c.loop-n.frontier c.push_pairs.new.frontier c.in_ok-push_pairs.ensures.pushed.adds x.rule x.row j (c.loop-n.invariant.has n low x place j from at there here))
           (λ x place j from at there here. c.in_ok-push_pairs.ensures.has x place j at there here);
     }
 

@@ -1,7 +1,7 @@
-use Rattle.std.proofs.Common.{refl, length}
+use Rattle.std.proofs.Common.{refl, length, arith}
 use Rattle.std.proofs.lemmas.Option.{slice_get_read}
 use Rattle.wi_saturate.proofs.Elements.{on_ok}
-use Rattle.wi_saturate.proofs.Counts.{one_tries, no_one_tries}
+use Rattle.wi_saturate.proofs.Counts.{one_tries}
 use Rattle.wi_saturate.proofs.Pushes.{one_first, no_one, pushed_none}
 use Rattle.wi_saturate.specs.private.Turns.{rules_of, rows_of}
 use Rattle.wi_saturate.proofs.joins.push_if_one.Goals as goal
@@ -12,9 +12,9 @@ push_one-requires-clause-one g c =
 
 pub returns-in_default : goal.returns-in_default
 returns-in_default g c = record {
-  pushed = pushed_none g.W.Domain.components c.args.turn.now c.args.heap.now c.args.tries.now;
-  tries = λ f r at row. no_one_tries (rules_of c.args.turn.now) c.args.rule c.get.result f r _ (slice_get_read (rules_of c.args.turn.now) (length (rules_of c.args.turn.now)) c.args.rule c.get.result refl c.requires.rule c.get.ensures) at c.in_default.not-One;
-  has = no_one g.W.Domain.components (rules_of c.args.turn.now) (rows_of c.args.turn.now) c.args.heap.now c.args.rule c.args.turn.now.last c.get.result c.requires.rule c.get.ensures c.in_default.not-One;
+  pushed = pushed_none g.W.Domain.scale g.W.Domain.components g.met.W.Domain.laws g.met.W.Domain.admitted c.args.turn.now c.args.frontier.now c.args.tries.now;
+  tries = λ f r at row. omega arith;
+  has = no_one g.W.Domain.scale g.W.Domain.components (rules_of c.args.turn.now) (rows_of c.args.turn.now) c.args.frontier.now c.args.rule c.args.turn.now.last c.get.result c.requires.rule c.get.ensures c.in_default.not-One;
 }
 
 pub returns-in-One-clause-tries : goal.returns-in-One-clause-tries

@@ -1,31 +1,31 @@
 use Rattle.std.proofs.lemmas.Option.{slice_get_within}
 use Rattle.std.proofs.Common.{rules}
-use Rattle.wi_saturate.proofs.Elements.{on_ok, on_ok_both, on_any}
-use Rattle.wi_saturate.proofs.Pushes.{pushed_one, one_pushed, rule_fits, row_fits}
+use Rattle.wi_saturate.proofs.Elements.{on_ok, on_ok_both}
+use Rattle.wi_saturate.proofs.Pushes.{one_pushed, rule_fits, row_fits}
 use Rattle.wi_saturate.specs.private.Turns.{rules_of, rows_of}
 use Rattle.wi_saturate.proofs.joins.push_one.Goals as goal
 
 pub extend-weight-requires-clause-first : goal.extend-weight-requires-clause-first
-extend-weight-requires-clause-first g c = rule_fits g.W.Domain.components (rules_of c.args.turn.now) (rows_of c.args.turn.now) c.requires.turn.index.small c.requires.turn.fit c.args.rule c.get.result c.requires.one.0 c.requires.one.3 c.get.ensures
+extend-weight-requires-clause-first g c = rule_fits g.W.Domain.components (rules_of c.args.turn.now) (rows_of c.args.turn.now) c.requires.turn.index.small c.requires.turn.fit c.args.rule c.get-ruled.result c.requires.one.0 c.requires.one.3 c.get-ruled.ensures
 
 pub extend-weight-requires-clause-second : goal.extend-weight-requires-clause-second
 extend-weight-requires-clause-second g c = row_fits g.W.Domain.components (rules_of c.args.turn.now) (rows_of c.args.turn.now) c.requires.turn.index.small c.requires.turn.fit c.args.i c.index-turn-i.result c.requires.one.1 c.requires.one.5
 
 pub returns-clause-pushed : goal.returns-clause-pushed
-returns-clause-pushed g c = on_ok_both c.push.result (λ more longer.
-    pushed_one g.W.Domain.components c.args.turn.now c.args.heap.now c.push.new.self c.args.tries.now c.push.new.tries (
-    one_pushed g.W.Domain.components (rules_of c.args.turn.now) (rows_of c.args.turn.now) c.args.rule c.args.i c.get.result c.index-turn-i.result c.get.ensures c.args.heap.now c.push.new.self c.extend-weight.result
-    c.extend-weight.ensures c.requires.one more
-    ).0 longer c.push.ensures.tries) c.push.ensures.more c.push.ensures.length
+returns-clause-pushed g c = on_ok_both c.offer.result (λ offered longer. record {
+  adds = (one_pushed g.W.Domain.scale g.W.Domain.components g.met.W.Domain.laws g.met.W.Domain.admitted (rules_of c.args.turn.now) (rows_of c.args.turn.now) c.args.rule c.args.i c.get-ruled.result c.index-turn-i.result c.get-ruled.ensures c.args.frontier.now c.offer.new.self c.extend-weight.result
+      c.extend-weight.ensures c.requires.one offered).0;
+  lengths = longer;
+}) c.offer.ensures.offered c.offer.ensures.lengths
 
 pub returns-clause-has : goal.returns-clause-has
-returns-clause-has g c = on_ok c.push.result (λ more. (
-    one_pushed g.W.Domain.components (rules_of c.args.turn.now) (rows_of c.args.turn.now) c.args.rule c.args.i c.get.result c.index-turn-i.result c.get.ensures c.args.heap.now c.push.new.self c.extend-weight.result
-    c.extend-weight.ensures c.requires.one more
-    ).1) c.push.ensures.more
+returns-clause-has g c = on_ok c.offer.result (λ offered. (
+    one_pushed g.W.Domain.scale g.W.Domain.components g.met.W.Domain.laws g.met.W.Domain.admitted (rules_of c.args.turn.now) (rows_of c.args.turn.now) c.args.rule c.args.i c.get-ruled.result c.index-turn-i.result c.get-ruled.ensures c.args.frontier.now c.offer.new.self c.extend-weight.result
+    c.extend-weight.ensures c.requires.one offered
+    ).1) c.offer.ensures.offered
 
 pub returns-clause-tries : goal.returns-clause-tries
-returns-clause-tries g c = on_any c.push.result c.push.ensures.tries
+returns-clause-tries g c = c.offer.ensures.tries
 
 pub offset_bounds-turn-i : goal.offset_bounds-turn-i
 offset_bounds-turn-i g c = let within = slice_get_within (rows_of c.args.turn.now) c.args.i c.requires.one.1 c.requires.one.5 in search rules

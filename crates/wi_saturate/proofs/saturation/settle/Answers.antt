@@ -19,7 +19,7 @@ use Rattle.wi_saturate.proofs.saturation.settle.Goals as goal
 
 pub next_row-requires-clause-search : goal.next_row-requires-clause-search
 next_row-requires-clause-search g c =
-    subst (λ (rows : List (Row _)). IsSearch g.W.Domain.components c.args.asked.now.index.now.rules.heads c.args.asked.now.index.now.rules.items rows rows c.turns.search) (sym c.deref.ensures.value) c.turns.invariant.search
+    subst (λ (rows : List (Row _)). IsSearch g.W.Domain.scale g.W.Domain.components c.args.asked.now.index.now.rules.heads c.args.asked.now.index.now.rules.items rows rows c.turns.search) (sym c.deref.ensures.value) c.turns.invariant.search
 
 pub returns-in_default-clause-table : goal.returns-in_default-clause-table
 returns-in_default-clause-table g c =
@@ -84,8 +84,8 @@ extend-requires-clause-search g c =
       row = c.in-Some.next;
       pushed = whole;
       place = omega (arith, c.len-last.ensures, c.in_ok-push.ensures.len, c.turns.rows.ok.0);
-      stands = subst (λ (rows : List (Row _)). IsSearch g.W.Domain.components c.args.asked.now.index.now.rules.heads flat c.turns.rows.items rows c.next_row.new.self) (sym whole)
-          (subst (λ (rows : List (Row _)). IsSearch g.W.Domain.components c.args.asked.now.index.now.rules.heads flat rows (rows ++ c.in-Some.next ∷ []) c.next_row.new.self) c.deref.ensures.value c.in-Some.ensures.search);
+      stands = subst (λ (rows : List (Row _)). IsSearch g.W.Domain.scale g.W.Domain.components c.args.asked.now.index.now.rules.heads flat c.turns.rows.items rows c.next_row.new.self) (sym whole)
+          (subst (λ (rows : List (Row _)). IsSearch g.W.Domain.scale g.W.Domain.components c.args.asked.now.index.now.rules.heads flat rows (rows ++ c.in-Some.next ∷ []) c.next_row.new.self) c.deref.ensures.value c.in-Some.ensures.search);
     }
 
 pub turns-preserved : goal.turns-preserved
@@ -105,7 +105,7 @@ turns-preserved g c =
       tries = turn_within c.args.asked.now.index.now.rules.items c.turns.rows.items c.push.new.self.items c.deref-in-turns.result.now c.in-Some.next _ _ _ _ _ c.in_ok-push.ensures.items c.deref-in-turns.ensures.value
           (let last : c.len-last.result - 1 ≡ length c.turns.rows.items = omega (arith, c.len-last.ensures, c.in_ok-push.ensures.len, c.turns.rows.ok.0) in last) c.turns.invariant.tries c.in_ok-extend.ensures.tries;
       counted = omega (arith, c.tick.ensures, c.turns.invariant.counted, ap length c.in_ok-push.ensures.items, length-append c.turns.rows.items (c.in-Some.next ∷ []));
-      search = subst (λ (rows : List (Row _)). IsSearch g.W.Domain.components c.args.asked.now.index.now.rules.heads c.args.asked.now.index.now.rules.items rows rows c.extend.new.self) c.deref-in-turns.ensures.value c.in_ok-extend.ensures.search;
+      search = subst (λ (rows : List (Row _)). IsSearch g.W.Domain.scale g.W.Domain.components c.args.asked.now.index.now.rules.heads c.args.asked.now.index.now.rules.items rows rows c.extend.new.self) c.deref-in-turns.ensures.value c.in_ok-extend.ensures.search;
     }
 
 pub returns-in_default-clause-tried : goal.returns-in_default-clause-tried

@@ -1,21 +1,21 @@
-use Rattle.std.proofs.Common.{[], arith}
+use Rattle.std.proofs.Common.{arith}
 use Rattle.std.proofs.lemmas.Option.{slice_get_within}
 use Rattle.wi_saturate.proofs.Elements.{some_there}
 use Rattle.wi_saturate.proofs.Counts.{first_tries, all_tries}
-use Rattle.wi_saturate.proofs.Pushes.{adds_both}
-use Rattle.wi_saturate.proofs.Searching.{pops_kept}
+use Rattle.wi_saturate.proofs.Searching.{pops_kept, begins_more}
 use Rattle.wi_saturate.proofs.search.pops.Goals as goal
 use borrow.Author.Count.{below_more}
 
 pub loop-rule-preserved : goal.loop-rule-preserved
 loop-rule-preserved g c =
+    let m = g.W.Domain.scale in
     let w = g.W.Domain.components in
     let flat = c.args.rules.now.items in
     record {
-      sound = adds_both w flat [] [] c.loop-rule.heap c.push_if_pop.new.heap c.loop-rule.invariant.sound c.in_ok-push_if_pop.ensures.adds;
+      begins = begins_more m w flat c.loop-rule.frontier c.push_if_pop.new.frontier c.loop-rule.invariant.begins c.in_ok-push_if_pop.ensures.adds;
       lengths = omega (arith, c.loop-rule.invariant.lengths, c.in_ok-push_if_pop.ensures.lengths);
       tries = let f = some_there flat c.loop-rule.rule (omega (arith, c.loop-rule-test.true, c.len-rule-end.ensures)) in first_tries flat c.loop-rule.rule f.0 _ _ _ f.1 c.loop-rule.invariant.tries (c.in_ok-push_if_pop.ensures.tries f.0 f.1);
-      has = below_more _ _ (λ k low. pops_kept w flat c.loop-rule.heap c.push_if_pop.new.heap c.in_ok-push_if_pop.ensures.adds k (c.loop-rule.invariant.has k low)) c.in_ok-push_if_pop.ensures.has;
+      has = below_more _ _ (λ k low. pops_kept m w g.met.W.Domain.laws g.met.W.Domain.admitted flat k c.loop-rule.frontier c.push_if_pop.new.frontier c.in_ok-push_if_pop.ensures.adds (c.loop-rule.invariant.has k low)) c.in_ok-push_if_pop.ensures.has;
     }
 
 pub returns-clause-has : goal.returns-clause-has

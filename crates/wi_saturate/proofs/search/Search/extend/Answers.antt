@@ -33,7 +33,7 @@ returns-clause-search g c =
     c.requires.turn.head c.requires.search.row (last_there g.W.Domain.components (heads_of c.args.turn.now) (rules_of c.args.turn.now) c.requires.search.earlier c.requires.search.row (rows_of c.args.turn.now) c.requires.search.pushed c.args.turn.now.last c.requires.search.place) in
     on_ok_both c.begin_waits.result (λ pushed has.
     row_taken_in g.W.Domain.components (heads_of c.args.turn.now) (rules_of c.args.turn.now) c.requires.search.earlier c.requires.search.row (rows_of c.args.turn.now) c.requires.search.pushed c.args.turn.now.last c.args.turn.now.place c.requires.search.place head (once (heads_of c.args.turn.now) c.requires.turn.index.rise) c.args.self.now
-    (record { heap = c.begin_waits.new.heap; rows = c.add.new.self; waits = c.extend.new.self }) c.requires.search.stands c.end_waits.new.heap c.push_ones.new.heap
+    (record { frontier = c.begin_waits.new.frontier; rows = c.add.new.self; waits = c.extend.new.self }) g.W.Domain.scale g.met.W.Domain.laws g.met.W.Domain.admitted c.requires.search.stands c.end_waits.new.frontier c.push_ones.new.frontier
     c.in_ok-end_waits.ensures.pushed.adds c.in_ok-push_ones.ensures.pushed.adds pushed.adds c.in_ok-end_waits.ensures.has c.in_ok-push_ones.ensures.has c.in_ok-extend.ensures.keeps _ c.in_ok-extend.ensures.last
     (λ n w place j low. let from : c.len-from.result ≤ n = subst (λ z. z ≤ n) (sym (c.len-from.ensures)) low in has n w place j from) (places_longer g.W.Domain.components (heads_of c.args.turn.now) (rules_of c.args.turn.now) c.requires.search.earlier c.requires.search.row (rows_of c.args.turn.now) c.requires.search.pushed c.args.self.now.rows c.add.new.self c.args.turn.now.place c.in_ok-add.ensures head c.requires.search.stands.places) c.in_ok-extend.ensures.waits
     (c.in_ok-extend.ensures.counted c.requires.search.row (last_there g.W.Domain.components (heads_of c.args.turn.now) (rules_of c.args.turn.now) c.requires.search.earlier c.requires.search.row (rows_of c.args.turn.now) c.requires.search.pushed c.args.turn.now.last c.requires.search.place))) c.begin_waits.ensures.pushed c.begin_waits.ensures.has

@@ -58,10 +58,21 @@ get_push (z ∷ xs) y (suc i) x h = elim (get_push xs y i x h) [
   | inr k ↦ let same : i ≡ length xs = k.0 in inr (omega arith, k.1)
 ]
 
+pub get_front : {X : Type 0} (xs ys : List X) (i : ℕ) (x : X) → slice_get xs i ≡ Some x → slice_get (xs ++ ys) i ≡ Some x
+get_front [] ys i x h = cc
+get_front (z ∷ xs) ys zero x h = h
+get_front (z ∷ xs) ys (suc i) x h = get_front xs ys i x h
+
 pub get_before : {X : Type 0} (xs : List X) (y : X) (i : ℕ) (x : X) → slice_get xs i ≡ Some x → slice_get (xs ++ y ∷ []) i ≡ Some x
-get_before [] y i x h = cc
-get_before (z ∷ xs) y zero x h = h
-get_before (z ∷ xs) y (suc i) x h = get_before xs y i x h
+get_before xs y i x h = get_front xs (y ∷ []) i x h
+
+pub before_or_not : (i n : ℕ) → (i < n) ⊎ (n ≤ i)
+before_or_not i zero = inr (omega arith)
+before_or_not zero (suc n) = inl (omega arith)
+before_or_not (suc i) (suc n) = elim (before_or_not i n) [
+  | inl low ↦ inl (omega (arith, low))
+  | inr high ↦ inr (omega (arith, high))
+]
 
 pub get_last : {X : Type 0} (xs : List X) (y : X) → slice_get (xs ++ y ∷ []) (length xs) ≡ Some y
 get_last [] y = refl

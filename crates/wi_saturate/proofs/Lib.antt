@@ -5,8 +5,8 @@ pub mod Settle
 pub mod Turns
 pub mod Walks
 pub mod Lookups
+pub mod Lowering
 pub mod Pushes
-pub mod Offering
 pub mod Waiting
 pub mod Made
 pub mod Searching

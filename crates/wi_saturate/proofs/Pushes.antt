@@ -1,10 +1,11 @@
 -- Heaps that get candidates of rules and rows.
-use Rattle.std.specs.Prelude.{◌≡◌, ℕ, zero, suc, ◌+◌, ◌<◌, ◌^◌, ◌⊎◌, List, ◌∷◌, Some, length, slice_get, get_or, refl}
+use Rattle.std.proofs.lemmas.Bool.{false≢true}
+use Rattle.std.proofs.lemmas.List.Sorted.{Contains-permutation, IsPermutation-sym}
+use Rattle.std.specs.Prelude.{IsPermutation, ◌≡◌, Bool, false, ℕ, zero, suc, ◌+◌, ◌<◌, ◌^◌, ◌⊎◌, List, ◌∷◌, Some, length, slice_get, get_or, refl}
 use Rattle.std.specs.List.{Contains}
 use Rattle.std.proofs.Common.{sym, ap, ◌∙◌, subst, inl, inr, arith}
 use Rattle.std.proofs.lemmas.Option.{slice_get_within, slice_get_read}
 use Rattle.wi_weight.specs.Weights.{Scale, WeightLaws, IsWeight, EachBelow, plus}
-use Rattle.wi_weight.specs.lemmas.Order.{at_most_self, at_most_trans}
 use Rattle.wi_weight.specs.lemmas.Sums.{each_below_more, each_below_plus}
 use Rattle.wi_pds.specs.declared.rule.Word2.{Word2}
 use Rattle.wi_pds.specs.declared.rule.Word2.TheVariants.{Empty, One, Two}
@@ -19,7 +20,9 @@ use Rattle.wi_saturate.specs.private.Candidates.{AllFit}
 use Rattle.wi_saturate.specs.private.Indexes.{IsPlace, BeginsAt, IsIndexed}
 use Rattle.wi_saturate.specs.declared.turn.Turn.{Turn}
 use Rattle.wi_saturate.specs.declared.frontier.Frontier.{Frontier}
-use Rattle.wi_saturate.specs.private.Frontiers.{Covers, Offers}
+use Rattle.wi_saturate.specs.private.Lightest.{Covers, Lowers}
+use Rattle.wi_saturate.specs.private.Frontiers.{Offers}
+use Rattle.wi_saturate.proofs.Lowering.{lightens_none, lightens_both, covers_lighter}
 use Rattle.wi_saturate.specs.private.Searches.{ArePair, IsSum, IsSound, IsHeld, Adds, IsFirst, IsOne, IsTwo, HasOne, HasTwo, AreWaits, AreRowPlaces}
 use Rattle.wi_saturate.specs.private.Turns.{heads_of, rules_of, rows_of, IsTurn, IsFirstOf, ArePushed}
 use Rattle.wi_saturate.proofs.Lookups.{once}
@@ -35,20 +38,47 @@ here_or_there {X} xs t x h = let at = get_from_contains (t ∷ xs) x h in go at.
     go zero e = inl (same_some e)
     go (suc i) e = inr (contains_from_get xs i x e)
 
+-- a candidate was offered: one that is as light had been before, or it is on the heap now
+module _ {W : Type 0} (m : Scale) (c : W → List ℕ) (head : ℕ) (t : Candidate W) (old new : Frontier W) (is_lighter : Bool) (lowers : Lowers m c head t.q t.weight old.offered new.offered is_lighter) where
+  pub offered_before : new.heap ≡ old.heap → is_lighter ≡ false → Offers m c head t old new
+  offered_before same heavier = record {
+    covers = lowers.covers;
+    keeps = λ x h. subst (λ z. Contains z x) (sym same) h;
+    only = λ x h. inl (subst (λ z. Contains z x) same h);
+    lightens = lowers.lightens;
+    held = λ place q x at. elim (lowers.only place q x at) [
+      | inl before ↦ inl before
+      | inr is ↦ absurd (false≢true (sym heavier ∙ is.0))
+    ];
+  }
+
+  pub offered_now : IsPermutation (t ∷ old.heap) new.heap → Offers m c head t old new
+  offered_now moved = record {
+    covers = lowers.covers;
+    keeps = λ x h. Contains-permutation (t ∷ old.heap) new.heap x moved (contains_there old.heap t x h);
+    only = λ x h. elim (here_or_there old.heap t x (Contains-permutation new.heap (t ∷ old.heap) x (IsPermutation-sym (t ∷ old.heap) new.heap moved) h)) [
+      | inl same ↦ inr same
+      | inr before ↦ inl before
+    ];
+    lightens = lowers.lightens;
+    held = λ place q x at. elim (lowers.only place q x at) [
+      | inl before ↦ inl before
+      | inr is ↦ inr (is.1, is.2, is.3, Contains-permutation (t ∷ old.heap) new.heap t moved (contains_from_get (t ∷ old.heap) 0 t refl))
+    ];
+  }
+
 module _ {W : Type 0} (m : Scale) (c : W → List ℕ) (laws : WeightLaws m) (admitted : (w : W) → IsWeight m (c w)) (flat : List (Ruled W)) (rows : List (Row W)) where
   pub adds_none : (frontier : Frontier W) → Adds m c flat rows frontier frontier
   adds_none frontier = record {
     keeps = λ t h. h;
     sound = λ t h. inl h;
-    lighter = λ head q x at. (x, at, at_most_self laws (c x) (admitted x));
+    lightens = lightens_none m c laws admitted frontier.offered;
     held = λ head q x at. inl at;
   }
 
   -- what was offered as light stays so
-  pub covers_kept : (old new : Frontier W) → Adds m c flat rows old new → (head q : ℕ) (w : List ℕ) → IsWeight m w → Covers m c old head q w → Covers m c new head q w
-  covers_kept old new adds head q w weight h =
-      let is = adds.lighter head q h.0 h.1 in
-      (is.0, is.1, at_most_trans laws (c is.0) (c h.0) w (admitted is.0) (admitted h.0) weight is.2 h.2)
+  pub covers_kept : (old new : Frontier W) → Adds m c flat rows old new → (head q : ℕ) (w : List ℕ) → IsWeight m w → Covers m c old.offered head q w → Covers m c new.offered head q w
+  covers_kept old new adds = covers_lighter m c laws admitted old.offered new.offered adds.lightens
 
   pub held_kept : (old new : List (Candidate W)) → ((t : Candidate W) → Contains old t → Contains new t) → (head q : ℕ) (x : W) → IsHeld flat old head q x → IsHeld flat new head q x
   held_kept old new keeps head q x h = (h.0, h.1, keeps h.0 h.2, h.3, h.4, h.5, h.6)
@@ -60,7 +90,7 @@ module _ {W : Type 0} (m : Scale) (c : W → List ℕ) (laws : WeightLaws m) (ad
       | inl old ↦ first.sound t old
       | inr sound ↦ inr sound
     ];
-    lighter = λ head q x at. covers_kept b d second head q (c x) (admitted x) (first.lighter head q x at);
+    lightens = lightens_both m c laws admitted a.offered b.offered d.offered first.lightens second.lightens;
     held = λ head q x at. elim (second.held head q x at) [
       | inl old ↦ elim (first.held head q x old) [
         | inl older ↦ inl older
@@ -79,7 +109,7 @@ module _ {W : Type 0} (m : Scale) (c : W → List ℕ) (laws : WeightLaws m) (ad
       | inl before ↦ inl before
       | inr same ↦ inr (subst (λ z. IsSound c flat rows z) same (f, at, sum))
     ];
-    lighter = offered.lighter;
+    lightens = offered.lightens;
     held = λ head q x h. elim (offered.held head q x h) [
       | inl before ↦ inl before
       | inr is ↦ inr (t, f, is.3, at, sym is.0, sym is.1, sym is.2)
@@ -110,9 +140,9 @@ module _ {W : Type 0} (m : Scale) (c : W → List ℕ) (laws : WeightLaws m) (ad
           λ u g s at' word row' p q.
               let alike : f ≡ g = same_some (sym at ∙ at') in
               let alike' : r ≡ s = same_some (sym row ∙ row') in
-              subst (λ (z : Ruled W). Covers m c new z.head s.q (plus (c z.rule.weight) (c s.weight))) alike
-              (subst (λ (z : Row W). Covers m c new f.head z.q (plus (c f.rule.weight) (c z.weight))) alike'
-              (subst (λ w. Covers m c new f.head r.q w) sum offered.covers)),
+              subst (λ (z : Ruled W). Covers m c new.offered z.head s.q (plus (c z.rule.weight) (c s.weight))) alike
+              (subst (λ (z : Row W). Covers m c new.offered f.head z.q (plus (c f.rule.weight) (c z.weight))) alike'
+              (subst (λ w. Covers m c new.offered f.head r.q w) sum offered.covers)),
         )
 
     -- the candidate of a rule and two rows
@@ -130,10 +160,10 @@ module _ {W : Type 0} (m : Scale) (c : W → List ℕ) (laws : WeightLaws m) (ad
               let alike : f ≡ g = same_some (sym at ∙ at') in
               let alike' : r ≡ r' = same_some (sym row ∙ row') in
               let alike'' : s ≡ s' = same_some (sym second ∙ second') in
-              subst (λ (z : Ruled W). Covers m c new z.head s'.q (plus (plus (c z.rule.weight) (c r'.weight)) (c s'.weight))) alike
-              (subst (λ (z : Row W). Covers m c new f.head s'.q (plus (plus (c f.rule.weight) (c z.weight)) (c s'.weight))) alike'
-              (subst (λ (z : Row W). Covers m c new f.head z.q (plus (plus (c f.rule.weight) (c r.weight)) (c z.weight))) alike''
-              (subst (λ w. Covers m c new f.head s.q w) sum offered.covers))),
+              subst (λ (z : Ruled W). Covers m c new.offered z.head s'.q (plus (plus (c z.rule.weight) (c r'.weight)) (c s'.weight))) alike
+              (subst (λ (z : Row W). Covers m c new.offered f.head s'.q (plus (plus (c f.rule.weight) (c z.weight)) (c s'.weight))) alike'
+              (subst (λ (z : Row W). Covers m c new.offered f.head z.q (plus (plus (c f.rule.weight) (c r.weight)) (c z.weight))) alike''
+              (subst (λ w. Covers m c new.offered f.head s.q w) sum offered.covers))),
         )
 
   -- the same, at what the code reads

@@ -24,17 +24,19 @@ use Rattle.wi_saturate.specs.private.Chains.{ChainsView}
 use Rattle.wi_saturate.specs.Rows.{summaries, Settled}
 use Rattle.wi_saturate.specs.private.Candidates.{BestAtMost, IsBeaten, IsOpen, IsCandidate, IsSeen}
 use Rattle.wi_saturate.specs.private.Indexes.{IsIndex}
-use Rattle.std.specs.HashMap.{get}
 use Rattle.wi_saturate.specs.declared.frontier.Frontier.{Frontier}
-use Rattle.wi_saturate.specs.private.Frontiers.{same_summary, IsUnoffered, Covers, Offers}
-use Rattle.wi_saturate.specs.private.Searches.{ArePair, IsSum, IsHeld, Adds, HasOne, HasTwo, HasPops, IsCovered, AreHeld, AreRowPlaces, AreWaits, HasWait, EndsThere, IsRowOf, Begins, IsSearch}
+use Rattle.wi_saturate.specs.declared.lightest.Lightest.{Lightest}
+use Rattle.wi_saturate.specs.private.Lightest.{weight_at, Covers, Lightens}
+use Rattle.wi_saturate.specs.private.Frontiers.{Offers}
+use Rattle.wi_saturate.proofs.Lowering.{covers_lighter}
+use Rattle.wi_saturate.specs.private.Searches.{ArePair, IsSum, IsHeld, Adds, HasOne, HasTwo, HasPops, IsCovered, AreHeld, AreRowPlaces, AreWaits, AreHalves, HasWait, EndsThere, IsRowOf, Begins, IsSearch}
 use Rattle.std.specs.List.{sum_by}
 use Rattle.std.proofs.lemmas.List.Sums.{sum_by-append}
 use Rattle.wi_saturate.specs.private.Tries.{of_head, all_begun, begun, IsMore}
 use Rattle.wi_saturate.proofs.Counts.{sum_same, sum_both, begun_more}
-use Rattle.wi_saturate.proofs.Elements.{same_some, same_item, get_push, get_before, get_last, contains_from_get, some_there, false_when}
+use Rattle.wi_saturate.proofs.Elements.{same_some, same_item, get_push, get_front, get_before, get_last, before_or_not, contains_from_get, some_there, false_when}
 use Rattle.wi_saturate.proofs.Lookups.{ruled_named, ruled_all, once}
-use Rattle.wi_weight.specs.lemmas.Order.{at_most_trans}
+use Rattle.wi_weight.specs.lemmas.Order.{at_most_trans, plus_at_most_right}
 use Rattle.wi_saturate.proofs.Pushes.{here_or_there, contains_there, adds_one, adds_both, covers_kept, held_kept, two_weighs}
 use Rattle.wi_saturate.proofs.RuleRows.{seen_empty, seen_one, seen_two, made_at}
 
@@ -50,12 +52,12 @@ taken_there old new t taken = Contains-permutation (t ∷ new) old t (IsPermutat
 
 -- a candidate is taken off the heap, and what it makes is settled
 module _ {W : Type 0} (m : Scale) (c : W → List ℕ) (heads : List (ℕ × ℕ)) (flat : List (Ruled W)) (rows settled settled' : List (Row W)) (more : (p g q : ℕ) → Settled settled p g q → Settled settled' p g q)
-    (t : Candidate W) (old new : Frontier W) (taken : IsPermutation old.heap (t ∷ new.heap)) (same : new.lightest ≡ old.lightest) (b : Row W) (done : Settled settled' b.p b.g b.q) (of : IsRowOf m c heads flat rows t b) where
+    (t : Candidate W) (old new : Frontier W) (taken : IsPermutation old.heap (t ∷ new.heap)) (same : new.offered ≡ old.offered) (b : Row W) (done : Settled settled' b.p b.g b.q) (of : IsRowOf m c heads flat rows t b) where
   before : (x : Candidate W) → Contains new.heap x → Contains old.heap x
   before x at = Contains-permutation (t ∷ new.heap) old.heap x (IsPermutation-sym old.heap (t ∷ new.heap) taken) (contains_there new.heap t x at)
 
-  covers_still : (head q : ℕ) (w : List ℕ) → Covers m c old head q w → Covers m c new head q w
-  covers_still head q w h = (h.0, subst (λ z. get same_summary z (head, q) ≡ Some h.0) (sym same) h.1, h.2)
+  covers_still : (head q : ℕ) (w : List ℕ) → Covers m c old.offered head q w → Covers m c new.offered head q w
+  covers_still head q w h = subst (λ z. Covers m c z head q w) (sym same) h
 
   covered_still : (head to : ℕ) (x : List ℕ) (word : Word2) → IsCovered m c rows old head to x word → IsCovered m c rows new head to x word
   covered_still head to x Empty h = covers_still head to x h
@@ -71,7 +73,7 @@ module _ {W : Type 0} (m : Scale) (c : W → List ℕ) (heads : List (ℕ × ℕ
       subst (λ z. Settled settled' z g q) (ap (λ z. z.0) pair) (subst (λ z. Settled settled' b.p z q) (ap (λ z. z.1) pair) (subst (λ z. Settled settled' b.p b.g z) end done))
 
   held_still : AreHeld heads flat settled old → AreHeld heads flat settled' new
-  held_still held head p g q x at here = elim (held head p g q x (subst (λ z. get same_summary z (head, q) ≡ Some x) same at) here) [
+  held_still held head p g q x at here = elim (held head p g q x (subst (λ z. weight_at z head q ≡ Some x) same at) here) [
     | inl s ↦ inl (more p g q s)
     | inr is ↦ elim (here_or_there new.heap t is.0 (Contains-permutation old.heap (t ∷ new.heap) is.0 taken is.2)) [
       | inl e ↦ inl (taken_settled head p g q x here is e)
@@ -79,9 +81,9 @@ module _ {W : Type 0} (m : Scale) (c : W → List ℕ) (heads : List (ℕ × ℕ
     ]
   ]
 
-  pub taken_out : (search search' : Search W) → search.frontier ≡ old → search'.frontier ≡ new → search'.rows ≡ search.rows → search'.waits ≡ search.waits
+  pub taken_out : (search search' : Search W) → search.frontier ≡ old → search'.frontier ≡ new → search'.rows ≡ search.rows → search'.waits ≡ search.waits → search'.halves ≡ search.halves
       → IsSearch m c heads flat rows settled search → IsSearch m c heads flat rows settled' search'
-  taken_out search search' e e' r ws h = record {
+  taken_out search search' e e' r ws hs h = record {
     sound = λ x at. h.sound x (subst (λ (z : Frontier W). Contains z.heap x) (sym e) (before x (subst (λ (z : Frontier W). Contains z.heap x) e' at)));
     covered = λ k f at.
         subst (λ z. IsCovered m c rows z f.head f.rule.to (c f.rule.weight) f.rule.word) (sym e')
@@ -89,7 +91,8 @@ module _ {W : Type 0} (m : Scale) (c : W → List ℕ) (heads : List (ℕ × ℕ
     held = subst (λ z. AreHeld heads flat settled' z) (sym e') (held_still (subst (λ z. AreHeld heads flat settled z) e h.held));
     places = subst (λ z. AreRowPlaces heads rows z) (sym r) h.places;
     waits = subst (λ z. AreWaits heads flat rows z) (sym ws) h.waits;
-    waiting = subst (λ z. (k i : ℕ) → HasWait heads flat rows z 0 k i) (sym ws) h.waiting;
+    halves = subst (λ z. AreHalves c flat rows search'.waits z) (sym hs) (subst (λ z. AreHalves c flat rows z search.halves) (sym ws) h.halves);
+    waiting = subst (λ z. (k i : ℕ) → HasWait m c heads flat rows z k i) (sym hs) h.waiting;
     counted = λ F. subst (λ (z : Waits). sum_by (of_head F heads) z.places.places ≤ sum_by (λ f. all_begun F rows f.rule.to f.rule.word) flat) (sym ws) (h.counted F);
   }
 
@@ -110,7 +113,7 @@ module _ {W : Type 0} (m : Scale) (c : W → List ℕ) (laws : WeightLaws m) (ad
   -- what the rules make is beaten by what none of the candidates is lighter than
   module _ (search : Search W) (is : IsSearch m c all_heads index.rules.items rows rows search) (best : Option (Row W))
       (lightest : (x : Candidate W) → Contains search.frontier.heap x → BestAtMost m c best (c x.weight)) where
-    beaten : (head p g q : ℕ) (w : List ℕ) → slice_get all_heads head ≡ Some (p, g) → IsWeight m w → Covers m c search.frontier head q w → IsBeaten m c rows best p g q w
+    beaten : (head p g q : ℕ) (w : List ℕ) → slice_get all_heads head ≡ Some (p, g) → IsWeight m w → Covers m c search.frontier.offered head q w → IsBeaten m c rows best p g q w
     beaten head p g q w at weight h = elim (is.held head p g q h.0 h.1 at) [
       | inl s ↦ inl s
       | inr held ↦ inr (best_most best h.0 w weight h.2 (subst (λ (z : W). BestAtMost m c best (c z)) held.6 (lightest held.0 held.2)))
@@ -186,7 +189,7 @@ module _ {W : Type 0} (m : Scale) (c : W → List ℕ) (laws : WeightLaws m) (ad
   pop_pushed old new word offered = (
     adds_one m c laws admitted flat [] old new (record { weight = f.rule.weight; q = f.rule.to; rule = k; left = 0; right = 0 }) f at
         (subst (λ z. IsSum c [] f.rule.to (c f.rule.weight) z 0 0 f.rule.to (c f.rule.weight)) (sym word) (refl, refl)) offered,
-    λ g there _. subst (λ (z : Ruled W). Covers m c new z.head z.rule.to (c z.rule.weight)) (same_item flat k f g at there) offered.covers,
+    λ g there _. subst (λ (z : Ruled W). Covers m c new.offered z.head z.rule.to (c z.rule.weight)) (same_item flat k f g at there) offered.covers,
   )
 
   pub no_pop : (frontier : Frontier W) → (f.rule.word ≡ Empty → ⊥) → HasPops m c flat frontier k
@@ -197,7 +200,7 @@ pops_kept m c laws admitted flat k old new adds h g there word = covers_kept m c
 
 -- a search begins
 module _ {W : Type 0} (m : Scale) (c : W → List ℕ) (flat : List (Ruled W)) where
-  pub begins_none : (frontier : Frontier W) → frontier.heap ≡ [] → IsUnoffered frontier → Begins m c flat frontier
+  pub begins_none : (frontier : Frontier W) → frontier.heap ≡ [] → ((head q : ℕ) → weight_at frontier.offered head q ≡ None) → Begins m c flat frontier
   begins_none frontier none unoffered = record {
     sound = λ t h. let is : Contains [] t = subst (λ z. Contains z t) none h in let within : is.0 < 0 = is.1 in absurd (omega arith);
     held = λ head q x at. let off : None ≡ Some x = sym (unoffered head q) ∙ at in cc;
@@ -216,14 +219,14 @@ module _ {W : Type 0} (m : Scale) (c : W → List ℕ) (flat : List (Ruled W)) w
   }
 
 module _ {W : Type 0} (m : Scale) (c : W → List ℕ) (heads : List (ℕ × ℕ)) (flat : List (Ruled W)) where
-  first_covered : (frontier : Frontier W) (head to : ℕ) (x : List ℕ) (word : Word2) → (word ≡ Empty → Covers m c frontier head to x) → IsCovered m c [] frontier head to x word
+  first_covered : (frontier : Frontier W) (head to : ℕ) (x : List ℕ) (word : Word2) → (word ≡ Empty → Covers m c frontier.offered head to x) → IsCovered m c [] frontier head to x word
   first_covered frontier head to x Empty h = h refl
   first_covered frontier head to x (One u) h = λ i r at from symbol. cc
   first_covered frontier head to x (Two u v) h = λ i j r s at at' pair. cc
 
   pub search_begins : (search : Search W) (count : ℕ) → count ≡ length heads → Begins m c flat search.frontier → ((k : ℕ) → HasPops m c flat search.frontier k)
-      → search.rows ≡ record { count = count; places = [] } → search.waits.items.items ≡ [] → search.waits.places ≡ record { count = count; places = [] } → IsSearch m c heads flat [] [] search
-  search_begins search count room begins has rows items places = record {
+      → search.rows ≡ record { count = count; places = [] } → search.waits.items.items ≡ [] → search.waits.places ≡ record { count = count; places = [] } → ((head to : ℕ) → weight_at search.halves head to ≡ None) → IsSearch m c heads flat [] [] search
+  search_begins search count room begins has rows items places none_noted = record {
     sound = begins.sound;
     covered = λ k f at. first_covered search.frontier f.head f.rule.to (c f.rule.weight) f.rule.word (has k f at);
     held = λ head p g q x at here. inr (begins.held head q x at);
@@ -237,6 +240,7 @@ module _ {W : Type 0} (m : Scale) (c : W → List ℕ) (heads : List (ℕ × ℕ
       count = ap (λ v. length v.places) places ∙ sym (ap length items);
       each = λ n place w at. let none : slice_get {X = Wait} [] n ≡ Some w = subst (λ ws. slice_get ws n ≡ Some w) items at in cc;
     };
+    halves = λ head place x at. let off : None ≡ Some x = sym (none_noted head place) ∙ at in cc;
     waiting = λ k i u v place f r at word row. cc;
     counted = λ F. let none : sum_by (of_head F heads) search.waits.places.places ≡ 0 = ap (λ (v : ChainsView). sum_by (of_head F heads) v.places) places in omega arith;
   }
@@ -257,6 +261,11 @@ module _ {W : Type 0} (c : W → List ℕ) (heads : List (ℕ × ℕ)) (flat : L
         let is = are.each n place w at there in
         (is.0, is.1, is.2, is.3, is.4, is.5, get_before earlier row w.row is.1 is.6, is.7, is.8, is.9);
   })
+
+  pub halves_longer : (rows : List (Row W)) → rows ≡ earlier ++ row ∷ [] → (waits : Waits) (halves : Lightest W) → AreHalves c flat earlier waits halves → AreHalves c flat rows waits halves
+  halves_longer rows pushed waits halves are head place x at =
+      let is = are head place x at in
+      (is.0, is.1, is.2, is.3, is.4, is.5, is.6, is.7, subst (λ z. slice_get z is.1.row ≡ Some is.3) (sym pushed) (get_before earlier row is.1.row is.3 is.8), is.9)
 
   pub places_longer : (rows : List (Row W)) → rows ≡ earlier ++ row ∷ [] → (old new : ChainsView) (place : ℕ) → new ≡ record { count = old.count; places = old.places ++ place ∷ [] } → slice_get heads place ≡ Some (row.p, row.g)
       → AreRowPlaces heads earlier old → AreRowPlaces heads rows new
@@ -290,14 +299,15 @@ module _ {W : Type 0} (c : W → List ℕ) (heads : List (ℕ × ℕ)) (flat : L
       (ended : (n : ℕ) (w : Wait) → slice_get old.waits.items.items n ≡ Some w → slice_get old.waits.places.places n ≡ Some place → HasTwo m c flat rows h1 w.rule w.row last)
       (ones : (k : ℕ) → HasOne m c flat rows h2 k last)
       (more : (n : ℕ) (w : Wait) → slice_get old.waits.items.items n ≡ Some w → slice_get new.waits.items.items n ≡ Some w)
-      (from : ℕ) (waiting : (k : ℕ) → HasWait heads flat rows new.waits from k last)
+      (lightens : Lightens m c old.halves new.halves) (waiting : (k : ℕ) → HasWait m c heads flat rows new.halves k last) (halves : AreHalves c flat rows new.waits new.halves)
+      (from : ℕ) (at_end : from ≡ length old.waits.items.items)
       (started : (n : ℕ) (w : Wait) (place j : ℕ) → from ≤ n → slice_get new.waits.items.items n ≡ Some w → slice_get new.waits.places.places n ≡ Some place → slice_get new.rows.places j ≡ Some place → HasTwo m c flat rows new.frontier w.rule w.row j)
       (places : AreRowPlaces heads rows new.rows) (waits : AreWaits heads flat rows new.waits)
       (further : IsMore heads old.waits.places.places new.waits.places.places (λ F. sum_by (λ f. begun F row f.rule.to f.rule.word) flat)) where
     adds : Adds m c flat rows old.frontier new.frontier
     adds = adds_both m c laws admitted flat rows old.frontier h2 new.frontier (adds_both m c laws admitted flat rows old.frontier h1 h2 adds1 adds2) adds3
 
-    covers_more : (head q : ℕ) (w : List ℕ) → IsWeight m w → Covers m c old.frontier head q w → Covers m c new.frontier head q w
+    covers_more : (head q : ℕ) (w : List ℕ) → IsWeight m w → Covers m c old.frontier.offered head q w → Covers m c new.frontier.offered head q w
     covers_more = covers_kept m c laws admitted flat rows old.frontier new.frontier adds
 
     -- a row is an earlier one, or the last
@@ -310,41 +320,101 @@ module _ {W : Type 0} (c : W → List ℕ) (heads : List (ℕ × ℕ)) (flat : L
     last_at : slice_get rows last ≡ Some row
     last_at = subst (λ z. slice_get z last ≡ Some row) (sym pushed) (subst (λ n. slice_get (earlier ++ row ∷ []) n ≡ Some row) (sym same) (get_last earlier row))
 
+    -- what waits at a place for the last row, where it came before that
+    waited_ends : (n place' : ℕ) (w : Wait) (f : Ruled W) (r : Row W) → slice_get old.waits.items.items n ≡ Some w → slice_get old.waits.places.places n ≡ Some place' → place' ≡ place
+        → slice_get flat w.rule ≡ Some f → slice_get rows w.row ≡ Some r → Covers m c new.frontier.offered f.head row.q (plus (plus (c f.rule.weight) (c r.weight)) (c row.weight))
+    waited_ends n place' w f r at here e rule there =
+        let is = old_stands.waits.each n place' w at here in
+        let f_is : is.0 ≡ f = same_item flat w.rule is.0 f is.4 rule in
+        let r_is : is.1 ≡ r = same_item rows w.row is.1 r (subst (λ z. slice_get z w.row ≡ Some is.1) (sym pushed) (get_before earlier row w.row is.1 is.6)) there in
+        let meets : (is.1.q, is.3) ≡ (row.p, row.g) = same_some (sym is.9 ∙ ap (λ z. slice_get heads z) e ∙ head) in
+        let pair : ArePair is.0.rule.to is.2 is.3 is.1 row = (is.7, is.8, sym (ap (λ z. z.0) meets), sym (ap (λ z. z.1) meets)) in
+        let pair' : ArePair f.rule.to is.2 is.3 r row =
+        subst (λ (z : Row W). ArePair f.rule.to is.2 is.3 z row) r_is (subst (λ (z : Ruled W). ArePair z.rule.to is.2 is.3 is.1 row) f_is pair) in
+        covers_kept m c laws admitted flat rows h1 new.frontier (adds_both m c laws admitted flat rows h1 h2 new.frontier adds2 adds3) f.head row.q _ (two_weighs m c laws admitted flat rows f.rule.weight r.weight row.weight)
+        (ended n w at (subst (λ z. slice_get old.waits.places.places n ≡ Some z) e here) is.2 is.3 f r row rule (ap (λ (z : Ruled W). z.rule.word) (sym f_is) ∙ is.5) there last_at pair')
+
+    -- what is as light as something makes what is as light
+    lighter_whole : (head' q : ℕ) (x : W) (f g : Ruled W) (r r' s : Row W) → f.head ≡ head' → c x ≡ plus (c f.rule.weight) (c r.weight) → AtMost m (c x) (plus (c g.rule.weight) (c r'.weight))
+        → Covers m c new.frontier.offered f.head q (plus (plus (c f.rule.weight) (c r.weight)) (c s.weight)) → Covers m c new.frontier.offered head' q (plus (plus (c g.rule.weight) (c r'.weight)) (c s.weight))
+    lighter_whole head' q x f g r r' s same sum low h =
+        let half : IsWeight m (plus (c f.rule.weight) (c r.weight)) = laws.sum (c f.rule.weight) (c r.weight) (admitted f.rule.weight) (admitted r.weight) in
+        let half' : IsWeight m (plus (c g.rule.weight) (c r'.weight)) = laws.sum (c g.rule.weight) (c r'.weight) (admitted g.rule.weight) (admitted r'.weight) in
+        let whole : AtMost m (plus (plus (c f.rule.weight) (c r.weight)) (c s.weight)) (plus (plus (c g.rule.weight) (c r'.weight)) (c s.weight)) =
+        plus_at_most_right laws (plus (c f.rule.weight) (c r.weight)) (plus (c g.rule.weight) (c r'.weight)) (c s.weight) half half' (admitted s.weight) (subst (λ z. AtMost m z (plus (c g.rule.weight) (c r'.weight))) sum low) in
+        (h.0, subst (λ z. weight_at new.frontier.offered z q ≡ Some h.0) same h.1, at_most_trans laws (c h.0) _ _ (admitted h.0) (two_weighs m c laws admitted flat rows f.rule.weight r.weight s.weight) (two_weighs m c laws admitted flat rows g.rule.weight r'.weight s.weight) h.2 whole)
+
     -- the first row is an earlier one and the second the last
     ends_here : (k i u v : ℕ) (f : Ruled W) (r : Row W) → slice_get flat k ≡ Some f → f.rule.word ≡ Two u v → slice_get earlier i ≡ Some r → slice_get rows i ≡ Some r → ArePair f.rule.to u v r row
-        → Covers m c new.frontier f.head row.q (plus (plus (c f.rule.weight) (c r.weight)) (c row.weight))
+        → Covers m c new.frontier.offered f.head row.q (plus (plus (c f.rule.weight) (c r.weight)) (c row.weight))
     ends_here k i u v f r at word there here pair =
         let meets : slice_get heads place ≡ Some (r.q, v) = head ∙ ap (λ x. Some (x, row.g)) pair.2 ∙ ap (λ x. Some (r.q, x)) pair.3 in
-        let wait = old_stands.waiting k i u v place f r at word there pair.0 pair.1 meets in
-        let within : wait.0 < length old.waits.items.items = slice_get_within old.waits.items.items wait.0 _ wait.2 in
-        let spot = some_there old.waits.places.places wait.0 (omega (arith, old_stands.waits.count)) in
-        let is = old_stands.waits.each wait.0 spot.0 (record { rule = k; row = i }) wait.2 spot.1 in
-        let alike : is.1 ≡ r = same_item earlier i is.1 r is.6 there in
-        let rule : is.0 ≡ f = same_item flat k is.0 f is.4 at in
-        let words : Two is.2 is.3 ≡ Two u v = sym is.5 ∙ ap (λ (z : Ruled W). z.rule.word) rule ∙ word in
-        let second : is.3 ≡ v = cc in
-        let stands : slice_get heads spot.0 ≡ Some (r.q, v) = is.9 ∙ ap (λ x. Some (x, is.3)) (ap (λ (z : Row W). z.q) alike) ∙ ap (λ x. Some (r.q, x)) second in
-        let here_it_is : slice_get old.waits.places.places wait.0 ≡ Some place = subst (λ n. slice_get old.waits.places.places wait.0 ≡ Some n) (once spot.0 place r.q v stands meets) spot.1 in
-        covers_kept m c laws admitted flat rows h1 new.frontier (adds_both m c laws admitted flat rows h1 h2 new.frontier adds2 adds3) f.head row.q _ (two_weighs m c laws admitted flat rows f.rule.weight r.weight row.weight)
-        (ended wait.0 (record { rule = k; row = i }) wait.2 here_it_is u v f r row at word here last_at pair)
+        let noted = old_stands.waiting k i u v place f r at word there pair.0 pair.1 meets in
+        let is = old_stands.halves f.head place noted.0 noted.1 in
+        lighter_whole f.head row.q noted.0 is.2 f is.3 r row is.7 is.9 noted.2
+        (waited_ends is.0 place is.1 is.2 is.3 is.4 is.5 refl is.6 (subst (λ z. slice_get z is.1.row ≡ Some is.3) (sym pushed) (get_before earlier row is.1.row is.3 is.8)))
+
+    -- what waited before the last row came, and an earlier one
+    waited_before : (n place' j : ℕ) (w : Wait) (f : Ruled W) (r s : Row W) → slice_get old.waits.items.items n ≡ Some w → slice_get old.waits.places.places n ≡ Some place' → slice_get flat w.rule ≡ Some f
+        → slice_get rows w.row ≡ Some r → slice_get earlier j ≡ Some s → slice_get heads place' ≡ Some (s.p, s.g) → Covers m c new.frontier.offered f.head s.q (plus (plus (c f.rule.weight) (c r.weight)) (c s.weight))
+    waited_before n place' j w f r s at here rule there second stands =
+        let is = old_stands.waits.each n place' w at here in
+        let f_is : is.0 ≡ f = same_item flat w.rule is.0 f is.4 rule in
+        let r_is : is.1 ≡ r = same_item rows w.row is.1 r (subst (λ z. slice_get z w.row ≡ Some is.1) (sym pushed) (get_before earlier row w.row is.1 is.6)) there in
+        let meets : (is.1.q, is.3) ≡ (s.p, s.g) = same_some (sym is.9 ∙ stands) in
+        let pair : ArePair is.0.rule.to is.2 is.3 is.1 s = (is.7, is.8, sym (ap (λ z. z.0) meets), sym (ap (λ z. z.1) meets)) in
+        let covered : IsCovered m c earlier old.frontier is.0.head is.0.rule.to (c is.0.rule.weight) (Two is.2 is.3) =
+        subst (λ z. IsCovered m c earlier old.frontier is.0.head is.0.rule.to (c is.0.rule.weight) z) is.5 (old_stands.covered w.rule is.0 is.4) in
+        subst (λ (z : Ruled W). Covers m c new.frontier.offered z.head s.q (plus (plus (c z.rule.weight) (c r.weight)) (c s.weight))) f_is
+        (subst (λ (z : Row W). Covers m c new.frontier.offered is.0.head s.q (plus (plus (c is.0.rule.weight) (c z.weight)) (c s.weight))) r_is
+        (covers_more is.0.head s.q _ (two_weighs m c laws admitted flat rows is.0.rule.weight is.1.weight s.weight) (covered w.row j is.1 s is.6 second pair)))
+
+    -- what waited before has the place that it has now
+    old_place : (n place' : ℕ) → n < length old.waits.items.items → slice_get new.waits.places.places n ≡ Some place' → slice_get old.waits.places.places n ≡ Some place'
+    old_place n place' low at =
+        let there = some_there old.waits.places.places n (omega (arith, low, old_stands.waits.count)) in
+        let kept : slice_get new.waits.places.places n ≡ Some there.0 = subst (λ z. slice_get z n ≡ Some there.0) (sym further.1) (get_front old.waits.places.places further.0 n there.0 there.1) in
+        there.1 ∙ sym kept ∙ at
+
+    -- what waits meets a row of its head
+    waits_meet : (n place' j : ℕ) (w : Wait) (f : Ruled W) (r s : Row W) → slice_get new.waits.items.items n ≡ Some w → slice_get new.waits.places.places n ≡ Some place' → slice_get flat w.rule ≡ Some f
+        → slice_get rows w.row ≡ Some r → slice_get rows j ≡ Some s → slice_get new.rows.places j ≡ Some place' → slice_get heads place' ≡ Some (s.p, s.g)
+        → Covers m c new.frontier.offered f.head s.q (plus (plus (c f.rule.weight) (c r.weight)) (c s.weight))
+    waits_meet n place' j w f r s at here rule there second spot stands = elim (before_or_not n from) [
+      | inl early ↦
+          let low : n < length old.waits.items.items = omega (arith, early, at_end) in
+          let old_w = some_there old.waits.items.items n low in
+          let w_is : old_w.0 ≡ w = same_item new.waits.items.items n old_w.0 w (more n old_w.0 old_w.1) at in
+          let old_at : slice_get old.waits.items.items n ≡ Some w = subst (λ (z : Wait). slice_get old.waits.items.items n ≡ Some z) w_is old_w.1 in
+          let old_here = old_place n place' low here in
+          elim (which j s second) [
+            | inl before ↦ waited_before n place' j w f r s old_at old_here rule there before stands
+            | inr is ↦
+                let e : place' ≡ place = once place' place row.p row.g (subst (λ (z : Row W). slice_get heads place' ≡ Some (z.p, z.g)) (sym is.1) stands) head in
+                subst (λ (z : Row W). Covers m c new.frontier.offered f.head z.q (plus (plus (c f.rule.weight) (c r.weight)) (c z.weight))) is.1
+                (waited_ends n place' w f r old_at old_here e rule there)
+          ]
+      | inr late ↦
+          let is = waits.each n place' w at here in
+          let f_is : is.0 ≡ f = same_item flat w.rule is.0 f is.4 rule in
+          let r_is : is.1 ≡ r = same_item rows w.row is.1 r is.6 there in
+          let meets : (is.1.q, is.3) ≡ (s.p, s.g) = same_some (sym is.9 ∙ stands) in
+          let pair : ArePair is.0.rule.to is.2 is.3 is.1 s = (is.7, is.8, sym (ap (λ z. z.0) meets), sym (ap (λ z. z.1) meets)) in
+          subst (λ (z : Ruled W). Covers m c new.frontier.offered z.head s.q (plus (plus (c z.rule.weight) (c r.weight)) (c s.weight))) f_is
+          (subst (λ (z : Row W). Covers m c new.frontier.offered is.0.head s.q (plus (plus (c is.0.rule.weight) (c z.weight)) (c s.weight))) r_is
+          (started n w place' j late at here spot is.2 is.3 is.0 is.1 s is.4 is.5 is.6 second pair))
+    ]
 
     -- the first row is the last
     begins_here : (k j u v : ℕ) (f : Ruled W) (s : Row W) → slice_get flat k ≡ Some f → f.rule.word ≡ Two u v → slice_get rows j ≡ Some s → ArePair f.rule.to u v row s
-        → Covers m c new.frontier f.head s.q (plus (plus (c f.rule.weight) (c row.weight)) (c s.weight))
+        → Covers m c new.frontier.offered f.head s.q (plus (plus (c f.rule.weight) (c row.weight)) (c s.weight))
     begins_here k j u v f s at word there pair =
         let spot = some_there new.rows.places j (let within = slice_get_within rows j s there in omega (arith, within, places.count)) in
-        let stands : slice_get heads spot.0 ≡ Some (row.q, v) = places.each j spot.0 s there spot.1 ∙ ap (λ x. Some (x, s.g)) pair.2 ∙ ap (λ x. Some (row.q, x)) pair.3 in
-        let wait = waiting k u v spot.0 f row at word last_at pair.0 pair.1 stands in
-        let within : wait.0 < length new.waits.items.items = slice_get_within new.waits.items.items wait.0 _ wait.2 in
-        let spot' = some_there new.waits.places.places wait.0 (omega (arith, waits.count)) in
-        let is = waits.each wait.0 spot'.0 (record { rule = k; row = last }) wait.2 spot'.1 in
-        let alike : is.1 ≡ row = same_item rows last is.1 row is.6 last_at in
-        let rule : is.0 ≡ f = same_item flat k is.0 f is.4 at in
-        let words : Two is.2 is.3 ≡ Two u v = sym is.5 ∙ ap (λ (z : Ruled W). z.rule.word) rule ∙ word in
-        let second : is.3 ≡ v = cc in
-        let stands' : slice_get heads spot'.0 ≡ Some (row.q, v) = is.9 ∙ ap (λ x. Some (x, is.3)) (ap (λ (z : Row W). z.q) alike) ∙ ap (λ x. Some (row.q, x)) second in
-        let here_it_is : slice_get new.waits.places.places wait.0 ≡ Some spot.0 = subst (λ n. slice_get new.waits.places.places wait.0 ≡ Some n) (once spot'.0 spot.0 row.q v stands' stands) spot'.1 in
-        started wait.0 (record { rule = k; row = last }) spot.0 j wait.1 wait.2 here_it_is spot.1 u v f row s at word last_at there pair
+        let here : slice_get heads spot.0 ≡ Some (s.p, s.g) = places.each j spot.0 s there spot.1 in
+        let stands : slice_get heads spot.0 ≡ Some (row.q, v) = here ∙ ap (λ x. Some (x, s.g)) pair.2 ∙ ap (λ x. Some (row.q, x)) pair.3 in
+        let noted = waiting k u v spot.0 f row at word last_at pair.0 pair.1 stands in
+        let is = halves f.head spot.0 noted.0 noted.1 in
+        lighter_whole f.head s.q noted.0 is.2 f is.3 row s is.7 is.9 noted.2 (waits_meet is.0 spot.0 j is.1 is.2 is.3 s is.4 is.5 is.6 is.8 there spot.1 here)
 
     covered_with : (k : ℕ) (f : Ruled W) → slice_get flat k ≡ Some f → (word : Word2) → f.rule.word ≡ word
         → IsCovered m c earlier old.frontier f.head f.rule.to (c f.rule.weight) word → IsCovered m c rows new.frontier f.head f.rule.to (c f.rule.weight) word
@@ -359,11 +429,11 @@ module _ {W : Type 0} (c : W → List ℕ) (heads : List (ℕ × ℕ)) (flat : L
       | inl before ↦ elim (which j s there') [
         | inl before' ↦ covers_more f.head s.q _ (two_weighs m c laws admitted flat rows f.rule.weight r.weight s.weight) (h i j r s before before' pair)
         | inr here ↦
-            subst (λ (z : Row W). Covers m c new.frontier f.head z.q (plus (plus (c f.rule.weight) (c r.weight)) (c z.weight))) here.1
+            subst (λ (z : Row W). Covers m c new.frontier.offered f.head z.q (plus (plus (c f.rule.weight) (c r.weight)) (c z.weight))) here.1
             (ends_here k i u v f r at word before there (subst (λ (z : Row W). ArePair f.rule.to u v r z) (sym here.1) pair))
       ]
       | inr here ↦
-          subst (λ (z : Row W). Covers m c new.frontier f.head s.q (plus (plus (c f.rule.weight) (c z.weight)) (c s.weight))) here.1
+          subst (λ (z : Row W). Covers m c new.frontier.offered f.head s.q (plus (plus (c f.rule.weight) (c z.weight)) (c s.weight))) here.1
           (begins_here k j u v f s at word there' (subst (λ (z : Row W). ArePair f.rule.to u v z s) (sym here.1) pair))
     ]
 
@@ -376,12 +446,12 @@ module _ {W : Type 0} (c : W → List ℕ) (heads : List (ℕ × ℕ)) (flat : L
       | inr is ↦ inr is
     ]
 
-    waiting_now : (k i : ℕ) → HasWait heads flat rows new.waits 0 k i
+    waiting_now : (k i : ℕ) → HasWait m c heads flat rows new.halves k i
     waiting_now k i u v spot f r at word there p g meets = elim (which i r there) [
-      | inl before ↦ let is = old_stands.waiting k i u v spot f r at word before p g meets in (is.0, omega arith, more is.0 _ is.2)
-      | inr here ↦
-          let is = waiting k u v spot f r at word (subst (λ n. slice_get rows n ≡ Some r) here.0 there) p g meets in
-          (is.0, omega arith, subst (λ n. slice_get new.waits.items.items is.0 ≡ Some (record { rule = k; row = n })) (sym here.0) is.2)
+      | inl before ↦
+          covers_lighter m c laws admitted old.halves new.halves lightens f.head spot (plus (c f.rule.weight) (c r.weight)) (laws.sum (c f.rule.weight) (c r.weight) (admitted f.rule.weight) (admitted r.weight))
+          (old_stands.waiting k i u v spot f r at word before p g meets)
+      | inr here ↦ waiting k u v spot f r at word (subst (λ n. slice_get rows n ≡ Some r) here.0 there) p g meets
     ]
 
     counted_now : (F : ℕ → ℕ → ℕ) → sum_by (of_head F heads) new.waits.places.places ≤ sum_by (λ f. all_begun F rows f.rule.to f.rule.word) flat
@@ -406,6 +476,7 @@ module _ {W : Type 0} (c : W → List ℕ) (heads : List (ℕ × ℕ)) (flat : L
       held = held_now;
       places = places;
       waits = waits;
+      halves = halves;
       waiting = waiting_now;
       counted = counted_now;
     }

@@ -1,6 +1,7 @@
 -- What only private contracts and proofs use: no public contract reaches it.
 pub mod Candidates
 pub mod Frontiers
+pub mod Lightest
 pub mod Chains
 pub mod WaitLists
 pub mod Rulings

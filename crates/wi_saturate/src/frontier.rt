@@ -1,36 +1,35 @@
 //! Of several ways to one summary only the lightest can be settled. So a candidate goes on the heap only where it is lighter
-//! than each that went there for its summary: the heap is as long as there are summaries and better ways to them, and not as
-//! long as there are ways. It costs a weight for each summary, and a look-up for each candidate.
-ghost use Rattle.std.specs.Prelude.{◌≡◌, ◌+◌, ◌≤◌, false, true, Some, OnOk, [], length};
-ghost use Rattle.wi_weight.specs.Weights.{AtMost};
-ghost use Rattle.wi_saturate.specs.private.Frontiers.{Covers, IsUnoffered, Offers, lightest_of};
+//! than each that was offered for its summary: the heap is as long as there are summaries and better ways to them, and not as
+//! long as there are ways.
+ghost use Rattle.std.specs.Prelude.{◌≡◌, ◌+◌, ◌≤◌, None, ℕ, OnOk, [], length};
+ghost use Rattle.wi_saturate.specs.private.Lightest.{weight_at};
+ghost use Rattle.wi_saturate.specs.private.Frontiers.{Offers};
 
 use crate::heap::{Candidate, Heap};
+use crate::lightest::Lightest;
 use crate::steps::Steps;
 use std::alloc::Global;
-use std::cmp::Ordering;
-use std::collections::HashMap;
 use std::sync::ledger::Ledger;
 use wi_base::NoMemory;
 use wi_weight::Domain;
 
-// The candidates that may be settled next, and what was offered for each summary.
+// The candidates that may be settled next, and what was offered for each summary: at its head's place, for the state in which it
+// ends.
 #[derive(Drop)]
 pub(crate) struct Frontier<W: Domain> {
     pub(crate) heap: Heap<W>,
-    // for each summary, by the place of its head and the state in which it ends, the lightest weight that was offered
-    lightest: HashMap<(usize, u64), W>,
+    pub(crate) offered: Lightest<W>,
 }
 
 impl<W: Domain> Frontier<W> {
     // No candidate yet.
     pub(crate) fn new(alloc: Global) -> Self
         ensures heap { result.heap ≡ [] }
-        ensures lightest { IsUnoffered result }
+        ensures offered { (head q : ℕ) → weight_at result.offered head q ≡ None }
     {
         Frontier {
             heap: Heap::new(alloc),
-            lightest: HashMap::new(alloc),
+            offered: Lightest::new(alloc),
         }
     }
 
@@ -45,24 +44,9 @@ impl<W: Domain> Frontier<W> {
         ensures lengths { OnOk result (length self.new.heap + tries.old ≡ length self.old.heap + tries.new) }
         ensures tries { OnOk result (tries.new ≤ tries.old + 1) }
     {
-        if self.is_reached(head, &candidate) {
+        if !self.offered.lower(head, candidate.q, candidate.weight)? {
             return Ok(());
         }
-        self.lightest.insert((head, candidate.q), candidate.weight)?;
         self.heap.push(candidate, tries)
-    }
-
-    // Whether a candidate of the same summary that is as light was offered.
-    fn is_reached(&self, head: usize, candidate: &Candidate<W>) -> bool
-        ensures reached { result ≡ true → Covers W.scale W.components self.now head candidate.now.q (W.components candidate.now.weight) }
-        ensures open { result ≡ false → (x : W) → lightest_of self.now head candidate.now.q ≡ Some x → AtMost W.scale (W.components candidate.now.weight) (W.components x) }
-    {
-        match self.lightest.get(&(head, candidate.q)) {
-            Some(weight) => match weight.compare(&candidate.weight) {
-                Ordering::Greater => false,
-                _ => true,
-            },
-            None => false,
-        }
     }
 }

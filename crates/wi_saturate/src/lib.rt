@@ -16,6 +16,7 @@ mod heap;
 mod index;
 mod joins;
 mod laws;
+mod lightest;
 mod pairs;
 mod refused;
 mod row;

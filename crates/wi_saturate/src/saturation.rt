@@ -141,8 +141,8 @@ fn table_of<W: Domain, S: System<W>, L: Ledger, M: Ledger>(
 /// summary, and pushed and taken at most once, at the logarithm of the heap's length. The place of a head among the heads is
 /// looked up for each rule and each rule that begins to wait, at the logarithm of the number of heads. Whether a summary is
 /// settled is looked for along the rows of its head. Each rule is kept without its head's numbers, and its weight mostly once for
-/// many rules; besides, each row, each candidate that wasn't taken, a weight for each summary that was reached, and an entry for
-/// each rule that waits.
+/// many rules; besides, each row, each candidate that wasn't taken, a weight for each summary that was reached, and an entry
+/// with its weight for each rule that waits.
 ///
 /// `Overflow` tells the lightest summary that doesn't fit and would have been settled. It may come where the goal's own
 /// weight would fit. Where the call is refused, `steps` and `tries` may have risen.

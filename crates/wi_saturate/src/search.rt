@@ -15,6 +15,7 @@ use crate::frontier::Frontier;
 use crate::heap::Candidate;
 use crate::index::Index;
 use crate::joins::{begin_waits, end_waits, push_ones};
+use crate::lightest::Lightest;
 use crate::row::Row;
 use crate::rules::Rules;
 use crate::steps::Steps;
@@ -26,12 +27,14 @@ use wi_base::NoMemory;
 use wi_pds::{RuleId, System, Word2};
 use wi_weight::Domain;
 
-// Where a search stands: the candidates, the rows at the places of their heads, and what waits for further rows.
+// Where a search stands: the candidates, the rows at the places of their heads, what waits for further rows, and the lightest of
+// what waits for the same.
 #[derive(Drop)]
 pub(crate) struct Search<W: Domain> {
     pub(crate) frontier: Frontier<W>,
     pub(crate) rows: Chains,
     pub(crate) waits: Waits,
+    pub(crate) halves: Lightest<W>,
 }
 
 // What the candidate makes.
@@ -146,6 +149,7 @@ impl<W: Domain> Search<W> {
             frontier: pops(alloc, rules, tries)?,
             rows: Chains::new(alloc, places)?,
             waits: Waits::new(alloc, places)?,
+            halves: Lightest::new(alloc),
         })
     }
 
@@ -190,7 +194,7 @@ impl<W: Domain> Search<W> {
         end_waits(&mut self.frontier, turn, &self.waits, tries)?;
         push_ones(&mut self.frontier, turn, tries)?;
         let from = self.waits.items.len();
-        self.waits.extend(turn)?;
+        self.waits.extend(turn, &mut self.halves)?;
         begin_waits(
             &mut self.frontier,
             turn,

@@ -1,14 +1,17 @@
 //! A rule that writes two symbols needs a row for the second from where that for the first ends, and such rows may come later.
-//! So the rule and its first row wait at the place of that head. Each that waits takes two pairs of numbers, and it stays,
-//! since more rows may come.
+//! So the rule and its first row wait at the place of that head, if they weigh less than whatever of the rule's head waits there:
+//! what a heavier one would make is made lighter. Each that waits takes two pairs of numbers, and it stays, since more rows may
+//! come.
 ghost use Rattle.std.specs.Prelude.{◌≡◌, ◌<◌, ◌≤◌, ◌++◌, ◌∷◌, ℕ, OnOk, IfOk, [], length, Some, slice_get, slice_index_or};
 ghost use Rattle.std.specs.List.{sum_by};
 ghost use Rattle.wi_saturate.specs.declared.row.Row.{Row};
 ghost use Rattle.wi_saturate.specs.declared.rules.Ruled.{Ruled};
 ghost use Rattle.wi_saturate.specs.private.Tries.{begun, IsMore};
-ghost use Rattle.wi_saturate.specs.private.Turns.{heads_of, rules_of, rows_of, IsTurn, IsFirstOf, AreWaiting, KeepsWaits, WaitsFor};
+ghost use Rattle.wi_saturate.specs.private.Lightest.{Lightens};
+ghost use Rattle.wi_saturate.specs.private.Turns.{heads_of, rules_of, rows_of, IsTurn, IsFirstOf, AreNoted, AreWaiting, KeepsWaits, WaitsFor};
 
 use crate::chains::Chains;
+use crate::lightest::Lightest;
 use crate::pairs::Pairs;
 use crate::turn::Turn;
 use std::alloc::Global;
@@ -101,45 +104,64 @@ impl Waits {
         self.places.add(place)
     }
 
-    // Lets the rules wait whose first symbol the last row is for.
-    pub(crate) fn extend<W: Domain>(&mut self, turn: &Turn<'_, W>) -> Result<(), NoMemory>
+    // Lets the rules wait whose first symbol the last row is for, where nothing as light waits for the same.
+    pub(crate) fn extend<W: Domain>(
+        &mut self,
+        turn: &Turn<'_, W>,
+        halves: &mut Lightest<W>,
+    ) -> Result<(), NoMemory>
         requires turn { IsTurn W.components turn.now }
         requires waits { AreWaiting turn.now self.old }
+        requires halves { AreNoted W.components turn.now self.old halves.old }
         ensures waits { OnOk result (AreWaiting turn.now self.new) }
+        ensures halves { OnOk result (AreNoted W.components turn.now self.new halves.new) }
         ensures keeps { OnOk result (KeepsWaits self.old self.new) }
+        ensures lightens { OnOk result (Lightens W.scale W.components halves.old halves.new) }
         ensures counted { OnOk result ((r : Row W) → slice_get (rows_of turn.now) turn.now.last ≡ Some r →
             IsMore (heads_of turn.now) self.old.places.places self.new.places.places (λ F. sum_by (λ f. begun F r f.rule.to f.rule.word) (rules_of turn.now))) }
-        ensures last { OnOk result ((k : ℕ) → WaitsFor turn.now self.new (length self.old.items.items) k) }
+        ensures last { OnOk result ((k : ℕ) → WaitsFor W.scale W.components turn.now halves.new k) }
     {
         let mut end = turn.index.begins.end(turn.place);
         while 0 < end {
             let rule = end - 1;
-            self.add_rule(turn, rule)?;
+            self.add_rule(turn, rule, halves)?;
             end = turn.index.begins.end_before(rule);
         }
         Ok(())
     }
 
-    // Lets the rule at a place wait, if it writes two symbols.
-    fn add_rule<W: Domain>(&mut self, turn: &Turn<'_, W>, rule: usize) -> Result<(), NoMemory>
+    // Lets the rule at a place wait, if it writes two symbols, and nothing of its head that is as light waits for the same.
+    fn add_rule<W: Domain>(
+        &mut self,
+        turn: &Turn<'_, W>,
+        rule: usize,
+        halves: &mut Lightest<W>,
+    ) -> Result<(), NoMemory>
         requires turn { IsTurn W.components turn.now }
         requires rule { rule < length (rules_of turn.now) }
         requires first { IsFirstOf turn.now rule }
         requires waits { AreWaiting turn.now self.old }
+        requires halves { AreNoted W.components turn.now self.old halves.old }
         ensures waits { OnOk result (AreWaiting turn.now self.new) }
+        ensures halves { OnOk result (AreNoted W.components turn.now self.new halves.new) }
         ensures keeps { OnOk result (KeepsWaits self.old self.new) }
-        ensures more { OnOk result (length self.old.items.items ≤ length self.new.items.items) }
-        ensures has { OnOk result (WaitsFor turn.now self.new (length self.old.items.items) rule) }
+        ensures lightens { OnOk result (Lightens W.scale W.components halves.old halves.new) }
+        ensures has { OnOk result (WaitsFor W.scale W.components turn.now halves.new rule) }
         ensures counted { OnOk result ((f : Ruled W) (r : Row W) → slice_get (rules_of turn.now) rule ≡ Some f → slice_get (rows_of turn.now) turn.now.last ≡ Some r →
             IsMore (heads_of turn.now) self.old.places.places self.new.places.places (λ F. begun F r f.rule.to f.rule.word)) }
     {
-        let rules = &turn.index.rules;
-        match rules.get(rule).rule.word {
-            Word2::Two(_, v) => match rules.place_of(turn.rows[turn.last].q, v) {
-                Some(place) => self.add(place, rule, turn.last),
-                None => Ok(()),
-            },
-            _ => Ok(()),
+        let ruled = turn.index.rules.get(rule);
+        let Word2::Two(_, v) = ruled.rule.word else {
+            return Ok(());
+        };
+        let row = &turn.rows[turn.last];
+        let Some(place) = turn.index.rules.place_of(row.q, v) else {
+            return Ok(());
+        };
+        let half = ruled.rule.weight.extend(row.weight);
+        if halves.lower(ruled.head, place as u64, half)? {
+            self.add(place, rule, turn.last)?;
         }
+        Ok(())
     }
 }

@@ -1,9 +1,9 @@
 use Rattle.wi_saturate.proofs.Counts.{turn_tries, just}
-use Rattle.std.proofs.Common.{◌≡◌, ◌<◌, ◌≤◌, ◌∙◌, Some, slice_get, sym, subst, arith}
+use Rattle.std.proofs.Common.{◌≡◌, ◌<◌, ◌∙◌, Some, slice_get, sym, subst, arith}
 use Rattle.std.proofs.lemmas.Option.{slice_get_within}
 use Rattle.wi_saturate.proofs.Lookups.{once}
 use Rattle.wi_saturate.proofs.Elements.{on_ok_both, on_ok, on_err}
-use Rattle.wi_saturate.proofs.Searching.{waits_longer, places_longer, row_taken_in, last_there}
+use Rattle.wi_saturate.proofs.Searching.{waits_longer, halves_longer, places_longer, row_taken_in, last_there}
 use Rattle.wi_saturate.specs.private.Turns.{heads_of, rules_of, rows_of}
 use Rattle.wi_saturate.proofs.search.Search.extend.Goals as goal
 
@@ -21,6 +21,10 @@ pub extend-requires-clause-waits : goal.extend-requires-clause-waits
 extend-requires-clause-waits g c =
     waits_longer g.W.Domain.components (heads_of c.args.turn.now) (rules_of c.args.turn.now) c.requires.search.earlier c.requires.search.row (rows_of c.args.turn.now) c.requires.search.pushed c.args.self.now.waits c.requires.search.stands.waits
 
+pub extend-requires-clause-halves : goal.extend-requires-clause-halves
+extend-requires-clause-halves g c =
+    halves_longer g.W.Domain.components (heads_of c.args.turn.now) (rules_of c.args.turn.now) c.requires.search.earlier c.requires.search.row (rows_of c.args.turn.now) c.requires.search.pushed c.args.self.now.waits c.args.self.now.halves c.requires.search.stands.halves
+
 pub begin_waits-requires-clause-places : goal.begin_waits-requires-clause-places
 begin_waits-requires-clause-places g c =
     let head : slice_get (heads_of c.args.turn.now) c.args.turn.now.place ≡ Some (c.requires.search.row.p, c.requires.search.row.g) =
@@ -33,9 +37,8 @@ returns-clause-search g c =
     c.requires.turn.head c.requires.search.row (last_there g.W.Domain.components (heads_of c.args.turn.now) (rules_of c.args.turn.now) c.requires.search.earlier c.requires.search.row (rows_of c.args.turn.now) c.requires.search.pushed c.args.turn.now.last c.requires.search.place) in
     on_ok_both c.begin_waits.result (λ pushed has.
     row_taken_in g.W.Domain.components (heads_of c.args.turn.now) (rules_of c.args.turn.now) c.requires.search.earlier c.requires.search.row (rows_of c.args.turn.now) c.requires.search.pushed c.args.turn.now.last c.args.turn.now.place c.requires.search.place head (once (heads_of c.args.turn.now) c.requires.turn.index.rise) c.args.self.now
-    (record { frontier = c.begin_waits.new.frontier; rows = c.add.new.self; waits = c.extend.new.self }) g.W.Domain.scale g.met.W.Domain.laws g.met.W.Domain.admitted c.requires.search.stands c.end_waits.new.frontier c.push_ones.new.frontier
-    c.in_ok-end_waits.ensures.pushed.adds c.in_ok-push_ones.ensures.pushed.adds pushed.adds c.in_ok-end_waits.ensures.has c.in_ok-push_ones.ensures.has c.in_ok-extend.ensures.keeps _ c.in_ok-extend.ensures.last
-    (λ n w place j low. let from : c.len-from.result ≤ n = subst (λ z. z ≤ n) (sym (c.len-from.ensures)) low in has n w place j from) (places_longer g.W.Domain.components (heads_of c.args.turn.now) (rules_of c.args.turn.now) c.requires.search.earlier c.requires.search.row (rows_of c.args.turn.now) c.requires.search.pushed c.args.self.now.rows c.add.new.self c.args.turn.now.place c.in_ok-add.ensures head c.requires.search.stands.places) c.in_ok-extend.ensures.waits
+    (record { frontier = c.begin_waits.new.frontier; rows = c.add.new.self; waits = c.extend.new.self; halves = c.extend.new.halves }) g.W.Domain.scale g.met.W.Domain.laws g.met.W.Domain.admitted c.requires.search.stands c.end_waits.new.frontier c.push_ones.new.frontier
+    c.in_ok-end_waits.ensures.pushed.adds c.in_ok-push_ones.ensures.pushed.adds pushed.adds c.in_ok-end_waits.ensures.has c.in_ok-push_ones.ensures.has c.in_ok-extend.ensures.keeps c.in_ok-extend.ensures.lightens c.in_ok-extend.ensures.last c.in_ok-extend.ensures.halves c.len-from.result c.len-from.ensures has (places_longer g.W.Domain.components (heads_of c.args.turn.now) (rules_of c.args.turn.now) c.requires.search.earlier c.requires.search.row (rows_of c.args.turn.now) c.requires.search.pushed c.args.self.now.rows c.add.new.self c.args.turn.now.place c.in_ok-add.ensures head c.requires.search.stands.places) c.in_ok-extend.ensures.waits
     (c.in_ok-extend.ensures.counted c.requires.search.row (last_there g.W.Domain.components (heads_of c.args.turn.now) (rules_of c.args.turn.now) c.requires.search.earlier c.requires.search.row (rows_of c.args.turn.now) c.requires.search.pushed c.args.turn.now.last c.requires.search.place))) c.begin_waits.ensures.pushed c.begin_waits.ensures.has
 
 pub returns-clause-lengths : goal.returns-clause-lengths

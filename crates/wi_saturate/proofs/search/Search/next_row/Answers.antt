@@ -39,8 +39,8 @@ returns-then-not-is_settled-clause-least g c =
 
 pub returns-then-not-is_settled-clause-search : goal.returns-then-not-is_settled-clause-search
 returns-then-not-is_settled-clause-search g c =
-    taken_out g.W.Domain.scale g.W.Domain.components c.args.index.now.rules.heads c.args.index.now.rules.items c.args.rows.now c.args.rows.now (c.args.rows.now ++ c.row_of-row.result ∷ []) (settled_before c.args.rows.now c.row_of-row.result) c.in-Some.candidate c.loop-candidate.self.frontier (record { heap = c.pop.new.self; lightest = c.loop-candidate.self.frontier.lightest }) c.in-Some.ensures.taken refl c.row_of-row.result (settled_last c.args.rows.now c.row_of-row.result)
-    (c.row_of-row.ensures c.args.rows.now (c.loop-candidate.invariant.search.sound c.in-Some.candidate (taken_there c.loop-candidate.self.frontier.heap c.pop.new.self c.in-Some.candidate c.in-Some.ensures.taken))) c.loop-candidate.self (record { frontier = (record { heap = c.pop.new.self; lightest = c.loop-candidate.self.frontier.lightest }); rows = c.loop-candidate.self.rows; waits = c.loop-candidate.self.waits }) refl refl refl refl c.loop-candidate.invariant.search
+    taken_out g.W.Domain.scale g.W.Domain.components c.args.index.now.rules.heads c.args.index.now.rules.items c.args.rows.now c.args.rows.now (c.args.rows.now ++ c.row_of-row.result ∷ []) (settled_before c.args.rows.now c.row_of-row.result) c.in-Some.candidate c.loop-candidate.self.frontier (record { heap = c.pop.new.self; offered = c.loop-candidate.self.frontier.offered }) c.in-Some.ensures.taken refl c.row_of-row.result (settled_last c.args.rows.now c.row_of-row.result)
+    (c.row_of-row.ensures c.args.rows.now (c.loop-candidate.invariant.search.sound c.in-Some.candidate (taken_there c.loop-candidate.self.frontier.heap c.pop.new.self c.in-Some.candidate c.in-Some.ensures.taken))) c.loop-candidate.self (record { frontier = (record { heap = c.pop.new.self; offered = c.loop-candidate.self.frontier.offered }); rows = c.loop-candidate.self.rows; waits = c.loop-candidate.self.waits; halves = c.loop-candidate.self.halves }) refl refl refl refl refl c.loop-candidate.invariant.search
 
 pub loop-candidate-preserved : goal.loop-candidate-preserved
 loop-candidate-preserved g c =
@@ -48,8 +48,8 @@ loop-candidate-preserved g c =
     let at = read_there c.args.index.now.rules.items c.in-Some.candidate.rule c.get-place.result sound.0 sound.1 c.get-place.ensures in
     let shorter = length_permutation c.loop-candidate.self.frontier.heap (c.in-Some.candidate ∷ c.pop.new.self) c.in-Some.ensures.taken in
     record {
-      search = taken_out g.W.Domain.scale g.W.Domain.components c.args.index.now.rules.heads c.args.index.now.rules.items c.args.rows.now c.args.rows.now c.args.rows.now (λ p g q s. s) c.in-Some.candidate c.loop-candidate.self.frontier (record { heap = c.pop.new.self; lightest = c.loop-candidate.self.frontier.lightest }) c.in-Some.ensures.taken refl c.row_of-row.result (settled_there c.args.index.now.rules.heads c.requires.index.indexed.rise c.args.rows.now c.loop-candidate.self.rows c.loop-candidate.invariant.search.places c.get-place.result.head _ _ _ ((c.row_of-row.ensures c.args.rows.now (c.loop-candidate.invariant.search.sound c.in-Some.candidate (taken_there c.loop-candidate.self.frontier.heap c.pop.new.self c.in-Some.candidate c.in-Some.ensures.taken))).by c.get-place.result at).0 (c.if-not-is_settled.ensures.0 refl))
-          (c.row_of-row.ensures c.args.rows.now (c.loop-candidate.invariant.search.sound c.in-Some.candidate (taken_there c.loop-candidate.self.frontier.heap c.pop.new.self c.in-Some.candidate c.in-Some.ensures.taken))) c.loop-candidate.self (record { frontier = (record { heap = c.pop.new.self; lightest = c.loop-candidate.self.frontier.lightest }); rows = c.loop-candidate.self.rows; waits = c.loop-candidate.self.waits }) refl refl refl refl c.loop-candidate.invariant.search;
+      search = taken_out g.W.Domain.scale g.W.Domain.components c.args.index.now.rules.heads c.args.index.now.rules.items c.args.rows.now c.args.rows.now c.args.rows.now (λ p g q s. s) c.in-Some.candidate c.loop-candidate.self.frontier (record { heap = c.pop.new.self; offered = c.loop-candidate.self.frontier.offered }) c.in-Some.ensures.taken refl c.row_of-row.result (settled_there c.args.index.now.rules.heads c.requires.index.indexed.rise c.args.rows.now c.loop-candidate.self.rows c.loop-candidate.invariant.search.places c.get-place.result.head _ _ _ ((c.row_of-row.ensures c.args.rows.now (c.loop-candidate.invariant.search.sound c.in-Some.candidate (taken_there c.loop-candidate.self.frontier.heap c.pop.new.self c.in-Some.candidate c.in-Some.ensures.taken))).by c.get-place.result at).0 (c.if-not-is_settled.ensures.0 refl))
+          (c.row_of-row.ensures c.args.rows.now (c.loop-candidate.invariant.search.sound c.in-Some.candidate (taken_there c.loop-candidate.self.frontier.heap c.pop.new.self c.in-Some.candidate c.in-Some.ensures.taken))) c.loop-candidate.self (record { frontier = (record { heap = c.pop.new.self; offered = c.loop-candidate.self.frontier.offered }); rows = c.loop-candidate.self.rows; waits = c.loop-candidate.self.waits; halves = c.loop-candidate.self.halves }) refl refl refl refl refl c.loop-candidate.invariant.search;
       fewer = omega (arith, shorter, c.loop-candidate.invariant.fewer);
     }
 

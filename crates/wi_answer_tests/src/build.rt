@@ -56,6 +56,20 @@ fn rules_are(
     }
 }
 
+fn head_is(
+    rt: &impl Abort,
+    alloc: Global,
+    system: &LazySystem<'_>,
+    layout: &Layout,
+    (spot, symbol): (u64, u32),
+    expected: &[Expected],
+) -> Result<(), Fail> {
+    let rules = system.rules_of(alloc, spot, symbol)?;
+    rules_are(rt, layout, rules.as_slice(), spot, symbol, expected);
+    drop(rules);
+    Ok(())
+}
+
 fn heads_are(
     rt: &impl Abort,
     alloc: Global,
@@ -65,10 +79,16 @@ fn heads_are(
 ) -> Result<(), Fail> {
     assert_eq!(rt; system.start(), (0, 0));
     for (spot, symbol, expected) in heads {
-        let rules = system.rules_of(alloc, *spot, *symbol)?;
-        rules_are(rt, layout, rules.as_slice(), *spot, *symbol, expected);
+        head_is(rt, alloc, system, layout, (*spot, *symbol), expected)?;
     }
     Ok(())
+}
+
+fn are_equal(rt: &impl Abort, listed: &[Rule<Weight>], made: &[Rule<Weight>]) {
+    assert_eq!(rt; listed.len(), made.len());
+    for (one, other) in listed.iter().zip(made) {
+        assert!(rt; *one == *other);
+    }
 }
 
 // Whether the system's rules at the head of a rule are the listed ones, in their order.
@@ -80,12 +100,18 @@ fn same_at(
     rule: &Rule<Weight>,
 ) -> Result<(), Fail> {
     let listed = list.rules_of(alloc, rule.from, rule.top)?;
-    let made = system.rules_of(alloc, rule.from, rule.top)?;
-    assert_eq!(rt; listed.len(), made.len());
-    for (one, other) in listed.iter().zip(made.iter()) {
-        assert!(rt; *one == *other);
+    match system.rules_of(alloc, rule.from, rule.top) {
+        Ok(made) => {
+            are_equal(rt, listed.as_slice(), made.as_slice());
+            drop(made);
+            drop(listed);
+            Ok(())
+        }
+        Err(refused) => {
+            drop(listed);
+            Err(refused.into())
+        }
     }
-    Ok(())
 }
 
 // Whether the rules of each head of a listed rule are the listed ones, in their order.
@@ -112,6 +138,38 @@ fn list_is(
     same_rules(rt, alloc, list, system)
 }
 
+// Whether the system on demand has these rules at some heads, and the listed ones.
+fn listed_is(
+    rt: &impl Abort,
+    alloc: Global,
+    net: &Network,
+    query: &Query,
+    vector: &Vector,
+    list: &RuleList<Weight>,
+    heads: &[HeadCase],
+) -> Result<(), Fail>
+    requires { AreBounds net.now query.now.bounds }
+{
+    let system = LazySystem::new(alloc, net, query, vector, &query.bounds)?;
+    let layout = Layout::of(net, query);
+    let outcome = rules_at_heads_are(rt, alloc, &system, &layout, list, heads);
+    drop(layout);
+    drop(system);
+    outcome
+}
+
+fn rules_at_heads_are(
+    rt: &impl Abort,
+    alloc: Global,
+    system: &LazySystem<'_>,
+    layout: &Layout,
+    list: &RuleList<Weight>,
+    heads: &[HeadCase],
+) -> Result<(), Fail> {
+    heads_are(rt, alloc, system, layout, heads)?;
+    list_is(rt, alloc, list, system)
+}
+
 fn system_is(
     rt: &impl Abort,
     alloc: Global,
@@ -122,11 +180,8 @@ fn system_is(
 ) -> Result<(), Fail>
     requires { AreBounds net.now query.now.bounds }
 {
-    let system = LazySystem::new(alloc, net, query, vector, &query.bounds)?;
-    let layout = Layout::of(net, query);
-    heads_are(rt, alloc, &system, &layout, heads)?;
     let list = build(alloc, net, query, vector, &query.bounds)?;
-    let outcome = list_is(rt, alloc, &list, &system);
+    let outcome = listed_is(rt, alloc, net, query, vector, &list, heads);
     drop(list);
     outcome
 }
@@ -278,19 +333,22 @@ fn rules_are_made_head_by_head(rt: HostRuntime) -> Result<(), Fail> {
     network_has(&rt, rt.alloc(), &N1, SMALL_CASES)
 }
 
+// Numbers, and the spots that have them.
+const SPOTS: &[(u64, Option<Spot>)] = &[
+    (0, Some(Spot::Start)),
+    (1, Some(Spot::Done)),
+    (4, Some(Spot::Build(2))),
+    (7, Some(Spot::Close(2))),
+    (11, Some(Spot::OnLink(LinkId(1), 1))),
+    (18, Some(Spot::Mid(0, 1, 0))),
+    (87, Some(Spot::Mid(4, 7, 1))),
+    (88, None),
+    (u64::MAX, None),
+];
+
 fn layout_is(rt: &impl Abort, layout: &Layout) {
-    for (number, spot) in [
-        (0, Some(Spot::Start)),
-        (1, Some(Spot::Done)),
-        (4, Some(Spot::Build(2))),
-        (7, Some(Spot::Close(2))),
-        (11, Some(Spot::OnLink(LinkId(1), 1))),
-        (18, Some(Spot::Mid(0, 1, 0))),
-        (87, Some(Spot::Mid(4, 7, 1))),
-        (88, None),
-        (u64::MAX, None),
-    ] {
-        assert!(rt; layout.spot_of(number) == spot);
+    for (number, spot) in SPOTS {
+        assert!(rt; layout.spot_of(*number) == *spot);
     }
 }
 

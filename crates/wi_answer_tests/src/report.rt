@@ -36,13 +36,13 @@ fn states_say(
     script: &str,
     said: &str,
 ) -> Result<(), Fail> {
-    match read_script(alloc, net, script.as_bytes()) {
-        Ok(script) => match play(alloc, net, 2, &script) {
-            Ok(moments) => says(rt, states(alloc, net, moments.as_slice()), said),
-            Err(_) => Err("it can be played")?,
-        },
-        Err(_) => Err("a script")?,
-    }
+    let script = read_script(alloc, net, script.as_bytes())?;
+    let played = play(alloc, net, 2, &script);
+    drop(script);
+    let moments = played?;
+    let text = states(alloc, net, moments.as_slice());
+    drop(moments);
+    says(rt, text, said)
 }
 
 #[test]
@@ -132,89 +132,62 @@ fn faults_of_scripts_have_texts(rt: HostRuntime) -> Result<(), Fail> {
 
 fn query_says(
     rt: &impl Abort,
-    net: &Network,
-    fault: &QueryFault,
     alloc: Global,
+    net: &Network,
+    fault: QueryFault,
     said: &str,
 ) -> Result<(), Fail> {
-    says(rt, query_fault_text(alloc, net, fault), said)
+    let text = query_fault_text(alloc, net, &fault);
+    drop(fault);
+    says(rt, text, said)
 }
 
-fn unknown_names(rt: &impl Abort, alloc: Global, net: &Network) -> Result<(), Fail> {
+fn unknown_labels(rt: &impl Abort, alloc: Global, net: &Network) -> Result<(), Fail> {
     let plain = QueryFault::UnknownLabel(1, String::from_str(alloc, "nope")?);
-    query_says(
-        rt,
-        net,
-        &plain,
-        alloc,
-        "query: byte 1: unknown label nope\n",
-    )?;
+    let said = "query: byte 1: unknown label nope\n";
+    query_says(rt, alloc, net, plain, said)?;
     let word = QueryFault::UnknownLabel(1, String::from_str(alloc, "ip")?);
-    query_says(
-        rt,
-        net,
-        &word,
-        alloc,
-        "query: byte 1: unknown label \"ip\"\n",
-    )?;
+    let said = "query: byte 1: unknown label \"ip\"\n";
+    query_says(rt, alloc, net, word, said)
+}
+
+fn unknown_ends(rt: &impl Abort, alloc: Global, net: &Network) -> Result<(), Fail> {
     let router = QueryFault::UnknownRouter(7, String::from_str(alloc, "ip")?);
-    query_says(
-        rt,
-        net,
-        &router,
-        alloc,
-        "query: byte 7: unknown router ip\n",
-    )?;
+    let said = "query: byte 7: unknown router ip\n";
+    query_says(rt, alloc, net, router, said)?;
     let interface = QueryFault::UnknownInterface(9, String::from_str(alloc, "a b")?);
-    query_says(
-        rt,
-        net,
-        &interface,
-        alloc,
-        "query: byte 9: unknown interface \"a b\"\n",
-    )
+    let said = "query: byte 9: unknown interface \"a b\"\n";
+    query_says(rt, alloc, net, interface, said)
+}
+
+// A fault is handed on where it is made: each exit that one is live at takes its own proof.
+fn limits(rt: &impl Abort, alloc: Global, net: &Network) -> Result<(), Fail> {
+    let said = "query: 4097 bytes, limit 4096\n";
+    query_says(rt, alloc, net, QueryFault::TooLong(4097), said)?;
+    let said = "query: expression 2 has 513 positions, limit 512\n";
+    query_says(rt, alloc, net, QueryFault::TooManyPositions(2, 513), said)?;
+    let said = "query: byte 15: over the limit 65535\n";
+    query_says(rt, alloc, net, QueryFault::TooManyFailures(15), said)
 }
 
 fn other_faults(rt: &impl Abort, alloc: Global, net: &Network) -> Result<(), Fail> {
-    let long = QueryFault::TooLong(4097);
-    query_says(rt, net, &long, alloc, "query: 4097 bytes, limit 4096\n")?;
-    let syntax = QueryFault::Syntax(14);
-    query_says(rt, net, &syntax, alloc, "query: byte 14: syntax\n")?;
-    let positions = QueryFault::TooManyPositions(2, 513);
+    let said = "query: byte 14: syntax\n";
+    query_says(rt, alloc, net, QueryFault::Syntax(14), said)?;
+    let said = "query: link a.b#\"b 1\".\"a.0\" both down and up\n";
+    query_says(rt, alloc, net, QueryFault::DownAndUp(LinkId(0)), said)?;
     query_says(
         rt,
-        net,
-        &positions,
         alloc,
-        "query: expression 2 has 513 positions, limit 512\n",
-    )?;
-    let failures = QueryFault::TooManyFailures(15);
-    query_says(
-        rt,
         net,
-        &failures,
-        alloc,
-        "query: byte 15: over the limit 65535\n",
-    )?;
-    let both = QueryFault::DownAndUp(LinkId(0));
-    query_says(
-        rt,
-        net,
-        &both,
-        alloc,
-        "query: link a.b#\"b 1\".\"a.0\" both down and up\n",
-    )?;
-    query_says(
-        rt,
-        net,
-        &QueryFault::Memory,
-        alloc,
+        QueryFault::Memory,
         "whatif: out of memory\n",
     )
 }
 
 fn query_texts(rt: &impl Abort, alloc: Global, net: &Network) -> Result<(), Fail> {
-    unknown_names(rt, alloc, net)?;
+    unknown_labels(rt, alloc, net)?;
+    unknown_ends(rt, alloc, net)?;
+    limits(rt, alloc, net)?;
     other_faults(rt, alloc, net)
 }
 
@@ -260,44 +233,29 @@ fn faults_of_networks_have_texts(rt: HostRuntime) -> Result<(), Fail> {
     Ok(())
 }
 
-fn weights_say(
-    rt: &impl Abort,
-    alloc: Global,
-    fault: &WeightFault,
-    said: &str,
-) -> Result<(), Fail> {
-    says(rt, weight_fault_text(alloc, fault), said)
+fn weights_say(rt: &impl Abort, alloc: Global, fault: WeightFault, said: &str) -> Result<(), Fail> {
+    let text = weight_fault_text(alloc, &fault);
+    drop(fault);
+    says(rt, text, said)
+}
+
+fn large_weights(rt: &impl Abort, alloc: Global) -> Result<(), Fail> {
+    let said = "weights: 6 terms or parts, limit 5\n";
+    weights_say(rt, alloc, WeightFault::TooManyTerms(6), said)?;
+    let said = "weights: byte 0: over the limit 65535\n";
+    weights_say(rt, alloc, WeightFault::Coefficient(0), said)?;
+    weights_say(rt, alloc, WeightFault::Memory, "whatif: out of memory\n")
 }
 
 #[test]
 fn faults_of_weights_have_texts(rt: HostRuntime) -> Result<(), Fail> {
     let alloc = rt.alloc();
-    weights_say(
-        &rt,
-        alloc,
-        &WeightFault::Syntax(5),
-        "weights: byte 5: syntax\n",
-    )?;
+    let said = "weights: byte 5: syntax\n";
+    weights_say(&rt, alloc, WeightFault::Syntax(5), said)?;
     let unknown = WeightFault::UnknownQuantity(0, String::from_str(alloc, "Speed")?);
-    weights_say(
-        &rt,
-        alloc,
-        &unknown,
-        "weights: byte 0: unknown quantity Speed\n",
-    )?;
-    weights_say(
-        &rt,
-        alloc,
-        &WeightFault::TooManyTerms(6),
-        "weights: 6 terms or parts, limit 5\n",
-    )?;
-    weights_say(
-        &rt,
-        alloc,
-        &WeightFault::Coefficient(0),
-        "weights: byte 0: over the limit 65535\n",
-    )?;
-    weights_say(&rt, alloc, &WeightFault::Memory, "whatif: out of memory\n")
+    let said = "weights: byte 0: unknown quantity Speed\n";
+    weights_say(&rt, alloc, unknown, said)?;
+    large_weights(&rt, alloc)
 }
 
 // What a verdict is.

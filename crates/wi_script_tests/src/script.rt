@@ -6,7 +6,7 @@ use wi_labels::{Class, Header, Label, Op};
 use wi_net::{FailSet, LinkId, Network};
 use wi_samples::{N1_WITH_31, N2_FIBER_WITH_31, N3, QUOTED_END, Sample, network};
 use wi_script::ScriptCause::{BadHeader, NotAnEvent, UnknownName};
-use wi_script::{Event, ScriptCause, ScriptRefused, State, play, read_script};
+use wi_script::{Event, Script, ScriptCause, ScriptRefused, State, play, read_script};
 use wi_world::Step;
 
 const L30: (Label, Class) = (Label(0), Class::Mpls);
@@ -80,12 +80,17 @@ const READ: &[ReadOf] = &[
     ),
 ];
 
-fn is_read(rt: &impl Abort, alloc: Global, net: &Network, case: &ReadOf) -> Result<(), Fail> {
-    let (bytes, first, labels, events) = case;
-    let script = read_script(alloc, net, bytes)?;
+fn script_is(rt: &impl Abort, script: &Script, case: &ReadOf) {
+    let (_, first, labels, events) = case;
     assert_eq!(rt; script.first, LinkId(*first));
     header_is(rt, &script.header, labels);
     assert_eq!(rt; script.events.as_slice(), *events);
+}
+
+fn is_read(rt: &impl Abort, alloc: Global, net: &Network, case: &ReadOf) -> Result<(), Fail> {
+    let script = read_script(alloc, net, case.0)?;
+    script_is(rt, &script, case);
+    drop(script);
     Ok(())
 }
 
@@ -170,10 +175,7 @@ const THIRD_LINES: &[(&[u8], ScriptCause)] = &[
 ];
 
 fn refusal(alloc: Global, net: &Network, bytes: &[u8]) -> Option<ScriptRefused> {
-    match read_script(alloc, net, bytes) {
-        Ok(_) => None,
-        Err(refused) => Some(refused),
-    }
+    read_script(alloc, net, bytes).err()
 }
 
 // The cause of each script of a table is told for the line of a number.
@@ -233,8 +235,11 @@ fn plays(
     expected: &[StateOf],
 ) -> Result<(), Fail> {
     let script = read_script(alloc, net, script)?;
-    let states = play(alloc, net, k, &script)?;
+    let states = play(alloc, net, k, &script);
+    drop(script);
+    let states = states?;
     states_are(rt, states.as_slice(), expected);
+    drop(states);
     Ok(())
 }
 
@@ -269,10 +274,9 @@ fn is_not_played(
     expected: ScriptRefused,
 ) -> Result<(), Fail> {
     let script = read_script(alloc, net, script)?;
-    match play(alloc, net, k, &script) {
-        Ok(_) => assert!(rt; false),
-        Err(refused) => assert_eq!(rt; refused, expected),
-    }
+    let refused = play(alloc, net, k, &script).err();
+    drop(script);
+    assert_eq!(rt; refused, Some(expected));
     Ok(())
 }
 

@@ -2,7 +2,7 @@
 use std::alloc::{AllocError, Global};
 use std::process::Abort;
 use std::test::Fail;
-use wi_net::{FailSet, LinkId, Network};
+use wi_net::{Bounds, FailSet, LinkId, Network};
 use wi_query::{Expression, Query, SymbolSet, read_query};
 use wi_regex::{Atom, Regex, Symbol};
 use wi_samples::{N1, N1_FIBER, network};
@@ -21,9 +21,23 @@ fn text(alloc: Global, parts: &[(&str, u32)]) -> Result<String, AllocError> {
 // What is wrong with a text.
 fn fault(alloc: Global, net: &Network, text: &str) -> Result<String, AllocError> {
     match read_query(alloc, net, text) {
-        Ok(_) => format!(in alloc; "no fault"),
+        Ok(query) => {
+            drop(query);
+            format!(in alloc; "no fault")
+        }
         Err(fault) => format!(in alloc; "{fault}"),
     }
+}
+
+fn fault_is(
+    rt: &impl Abort,
+    alloc: Global,
+    net: &Network,
+    text: &str,
+    expected: &str,
+) -> Result<(), Fail> {
+    assert_eq!(rt; fault(alloc, net, text)?.as_str(), expected);
+    Ok(())
 }
 
 fn faults_are(
@@ -33,7 +47,7 @@ fn faults_are(
     cases: &[(&str, &str)],
 ) -> Result<(), Fail> {
     for (text, expected) in cases {
-        assert_eq!(rt; fault(alloc, net, text)?.as_str(), *expected);
+        fault_is(rt, alloc, net, text, expected)?;
     }
     Ok(())
 }
@@ -136,7 +150,7 @@ fn long_faults_are(
 ) -> Result<(), Fail> {
     for (parts, expected) in cases {
         let text = text(alloc, parts)?;
-        assert_eq!(rt; fault(alloc, net, text.as_str())?.as_str(), *expected);
+        fault_is(rt, alloc, net, text.as_str(), expected)?;
     }
     Ok(())
 }
@@ -204,38 +218,44 @@ fn labels_are(
     outcome
 }
 
+// A path, and which of the first links its atom has.
+const PATHS: &[(&str, &[bool])] = &[
+    (".", &[true, true, true, true, true, false]),
+    ("[^ a#b]", &[true, false, true, true, true, false]),
+    ("[.#b]", &[false, true, false, true, false, false]),
+    ("[a#.]", &[false, true, true, false, false, false]),
+    ("[a.b#b.a]", &[false, true, false, false, false, false]),
+    ("[a.b#b.c]", &[false, false, false, false, false, false]),
+    ("[.#b.c]", &[false, false, false, true, false, false]),
+    ("[a#b, b#y]", &[false, true, false, false, true, false]),
+    ("[^ a#b, .#\"a\"]", &[false, false, true, true, true, false]),
+    ("[.#.]", &[true, true, true, true, true, false]),
+    ("[^ .#.]", &[false, false, false, false, false, false]),
+];
+
 fn pairs_mean_links(rt: &impl Abort, alloc: Global, net: &Network) -> Result<(), Fail> {
-    for (path, links) in [
-        (".", [true, true, true, true, true, false]),
-        ("[^ a#b]", [true, false, true, true, true, false]),
-        ("[.#b]", [false, true, false, true, false, false]),
-        ("[a#.]", [false, true, true, false, false, false]),
-        ("[a.b#b.a]", [false, true, false, false, false, false]),
-        ("[a.b#b.c]", [false, false, false, false, false, false]),
-        ("[.#b.c]", [false, false, false, true, false, false]),
-        ("[a#b, b#y]", [false, true, false, false, true, false]),
-        ("[^ a#b, .#\"a\"]", [false, false, true, true, true, false]),
-        ("[.#.]", [true, true, true, true, true, false]),
-        ("[^ .#.]", [false, false, false, false, false, false]),
-    ] {
-        links_are(rt, alloc, net, path, &links)?;
+    for (path, links) in PATHS {
+        links_are(rt, alloc, net, path, links)?;
     }
     Ok(())
 }
 
+// A first header, and which of the first labels its atom has.
+const FIRSTS: &[(&str, &[bool])] = &[
+    (".", &[true, true, true, false]),
+    ("30", &[true, false, false, false]),
+    ("\"s10\"", &[false, true, false, false]),
+    ("mpls", &[true, false, false, false]),
+    ("smpls", &[false, true, false, false]),
+    ("ip", &[false, false, true, false]),
+    ("[ip, 30]", &[true, false, true, false]),
+    ("[^ mpls]", &[false, true, true, false]),
+    ("[^ ip, mpls, smpls]", &[false, false, false, false]),
+];
+
 fn names_mean_labels(rt: &impl Abort, alloc: Global, net: &Network) -> Result<(), Fail> {
-    for (first, labels) in [
-        (".", [true, true, true, false]),
-        ("30", [true, false, false, false]),
-        ("\"s10\"", [false, true, false, false]),
-        ("mpls", [true, false, false, false]),
-        ("smpls", [false, true, false, false]),
-        ("ip", [false, false, true, false]),
-        ("[ip, 30]", [true, false, true, false]),
-        ("[^ mpls]", [false, true, true, false]),
-        ("[^ ip, mpls, smpls]", [false, false, false, false]),
-    ] {
-        labels_are(rt, alloc, net, first, &labels)?;
+    for (first, labels) in FIRSTS {
+        labels_are(rt, alloc, net, first, labels)?;
     }
     Ok(())
 }
@@ -280,19 +300,20 @@ fn accepts_each(
     Ok(())
 }
 
+const PATH_WORDS: &[Judged] = &[
+    (&[0, 4], true),
+    (&[0, 2, 3, 4], true),
+    (&[1], true),
+    (&[1, 1], true),
+    (&[0], false),
+    (&[4], false),
+    (&[0, 4, 1], false),
+    (&[], false),
+];
+
 fn path_accepts(rt: &impl Abort, alloc: Global, net: &Network) -> Result<(), Fail> {
     let query = query(alloc, net, "ip", "[x#a] .* [b#y] | [a#b]+")?;
-    let words: &[Judged] = &[
-        (&[0, 4], true),
-        (&[0, 2, 3, 4], true),
-        (&[1], true),
-        (&[1, 1], true),
-        (&[0], false),
-        (&[4], false),
-        (&[0, 4, 1], false),
-        (&[], false),
-    ];
-    let outcome = accepts_each(rt, alloc, &query.path, 4, words);
+    let outcome = accepts_each(rt, alloc, &query.path, 4, PATH_WORDS);
     drop(query);
     outcome
 }
@@ -385,15 +406,19 @@ fn set_is(rt: &impl Abort, set: &FailSet, links: &[u32]) {
     }
 }
 
+fn has_bounds(rt: &impl Abort, bounds: &Bounds, (k, down, up): (u32, &[u32], &[u32])) {
+    assert_eq!(rt; bounds.k, k);
+    set_is(rt, &bounds.down, down);
+    set_is(rt, &bounds.up, up);
+}
+
 // A text, and the bounds that it has.
 type Bounded<'a> = (&'a str, u32, &'a [u32], &'a [u32]);
 
 fn bounds_are(rt: &impl Abort, alloc: Global, net: &Network, case: &Bounded) -> Result<(), Fail> {
     let (text, k, down, up) = case;
     let query = read_query(alloc, net, text)?;
-    assert_eq!(rt; query.bounds.k, *k);
-    set_is(rt, &query.bounds.down, down);
-    set_is(rt, &query.bounds.up, up);
+    has_bounds(rt, &query.bounds, (*k, down, up));
     drop(query);
     Ok(())
 }
@@ -427,9 +452,8 @@ fn risk_groups_are_known(rt: &impl Abort, alloc: Global, net: &Network) -> Resul
         net,
         &("<ip> . <ip> 0 down [a#b]", 0, &[1, 4], &[]),
     )?;
-    let both = fault(alloc, net, "<ip> . <ip> 0 down [b#y] up [a#b]")?;
-    assert_eq!(rt; both.as_str(), "link number 1 both down and up");
-    Ok(())
+    let both = "<ip> . <ip> 0 down [b#y] up [a#b]";
+    fault_is(rt, alloc, net, both, "link number 1 both down and up")
 }
 
 #[test]

@@ -3,10 +3,12 @@ ghost use Rattle.std.specs.Prelude.{IfOk};
 ghost use Rattle.wi_world.specs.Moves.{AreBounds};
 
 use std::alloc::Global;
+use std::process::Abort;
 use std::test::Fail;
 use wi_net::Network;
 use wi_quantity::{Vector, read_weights};
 use wi_query::{Query, read_query};
+use wi_world::Step;
 
 /// The query that a text is.
 pub fn query_of(alloc: Global, net: &Network, text: &str) -> Result<Query, Fail>
@@ -23,5 +25,13 @@ pub fn vector_of(alloc: Global, weights: Option<&str>) -> Result<Vector, Fail> {
     match weights {
         Some(text) => Ok(read_weights(alloc, text)?),
         None => Ok(Vector::new(alloc)),
+    }
+}
+
+/// The steps have these groups and members.
+pub fn steps_are(rt: &impl Abort, steps: &[Step], expected: &[(u32, u32)]) {
+    assert_eq!(rt; steps.len(), expected.len());
+    for (step, (group, member)) in steps.iter().zip(expected) {
+        assert_eq!(rt; (step.group, step.member), (*group, *member));
     }
 }

@@ -1,7 +1,7 @@
 //! Answers by example.
 ghost use Rattle.wi_world.specs.Moves.{AreBounds};
 
-use crate::common::{query_of, vector_of};
+use crate::common::{query_of, steps_are, vector_of};
 use std::alloc::Global;
 use std::process::Abort;
 use std::test::Fail;
@@ -13,7 +13,7 @@ use wi_query::Query;
 use wi_samples::{N1, N1_FIBER, N1_NEAR, N2, N2_FIBER, N3, N4, N5, Sample, doubling, network};
 use wi_trace::Answer;
 use wi_weight::{Effort, Pair, Terms};
-use wi_world::{Run, Step, Verdict, Word};
+use wi_world::{Run, Verdict, Word};
 
 const NO_TERM: [u128; 5] = [0; 5];
 
@@ -44,13 +44,6 @@ fn header_is(rt: &impl Abort, header: &Header, labels: &[(Label, Class)]) {
     assert_eq!(rt; header.len(), labels.len());
     for (i, label) in labels.iter().enumerate() {
         assert_eq!(rt; header.at(i), Some(*label));
-    }
-}
-
-fn steps_are(rt: &impl Abort, steps: &[Step], expected: &[(u32, u32)]) {
-    assert_eq!(rt; steps.len(), expected.len());
-    for (step, (group, member)) in steps.iter().zip(expected) {
-        assert_eq!(rt; (step.group, step.member), (*group, *member));
     }
 }
 

@@ -10,3 +10,5 @@ mod common;
 mod decide;
 #[cfg(test)]
 mod report;
+#[cfg(test)]
+mod searching;

@@ -1,6 +1,7 @@
 pub mod SpellingLemmas
 pub mod RuleLemmas
 pub mod AnswerLemmas
+pub mod FoundLemmas
 pub mod ShownLemmas
 pub mod WrittenLemmas
 pub mod RisingLemmas

@@ -1,118 +1,150 @@
--- What is written down for an answer is the certificate that a maker writes for it.
-use Rattle.std.proofs.Common.{◌≡◌, ◌↔◌, ℕ, ◌+◌, ◌≤◌, ◌^◌, true, nat_le, List, [], length, Option, Some, None, refl, sym, ap, ◌∙◌, subst}
+-- What a search writes down, and that it is the certificate that a maker writes for the answer.
+use Rattle.std.proofs.Common.{◌≡◌, ◌↔◌, ℕ, ◌+◌, ◌≤◌, ◌^◌, Bool, true, false, ◌||◌, nat_le, List, [], length, Option, Some, None, refl, sym, ap, ◌∙◌, subst, arith}
 use Rattle.std.specs.Prelude.{option_map, IfSome}
 use Rattle.std.specs.List.{All, list_all}
 use Rattle.std.specs.List.Sorted.{IsPermutation, IsSortedBy, IsStrictlySortedBy}
+use Rattle.std.specs.Cmp.Lexicographic.{slice_cmp}
+use Rattle.std.specs.Ordering.{nat_cmp}
 use Rattle.std.proofs.lemmas.Bool.{and_parts, leb-true}
 use Rattle.wi_weight.specs.Weights.{EachBelow}
-use Rattle.wi_net.specs.Net.{Net}
-use Rattle.wi_query.specs.declared.query.Query.{Query}
 use Rattle.wi_quantity.specs.declared.vector.Part.{Part}
 use Rattle.wi_quantity.specs.Vectors.{is_term, is_vector}
 use Rattle.wi_quantity.specs.Weighing.{components}
 use Rattle.wi_trace.specs.declared.answer.Answer.{Answer}
-use Rattle.wi_pds.specs.Closed.{Listed}
+use Rattle.wi_pds.specs.Closed.{Listed, Within}
 use Rattle.wi_pds.specs.LeastClosed.{AreLeastClosed}
 use Rattle.wi_pds.specs.Pairs.{pair_cmp}
 use Rattle.wi_saturate.specs.Rows.{TableView}
-use Rattle.wi_build.specs.Problems.{Problem, IsProblem, problem_of}
-use Rattle.wi_build.specs.Systems.{rules}
+use Rattle.wi_build.specs.Problems.{Problem, IsProblem}
+use Rattle.wi_build.specs.Systems.{rules, scale}
 use Rattle.wi_cert.specs.declared.closed.Closed.{Closed}
 use Rattle.wi_cert.specs.declared.row.Row.{Row}
 use Rattle.wi_cert.specs.declared.shown.Shown.{Shown}
 use Rattle.wi_cert.specs.Order.{pair_below, row_below, is_next, EachAdded}
-use Rattle.wi_cert.specs.Closed.{IsRow, is_lighter}
-use Rattle.wi_accept.specs.Answers.{IsDecided}
-use Rattle.wi_accept.specs.Causes.{rows_of}
+use Rattle.wi_cert.specs.Shown.{IsShown, is_no}
+use Rattle.wi_cert.specs.Closed.{IsClosed, IsRow, is_less, is_lighter}
+use Rattle.wi_accept.specs.Answers.{IsDecided, padded}
+use Rattle.wi_accept.specs.Causes.{rows_of, bound_of}
 use Rattle.wi_accept.specs.Makers.{IsLeastWithin, IsMaker}
-use Rattle.wi_decide.specs.private.Certificates.{Weight, shown_by, row_by, rows_below, is_below}
+use Rattle.wi_decide.specs.declared.searching.LeastRun.{LeastRun}
+use Rattle.wi_decide.specs.Searches.{IsWrittenDown, bound_with}
+use Rattle.wi_decide.specs.private.Certificates.{Weight, shown_by, row_by, rows_below, written}
 use Rattle.wi_decide.specs.private.Tables.{IsTable}
 use Rattle.wi_decide.proofs.AnswerLemmas.{goal_fits}
 use Rattle.wi_decide.proofs.RisingLemmas.{added, pairs_rise, rows_rise}
-use Rattle.wi_decide.proofs.RowLemmas.{each_row, row_terms, rows_distinct, rows_listed}
+use Rattle.wi_decide.proofs.RowLemmas.{each_row, row_bound, row_terms, rows_distinct, rows_listed}
 use Rattle.wi_decide.proofs.ShowingLemmas.{Shows, shows}
-use Rattle.wi_decide.proofs.WrittenLemmas.{written_length}
+use Rattle.wi_decide.proofs.WrittenLemmas.{HasTerms, written_length, written_less}
 
-few_terms : (vector : List (List Part)) → is_vector vector ≡ true → length vector ≤ 5
+pub few_terms : (vector : List (List Part)) → is_vector vector ≡ true → length vector ≤ 5
 few_terms vector h = leb-true (length vector) 5 (and_parts (nat_le (length vector) 5) (list_all is_term vector) h).0
 
--- the weight of an answer from a table has components of 64 bits
-pub answer_fits : (problem : Problem) (heads : List (ℕ × ℕ)) (table : TableView Weight) (a : Answer) → IsTable problem heads table → a.weight ≡ table.best → IfSome a.weight (λ w. EachBelow (2 ^ 64) (components w))
-answer_fits problem heads table a is same = subst (λ (o : Option Weight). IfSome o (λ w. EachBelow (2 ^ 64) (components w))) (sym same) (go table.best refl)
-  where
-    go : (o : Option Weight) → table.best ≡ o → IfSome o (λ w. EachBelow (2 ^ 64) (components w))
-    go None e = tt
-    go (Some b) e = goal_fits problem heads table b is e
+-- a run that weighs what the table's goal does has a weight of 64 bits
+pub found_small : (problem : Problem) (heads : List (ℕ × ℕ)) (cut : Option Weight) (table : TableView Weight) (found : Option LeastRun) → IsTable problem heads cut table → option_map (λ f. f.weight) found ≡ table.best
+    → IfSome found (λ f. EachBelow (2 ^ 64) (components f.weight))
+found_small problem heads cut table None is same = tt
+found_small problem heads cut table (Some f) is same = goal_fits problem heads cut table f.weight is (sym same)
 
 -- pairs that rise are each added
 pairs_added : (xs : List (ℕ × ℕ)) → IsStrictlySortedBy pair_cmp xs → EachAdded (λ before x. is_next pair_below before x ≡ true) [] xs
 pairs_added xs h = added pair_below (λ (x : ℕ × ℕ). Unit {0}) (λ before x. is_next pair_below before x ≡ true) (λ before x next p. next) xs (pairs_rise xs h) (λ i d low. tt)
 
--- what is written down: heads and pairs as they were found, and the rows of the table below its goal, sorted
-pub record IsWrittenDown (problem : Problem) (table : TableView Weight) (closed : Closed) : Type 0 where
-  pub table_is : IsTable problem closed.heads table
+-- a weight below what bounds the rows is lighter than whatever shows that bound
+below_shown : (n : ℕ) (s : Shown) (bound : Option Weight) (w : Weight) → n ≤ 5 → s.terms ≡ n → HasTerms n w → length s.weight ≡ n + 1
+    → Some (padded s.terms s.weight) ≡ option_map components bound → Within scale (option_map components bound) (components w) → is_less (slice_cmp nat_cmp (written n w) s.weight) ≡ true
+below_shown n s None w few terms h count is within = cc
+below_shown n s (Some b) w few terms h count is within =
+    let same : padded s.terms s.weight ≡ components b = cc in
+    ap is_less (written_less n w b s.weight few h count (ap (λ m. padded m s.weight) (sym terms) ∙ same) within)
+
+lighter : (n : ℕ) (s : Shown) (bound : Option Weight) (r : Row) (w : Weight) → n ≤ 5 → IsShown s → s.terms ≡ n → bound_of s ≡ option_map components bound → HasTerms n w
+    → r.weight ≡ written n w → Within scale (option_map components bound) (components w) → is_lighter s r ≡ true
+lighter n s bound r w few k terms is h same within = go (is_no s.claim) refl
+  where
+    go : (b : Bool) → is_no s.claim ≡ b → (is_no s.claim || is_less (slice_cmp nat_cmp r.weight s.weight)) ≡ true
+    go true e = rw e refl
+    go false e =
+        let count : length s.weight ≡ s.terms + 1 = rw e at k.weight in
+        rw (e, same) (below_shown n s bound w few terms h (omega (arith, count, terms)) (rw e at is) within)
+
+-- heads and pairs as they were found, and the rows of the table below its goal, sorted
+pub record IsListed (problem : Problem) (cut : Option Weight) (table : TableView Weight) (closed : Closed) : Type 0 where
+  pub table_is : IsTable problem closed.heads cut table
   pub least : AreLeastClosed (rules problem) (0, 0) closed.heads closed.pairs
   pub heads : IsStrictlySortedBy pair_cmp closed.heads
   pub pairs : IsStrictlySortedBy pair_cmp closed.pairs
   pub rows : IsPermutation (rows_below (length problem.vector) table) closed.rows
   pub sorted : IsSortedBy row_below closed.rows
 
--- a row has the terms of the weight that is shown, and is lighter
-abbrev IsRight : Problem → Answer → Row → Type 0
-IsRight problem a r = (length r.weight ≡ length problem.vector + 1) × (is_lighter (shown_by (length problem.vector) a) r ≡ true)
+module _ (problem : Problem) (k : IsProblem problem) (few : length problem.vector ≤ 5) (cut : Option Weight) (table : TableView Weight) (closed : Closed) (l : IsListed problem cut table closed) where
+  -- they can be written under whatever shows their bound
+  writable : (s : Shown) → IsShown s → s.terms ≡ length problem.vector → bound_of s ≡ option_map components (row_bound table.best cut) → IsClosed s closed
+  writable s shown terms bound = record {
+    heads = pairs_added closed.heads l.heads;
+    pairs = pairs_added closed.pairs l.pairs;
+    rows = added row_below IsRight (IsRow s) (λ before x next f. record { weight = f.0; next = next; lighter = f.1 }) closed.rows
+        (rows_rise closed.rows l.sorted (rows_distinct problem closed.heads cut table l.table_is (length problem.vector) closed.rows l.rows)) fine;
+  }
+    where
+      -- a row has the terms of the weight that is shown, and is lighter
+      IsRight : Row → Type 0
+      IsRight r = (length r.weight ≡ s.terms + 1) × (is_lighter s r ≡ true)
 
-made : (problem : Problem) (table : TableView Weight) (closed : Closed) (a : Answer) → IsProblem problem → length problem.vector ≤ 5 → IsWrittenDown problem table closed
-    → IsDecided problem a → a.weight ≡ table.best
-    → IsMaker problem a (record { shown = shown_by (length problem.vector) a; closed = closed })
-made problem table closed a k few w decided same = record {
-  writable = record {
-    shown = seen.shown;
-    closed = record {
-      heads = pairs_added closed.heads w.heads;
-      pairs = pairs_added closed.pairs w.pairs;
-      rows = added row_below (IsRight problem a) (IsRow (shown_by (length problem.vector) a)) (λ before x next f. record { weight = f.0; next = next; lighter = f.1 }) closed.rows
-          (rows_rise closed.rows w.sorted (rows_distinct problem closed.heads table w.table_is (length problem.vector) closed.rows w.rows)) fine;
-    };
-  };
-  terms = refl;
-  shows = seen.back;
-  closed = w.least;
-  rows = subst (λ (bound : Option (List ℕ)). (p g q : ℕ) (x : List ℕ) → Listed (rows_of (length problem.vector) closed.rows) p g q x ↔ IsLeastWithin problem closed.heads bound p g q x)
-      (ap (option_map components) (sym same) ∙ sym seen.bound)
-      (rows_listed problem closed.heads table w.table_is k few closed.rows w.rows);
-}
-  where
-    seen : Shows problem (length problem.vector) a
-    seen = shows problem k few a decided
+      fine : All IsRight closed.rows
+      fine = each_row problem closed.heads cut table l.table_is (length problem.vector) closed.rows l.rows IsRight (λ t there within. (
+        written_length (length problem.vector) t.weight few ∙ ap (λ m. m + 1) (sym terms),
+        lighter (length problem.vector) s (row_bound table.best cut) (row_by (length problem.vector) t) t.weight few shown terms bound (row_terms problem closed.heads cut table l.table_is k few t there) refl within,
+      ))
 
-    fine : All (IsRight problem a) closed.rows
-    fine = each_row problem closed.heads table w.table_is (length problem.vector) closed.rows w.rows (IsRight problem a) (λ t there below. (
-      written_length (length problem.vector) t.weight few,
-      seen.lighter (row_by (length problem.vector) t) t.weight refl (row_terms problem closed.heads table w.table_is k few t there) (ap (λ (o : Option Weight). is_below o t.weight) same ∙ below),
-    ))
+  written_down : IsWrittenDown problem (option_map components (row_bound table.best cut)) closed
+  written_down = record { closed = l.least; rows = rows_listed problem closed.heads cut table l.table_is k few closed.rows l.rows; writable = writable }
 
--- a system that is asked so has the problem's answer
-pub decided_for : (net : Net) (query : Query) (vector : List (List Part)) (system : Problem) (a : Answer) → system ≡ problem_of net query vector → IsDecided (problem_of net query system.vector) a → IsDecided (problem_of net query vector) a
-decided_for net query vector system a is h = let P : Problem → Type 0 = λ s. IsDecided (problem_of net query s.vector) a in subst P is h
+bound_is : (cut : Option Weight) (found : Option LeastRun) → option_map components (row_bound (option_map (λ f. f.weight) found) cut) ≡ bound_with (option_map components cut) found
+bound_is cut None = refl
+bound_is cut (Some f) = refl
 
 -- and so it is by what each step of making it promises
-pub made_by : (net : Net) (query : Query) (vector : List (List Part)) (system : Problem) (heads pairs : List (ℕ × ℕ)) (table : TableView Weight) (a : Answer) (shown : Shown) (closed : Closed) (terms : ℕ)
-    → IsProblem (problem_of net query vector) → is_vector vector ≡ true → system ≡ problem_of net query vector → terms ≡ length vector
-    → AreLeastClosed (rules system) (0, 0) heads pairs → IsTable system heads table → IsDecided (problem_of net query system.vector) a → a.weight ≡ table.best
-    → shown ≡ shown_by terms a → closed.heads ≡ heads → closed.pairs ≡ pairs → IsStrictlySortedBy pair_cmp heads → IsStrictlySortedBy pair_cmp pairs
-    → IsPermutation (rows_below terms table) closed.rows → IsSortedBy row_below closed.rows → IsMaker (problem_of net query vector) a (record { shown = shown; closed = closed })
-made_by net query vector system heads pairs table a shown closed terms k v system_is terms_are least is decided same shown_is heads_are pairs_are heads_rise pairs_rise rows sorted =
-    let shown_so : shown ≡ shown_by (length vector) a = shown_is ∙ ap (λ m. shown_by m a) terms_are in
-    let P : Shown → Type 0 = λ s. IsMaker (problem_of net query vector) a (record { shown = s; closed = closed }) in
-    let T : Problem → List (ℕ × ℕ) → Type 0 = λ s hs. IsTable s hs table in
-    let L : Problem → List (ℕ × ℕ) → List (ℕ × ℕ) → Type 0 = λ s hs ps. AreLeastClosed (rules s) (0, 0) hs ps in
-    let down : IsWrittenDown (problem_of net query vector) table closed = record {
-      table_is = subst (T (problem_of net query vector)) (sym heads_are) (subst (λ (s : Problem). T s heads) system_is is);
-      least = subst (λ (hs : List (ℕ × ℕ)). L (problem_of net query vector) hs closed.pairs) (sym heads_are)
-          (subst (L (problem_of net query vector) heads) (sym pairs_are) (subst (λ (s : Problem). L s heads pairs) system_is least));
+pub written_by : (problem : Problem) (heads pairs : List (ℕ × ℕ)) (cut : Option Weight) (table : TableView Weight) (found : Option LeastRun) (closed : Closed) (terms : ℕ)
+    → IsProblem problem → is_vector problem.vector ≡ true → terms ≡ length problem.vector
+    → AreLeastClosed (rules problem) (0, 0) heads pairs → IsTable problem heads cut table → option_map (λ f. f.weight) found ≡ table.best
+    → closed.heads ≡ heads → closed.pairs ≡ pairs → IsStrictlySortedBy pair_cmp heads → IsStrictlySortedBy pair_cmp pairs
+    → IsPermutation (rows_below terms table) closed.rows → IsSortedBy row_below closed.rows → IsWrittenDown problem (bound_with (option_map components cut) found) closed
+written_by problem heads pairs cut table found closed terms k v terms_are least is same heads_are pairs_are heads_rise pairs_rise rows sorted =
+    let listed : IsListed problem cut table closed = record {
+      table_is = subst (λ (hs : List (ℕ × ℕ)). IsTable problem hs cut table) (sym heads_are) is;
+      least = subst (λ (hs : List (ℕ × ℕ)). AreLeastClosed (rules problem) (0, 0) hs closed.pairs) (sym heads_are)
+          (subst (λ (ps : List (ℕ × ℕ)). AreLeastClosed (rules problem) (0, 0) heads ps) (sym pairs_are) least);
       heads = subst (IsStrictlySortedBy pair_cmp) (sym heads_are) heads_rise;
       pairs = subst (IsStrictlySortedBy pair_cmp) (sym pairs_are) pairs_rise;
       rows = subst (λ m. IsPermutation (rows_below m table) closed.rows) terms_are rows;
       sorted = sorted;
     } in
-    subst P (sym shown_so) (made (problem_of net query vector) table closed a k (few_terms vector v) down (decided_for net query vector system a system_is decided) same)
+    subst (λ (bound : Option (List ℕ)). IsWrittenDown problem bound closed)
+    (ap (λ (best : Option Weight). option_map components (row_bound best cut)) (sym same) ∙ bound_is cut found)
+    (written_down problem k (few_terms problem.vector v) cut table closed listed)
+
+-- what was written down is the certificate of an answer that shows its bound
+made : (problem : Problem) (a : Answer) (closed : Closed) → IsProblem problem → length problem.vector ≤ 5 → IsWrittenDown problem (option_map components a.weight) closed → IsDecided problem a
+    → IsMaker problem a (record { shown = shown_by (length problem.vector) a; closed = closed })
+made problem a closed k few w decided = record {
+  writable = record { shown = seen.shown; closed = w.writable (shown_by (length problem.vector) a) seen.shown refl seen.bound };
+  terms = refl;
+  shows = seen.back;
+  closed = w.closed;
+  rows = subst (λ (bound : Option (List ℕ)). (p g q : ℕ) (x : List ℕ) → Listed (rows_of (length problem.vector) closed.rows) p g q x ↔ IsLeastWithin problem closed.heads bound p g q x) (sym seen.bound) w.rows;
+}
+  where
+    seen : Shows problem (length problem.vector) a
+    seen = shows problem k few a decided
+
+weight_bound : (found : Option LeastRun) → bound_with None found ≡ option_map components (option_map (λ f. f.weight) found)
+weight_bound None = refl
+weight_bound (Some f) = refl
+
+pub made_by : (problem : Problem) (a : Answer) (found : Option LeastRun) (shown : Shown) (closed : Closed) (terms : ℕ) → IsProblem problem → is_vector problem.vector ≡ true → terms ≡ length problem.vector
+    → IsWrittenDown problem (bound_with None found) closed → IsDecided problem a → a.weight ≡ option_map (λ f. f.weight) found → shown ≡ shown_by terms a → IsMaker problem a (record { shown = shown; closed = closed })
+made_by problem a found shown closed terms k v terms_are w decided same shown_is =
+    let P : Shown → Type 0 = λ s. IsMaker problem a (record { shown = s; closed = closed }) in
+    subst P (sym (shown_is ∙ ap (λ m. shown_by m a) terms_are))
+    (made problem a closed k (few_terms problem.vector v)
+    (subst (λ (bound : Option (List ℕ)). IsWrittenDown problem bound closed) (weight_bound found ∙ ap (option_map components) (sym same)) w) decided)

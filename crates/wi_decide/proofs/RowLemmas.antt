@@ -1,4 +1,5 @@
--- The rows of a table that weigh less than its goal are just the least summaries below it, and no two are for one summary.
+-- The rows of a table that weigh less than its goal are just the least summaries below it, and no two are for one summary. Without
+-- a goal's row these are all rows, and the least summaries below the cut.
 use Rattle.std.proofs.Common.{◌≡◌, ◌↔◌, ℕ, zero, suc, ◌<◌, ◌≤◌, Bool, true, false, ◌&&◌, nat_eq, List, [], ◌∷◌, map, take, filter, length, get_or, slice_get, Option, Some, None, refl, sym, ap, ◌∙◌, subst, arith}
 use Rattle.std.specs.Prelude.{option_map, IfSome}
 use Rattle.std.specs.List.{All, AllByRecursion, IsDistinct}
@@ -12,19 +13,23 @@ use Rattle.std.proofs.lemmas.List.Sorted.{All-permutation, Contains-permutation,
 use Rattle.std.proofs.lemmas.Map.Keys.{IsDistinct-head, IsDistinct-tail, IsDistinct-cons, IsDistinct-from_apart, IsDistinct-IsPermutation}
 use Rattle.std.proofs.lemmas.Option.{slice_get-get_or}
 use Rattle.wi_quantity.specs.Weighing.{components}
+use Rattle.wi_weight.specs.Weights.{Below, IsWeight}
+use Rattle.wi_pds.specs.declared.rule.Rule.{Rule}
+use Rattle.wi_pds.specs.Runs.{Least}
 use Rattle.wi_pds.specs.Closed.{Summary, Listed, Within}
 use Rattle.wi_saturate.specs.declared.row.Row as settled
 use Rattle.wi_saturate.specs.Rows.{TableView}
 use Rattle.wi_saturate.proofs.Elements.{contains_from_get, get_from_contains, get_from_listed}
 use Rattle.wi_rules.proofs.Lists.{In, contains_in, in_contains, in_map, map_in, in_filter, filter_in}
 use Rattle.wi_build.specs.Problems.{Problem, IsProblem}
-use Rattle.wi_build.specs.Systems.{scale}
+use Rattle.wi_build.specs.Systems.{scale, rules}
 use Rattle.wi_cert.specs.declared.row.Row.{Row}
 use Rattle.wi_accept.specs.Answers.{padded}
 use Rattle.wi_accept.specs.Causes.{rows_of}
 use Rattle.wi_accept.specs.Demands.{row}
 use Rattle.wi_accept.specs.Makers.{IsLeastWithin}
 use Rattle.wi_accept.proofs.UnusedTerms.{pops_at, take_at}
+use Rattle.wi_accept.proofs.WeightLemmas.{pops_weight, scale_laws}
 use Rattle.wi_decide.specs.private.Certificates.{Weight, written, row_by, rows_below, is_below, IsFitting}
 use Rattle.wi_decide.specs.private.Tables.{IsTable}
 use Rattle.wi_decide.proofs.WrittenLemmas.{HasTerms, padded_written}
@@ -35,18 +40,29 @@ less_is Less h = refl
 less_is Equal h = cc
 less_is Greater h = cc
 
-below_within : (best : Option Weight) (v : Weight) → is_below best v ≡ true → Within scale (option_map components best) (components v)
-below_within None v h = tt
-below_within (Some b) v h = less_is (scale.order (components v) (components b)) h
+-- what bounds the rows that are kept: the goal's weight, or the cut
+abbrev pub row_bound : Option Weight → Option Weight → Option Weight
+row_bound None cut = cut
+row_bound (Some b) cut = Some b
 
-within_below : (best : Option Weight) (v : Weight) → Within scale (option_map components best) (components v) → is_below best v ≡ true
-within_below None v h = refl
-within_below (Some b) v h = ap is_lt h
+kept_within : (best cut : Option Weight) (v : Weight) → is_below best v ≡ true → Within scale (option_map components cut) (components v) → Within scale (option_map components (row_bound best cut)) (components v)
+kept_within None cut v below within = within
+kept_within (Some b) cut v below within = less_is (scale.order (components v) (components b)) below
 
--- what is within the goal's weight is below it
-within_if : (best : Option Weight) (w : List ℕ) → Within scale (option_map components best) w → IfSome (option_map components best) (λ b. scale.order w b ≡ Less)
-within_if None w h = tt
-within_if (Some b) w h = h
+within_kept : (best cut : Option Weight) (v : Weight) → Within scale (option_map components (row_bound best cut)) (components v) → is_below best v ≡ true
+within_kept None cut v h = refl
+within_kept (Some b) cut v h = ap is_lt h
+
+-- what is below the goal's weight is so, and is below the cut as that is
+within_if : (best cut : Option Weight) (w : List ℕ) → Within scale (option_map components (row_bound best cut)) w → IfSome (option_map components best) (λ b. Below scale w b)
+within_if None cut w h = tt
+within_if (Some b) cut w h = h
+
+within_cut : (rules : ℕ → ℕ → List (Rule Weight)) (best cut : Option Weight) (w : List ℕ) → IsWeight scale w → IfSome (option_map components best) (λ b. Least scale components rules 0 0 1 b × Within scale (option_map components cut) b)
+    → Within scale (option_map components (row_bound best cut)) w → Within scale (option_map components cut) w
+within_cut rules None cut w weight goal h = h
+within_cut rules (Some b) None w weight goal h = tt
+within_cut rules (Some b) (Some c) w weight goal h = scale_laws.trans w (components b) (components c) weight refl refl h goal.1
 
 -- what holds of each element that is in a list holds of all
 all_in : {X : Type 0} (P : X → Type 0) (xs : List X) → ((x : X) → In xs x → P x) → All P xs
@@ -80,7 +96,7 @@ get_early (x ∷ xs) (suc i) (suc j) h = get_early xs i j (omega (arith, h))
 abbrev is_same_settled : settled.Row Weight → settled.Row Weight → Bool
 is_same_settled a b = nat_eq a.p b.p && (nat_eq a.g b.g && nat_eq a.q b.q)
 
-module _ (problem : Problem) (heads : List (ℕ × ℕ)) (table : TableView Weight) (is : IsTable problem heads table) where
+module _ (problem : Problem) (heads : List (ℕ × ℕ)) (cut : Option Weight) (table : TableView Weight) (is : IsTable problem heads cut table) where
   -- each row's weight has components of 64 bits
   pub rows_fit : All IsFitting table.rows
   rows_fit i d low = (is.settled i (get_or table.rows i d) (slice_get-get_or table.rows i d low)).fits
@@ -105,14 +121,15 @@ module _ (problem : Problem) (heads : List (ℕ × ℕ)) (table : TableView Weig
         (kept_apart is_same_settled is_same (row_by n) (λ r. is_below table.best r.weight) (λ x y. refl) table.rows rows_apart)
 
     -- what holds of each row below the goal holds of all
-    pub each_row : (P : Row → Type 0) → ((t : settled.Row Weight) → In table.rows t → is_below table.best t.weight ≡ true → P (row_by n t)) → All P rows
+    pub each_row : (P : Row → Type 0) → ((t : settled.Row Weight) → In table.rows t → Within scale (option_map components (row_bound table.best cut)) (components t.weight) → P (row_by n t)) → All P rows
     each_row P each = All-permutation P (rows_below n table) rows order (all_in P (rows_below n table) from)
       where
         from : (x : Row) → In (rows_below n table) x → P x
         from x h =
             let m = map_in (row_by n) (filter (λ r. is_below table.best r.weight) table.rows) x h in
             let t = filter_in (λ r. is_below table.best r.weight) table.rows m.0 m.1 in
-            subst P m.2 (each m.0 t.0 t.1)
+            let at = get_from_contains table.rows m.0 (in_contains table.rows m.0 t.0) in
+            subst P m.2 (each m.0 t.0 (kept_within table.best cut (m.0).weight t.1 (is.settled at.0 m.0 at.1).within))
 
   module _ (k : IsProblem problem) (few : length problem.vector ≤ 5) where
     -- the terms that the vector hasn't are 0
@@ -126,7 +143,7 @@ module _ (problem : Problem) (heads : List (ℕ × ℕ)) (table : TableView Weig
     said r = row r.p r.g r.q (padded (length problem.vector) r.weight)
 
     abbrev IsWithin : Summary → Type 0
-    IsWithin s = IsLeastWithin problem heads (option_map components table.best) s.p s.g s.q s.weight
+    IsWithin s = IsLeastWithin problem heads (option_map components (row_bound table.best cut)) s.p s.g s.q s.weight
 
     from_row : (s : Summary) → In (map said (rows_below (length problem.vector) table)) s → IsWithin s
     from_row s h =
@@ -136,17 +153,19 @@ module _ (problem : Problem) (heads : List (ℕ × ℕ)) (table : TableView Weig
         let at = get_from_contains table.rows m.0 (in_contains table.rows m.0 t.0) in
         let there = is.settled at.0 m.0 at.1 in
         let whole : padded (length problem.vector) (written (length problem.vector) (m.0).weight) ≡ components (m.0).weight = padded_written (length problem.vector) (m.0).weight few (row_terms m.0 t.0) in
-        let here : IsWithin (row (m.0).p (m.0).g (m.0).q (components (m.0).weight)) = record { head = there.head; least = there.least; within = below_within table.best (m.0).weight t.1 } in
+        let here : IsWithin (row (m.0).p (m.0).g (m.0).q (components (m.0).weight)) = record { head = there.head; least = there.least; within = kept_within table.best cut (m.0).weight t.1 there.within } in
         subst IsWithin (ap (λ w. row (m.0).p (m.0).g (m.0).q w) (sym whole) ∙ (ap said m.2 ∙ x.2)) here
 
-    to_row : (p g q : ℕ) (w : List ℕ) → IsLeastWithin problem heads (option_map components table.best) p g q w → In (map said (rows_below (length problem.vector) table)) (row p g q w)
+    to_row : (p g q : ℕ) (w : List ℕ) → IsLeastWithin problem heads (option_map components (row_bound table.best cut)) p g q w → In (map said (rows_below (length problem.vector) table)) (row p g q w)
     to_row p g q w h =
-        let found = get_from_listed components table.rows p g q w (is.complete p g q w h.head h.least tt (within_if table.best w h.within)) in
+        let weight = pops_weight (rules problem) p g q w h.least.0 in
+        let within = within_cut (rules problem) table.best cut w weight is.found h.within in
+        let found = get_from_listed components table.rows p g q w (is.complete p g q w h.head h.least within (within_if table.best cut w h.within)) in
         let t = found.1.0 in
         let at : slice_get table.rows found.0 ≡ Some t = found.1.1 in
         let there : In table.rows t = contains_in table.rows t (contains_from_get table.rows found.0 t at) in
         let weighs : components t.weight ≡ w = found.1.3 in
-        let below : is_below table.best t.weight ≡ true = within_below table.best t.weight (subst (Within scale (option_map components table.best)) (sym weighs) h.within) in
+        let below : is_below table.best t.weight ≡ true = within_kept table.best cut t.weight (subst (Within scale (option_map components (row_bound table.best cut))) (sym weighs) h.within) in
         let kept = in_map (row_by (length problem.vector)) (filter (λ r. is_below table.best r.weight) table.rows) t (in_filter (λ r. is_below table.best r.weight) table.rows t there below) in
         let whole : padded (length problem.vector) (written (length problem.vector) t.weight) ≡ w = padded_written (length problem.vector) t.weight few (row_terms t there) ∙ weighs in
         let same : said (row_by (length problem.vector) t) ≡ row p g q w =
@@ -157,7 +176,7 @@ module _ (problem : Problem) (heads : List (ℕ × ℕ)) (table : TableView Weig
         subst (In (map said (rows_below (length problem.vector) table))) same (in_map said (rows_below (length problem.vector) table) (row_by (length problem.vector) t) kept)
 
     pub rows_listed : (rows : List Row) → IsPermutation (rows_below (length problem.vector) table) rows → (p g q : ℕ) (w : List ℕ)
-        → Listed (rows_of (length problem.vector) rows) p g q w ↔ IsLeastWithin problem heads (option_map components table.best) p g q w
+        → Listed (rows_of (length problem.vector) rows) p g q w ↔ IsLeastWithin problem heads (option_map components (row_bound table.best cut)) p g q w
     rows_listed rows order p g q w = (
       λ h. from_row (row p g q w) (contains_in (map said (rows_below (length problem.vector) table)) (row p g q w) (Contains-permutation (map said rows) (map said (rows_below (length problem.vector) table)) (row p g q w) (IsPermutation-sym _ _ moved) h)),
       λ h. Contains-permutation (map said (rows_below (length problem.vector) table)) (map said rows) (row p g q w) moved (in_contains (map said (rows_below (length problem.vector) table)) (row p g q w) (to_row p g q w h)),

@@ -3,9 +3,6 @@ use Rattle.std.proofs.Common.{◌≡◌, ℕ, ◌+◌, ◌-◌, ◌<◌, ◌≤�
 use Rattle.std.specs.Prelude.{option_map, IfSome, slice_index}
 use Rattle.std.specs.List.{All}
 use Rattle.std.specs.Option.{option_map_or}
-use Rattle.std.specs.Ordering.{is_lt}
-use Rattle.std.specs.declared.cmp.Ordering.{Ordering}
-use Rattle.std.specs.declared.cmp.Ordering.TheVariants.{Less, Equal, Greater}
 use Rattle.std.proofs.lemmas.Bool.{and_parts, ltb-true}
 use Rattle.std.proofs.lemmas.List.{length-map}
 use Rattle.std.proofs.lemmas.List.Elements.{All-nil, All-cons, All-map, All-weaker}
@@ -36,15 +33,13 @@ use Rattle.wi_rules.proofs.Lists.{get_below}
 use Rattle.wi_build.specs.Problems.{Problem, IsProblem, asks, weighs}
 use Rattle.wi_build.specs.Systems.{weight}
 use Rattle.wi_build.proofs.HopLemmas.{group_room, cons_same}
-use Rattle.wi_cert.specs.declared.row.Row.{Row}
 use Rattle.wi_cert.specs.Shown.{is_no, IsShown}
-use Rattle.wi_cert.specs.Closed.{is_less, is_lighter}
 use Rattle.wi_accept.specs.Answers.{IsDecided, word_of, padded, labels_of, steps_of, run_of, answer_of}
 use Rattle.wi_accept.specs.Causes.{bound_of}
 use Rattle.wi_accept.proofs.UnusedTerms.{run_weighs, take_at}
-use Rattle.wi_decide.specs.private.Certificates.{Weight, claim_for, written, first_numbers, step_numbers, shown_by, is_below, IsSmallStep}
+use Rattle.wi_decide.specs.private.Certificates.{Weight, claim_for, written, first_numbers, step_numbers, shown_by, IsSmallStep}
 use Rattle.wi_decide.proofs.SpellingLemmas.{classed_is, known_there}
-use Rattle.wi_decide.proofs.WrittenLemmas.{HasTerms, padded_written, written_compared, written_length}
+use Rattle.wi_decide.proofs.WrittenLemmas.{HasTerms, padded_written, written_length}
 
 -- a label's number is put, and those below it are left
 pub label_more : (h : List Entry) (i : ℕ) (l : Entry) (ns new whole : List ℕ) → slice_get h i ≡ Some l → ns ++ map (λ (e : Entry). e.0.0) (drop i h) ≡ whole
@@ -88,7 +83,7 @@ nothing = record { word = words.No; weight = None; run = None; verdict = None }
 abbrev pub shown_run : Problem → Word → Weight → Run → Answer
 shown_run problem word w r = record { word = word; weight = Some w; run = Some r; verdict = Some (verdict_of problem.net problem.bounds r) }
 
-pub record IsFound (problem : Problem) (a : Answer) : Type 0 where
+pub record ShowsRun (problem : Problem) (a : Answer) : Type 0 where
   pub word : Word
   pub w : Weight
   pub r : Run
@@ -100,7 +95,7 @@ pub record IsFound (problem : Problem) (a : Answer) : Type 0 where
 -- an answer that holds is one of them
 module _ (problem : Problem) (k : IsProblem problem) where
   inconclusive : (w : Weight) (r : Run) (v : Verdict) → IsInconclusive problem.net (asks problem) (weighs problem) (components w) r v
-      → IsFound problem (record { word = words.Inconclusive; weight = Some w; run = Some r; verdict = Some v })
+      → ShowsRun problem (record { word = words.Inconclusive; weight = Some w; run = Some r; verdict = Some v })
   inconclusive w r v h = record {
     word = words.Inconclusive;
     w = w;
@@ -112,7 +107,7 @@ module _ (problem : Problem) (k : IsProblem problem) where
   }
 
   by_word : (word : Word) (weight : Option Weight) (run : Option Run) (verdict : Option Verdict) → Holds problem.net (asks problem) (weighs problem) word (option_map components weight) run verdict
-      → (nothing ≡ record { word = word; weight = weight; run = run; verdict = verdict }) ⊎ IsFound problem (record { word = word; weight = weight; run = run; verdict = verdict })
+      → (nothing ≡ record { word = word; weight = weight; run = run; verdict = verdict }) ⊎ ShowsRun problem (record { word = word; weight = weight; run = run; verdict = verdict })
   by_word words.No None None None h = inl refl
   by_word words.No None None (Some v) h = absurd h
   by_word words.No None (Some r) v h = absurd h
@@ -138,7 +133,7 @@ module _ (problem : Problem) (k : IsProblem problem) where
   by_word words.Inconclusive (Some w) (Some r) (Some (Exceeds n)) h = inr (inconclusive w r (Exceeds n) h)
   by_word words.Inconclusive (Some w) (Some r) (Some (UsesFailed e)) h = inr (inconclusive w r (UsesFailed e) h)
 
-  pub either : (a : Answer) → IsDecided problem a → (nothing ≡ a) ⊎ IsFound problem a
+  pub either : (a : Answer) → IsDecided problem a → (nothing ≡ a) ⊎ ShowsRun problem a
   either a h = by_word a.word a.weight a.run a.verdict h
 
   -- so its steps are small
@@ -199,20 +194,13 @@ pub record Shows (problem : Problem) (n : ℕ) (a : Answer) : Type 0 where
   pub back : answer_of problem (shown_by n a) ≡ a
   pub shown : IsShown (shown_by n a)
   pub bound : bound_of (shown_by n a) ≡ option_map components a.weight
-  pub lighter : (r : Row) (t : Weight) → r.weight ≡ written n t → HasTerms n t → is_below a.weight t ≡ true → is_lighter (shown_by n a) r ≡ true
 
 shows_nothing : (problem : Problem) (n : ℕ) → n ≤ 5 → Shows problem n nothing
 shows_nothing problem n few = record {
   back = refl;
   shown = record { terms = few; weight = refl; first = refl; no_steps = λ e. refl; steps = All-nil (λ x. (0 < x.0) × (0 < x.1)) };
   bound = refl;
-  lighter = λ r t e h b. refl;
 }
-
-less_order : (o : Ordering) → is_lt o ≡ true → is_less o ≡ true
-less_order Less h = refl
-less_order Equal h = h
-less_order Greater h = h
 
 module _ (problem : Problem) (k : IsProblem problem) (few : length problem.vector ≤ 5) where
   -- the terms that the vector hasn't are 0
@@ -236,7 +224,6 @@ module _ (problem : Problem) (k : IsProblem problem) (few : length problem.vecto
       steps = All-map (λ x. (0 < x.0) × (0 < x.1)) (λ s. (s.group + 1, s.member + 1)) r.steps (All-weaker IsSmallStep (λ (s : Step). (0 < s.group + 1) × (0 < s.member + 1)) (λ s h. (omega arith, omega arith)) r.steps small);
     };
     bound = rw shows (ap (λ x. Some x) (padded_written (length problem.vector) w few terms));
-    lighter = λ x t same h below. rw (shows, same) (less_order _ (ap is_lt (written_compared (length problem.vector) t w few h terms) ∙ below));
   }
     where
       kept : IsKept problem.net r

@@ -21,5 +21,5 @@ below_shown bound (suc n) (x ∷ xs) last some past h = (h.0, below_shown bound 
 
 pub overflow_shown : (problem : Problem) (w : Pair Terms Effort) → IsProblem problem → IsOverflowing problem (components w) → EachBelow (2 ^ 64) (take (length problem.vector) (components w) ++ w.second.count ∷ []) → ⊥
 overflow_shown problem w k h below =
-    h.overflow.unfit (below_shown (2 ^ 64) (length problem.vector) (take 5 (components w)) w.second.count (omega arith)
-    (λ i past low. take_at 5 (components w) i (pops_at problem k h.p h.g h.q (components w) h.overflow.wanted.least.0 i past (omega (arith, low)))) below)
+    h.overflow.overflow.unfit (below_shown (2 ^ 64) (length problem.vector) (take 5 (components w)) w.second.count (omega arith)
+    (λ i past low. take_at 5 (components w) i (pops_at problem k h.head.0 h.head.1 h.target (components w) h.overflow.overflow.wanted.least.0 i past (omega (arith, low)))) below)

@@ -4,12 +4,13 @@ use Rattle.std.specs.Prelude.{slice_index}
 use Rattle.std.specs.Cmp.Lexicographic.{slice_cmp}
 use Rattle.std.specs.Ordering.{nat_cmp, ordering_then}
 use Rattle.std.proofs.lemmas.List.{length-take-le}
-use Rattle.wi_weight.specs.Weights.{EachBelow}
+use Rattle.std.specs.declared.cmp.Ordering.TheVariants.{Less}
+use Rattle.wi_weight.specs.Weights.{Below}
 use Rattle.wi_quantity.specs.Weighing.{components}
 use Rattle.wi_build.specs.Systems.{scale}
 use Rattle.wi_accept.specs.Answers.{padded}
 use Rattle.wi_decide.specs.private.Certificates.{Weight, written}
-use Rattle.wi_accept.proofs.OrderLemmas.{parts_compared}
+use Rattle.wi_accept.proofs.OrderLemmas.{below_before}
 
 -- numbers from a place on are 0
 abbrev pub AreZeroFrom : ℕ → List ℕ → Type 0
@@ -40,27 +41,18 @@ filled (suc n) (x ∷ xs) last few h =
     ap (λ k. x ∷ (take n (take n xs ++ last ∷ []) ++ (replicate k 0 ++ drop n (take n xs ++ last ∷ [])))) less
     ∙ ap (λ ys. x ∷ ys) (filled n xs last (omega (arith, few)) (zeros_later n x xs h))
 
--- zeros and a last number compare as the last numbers do
-zeros_compared : (xs ys : List ℕ) (a b : ℕ) → length xs ≡ length ys → AreZeroFrom zero xs → AreZeroFrom zero ys
-    → slice_cmp nat_cmp (a ∷ []) (b ∷ []) ≡ slice_cmp nat_cmp (xs ++ a ∷ []) (ys ++ b ∷ [])
-zeros_compared [] [] a b same h k = refl
-zeros_compared [] (y ∷ ys) a b same h k = absurd (omega (arith, same))
-zeros_compared (x ∷ xs) [] a b same h k = absurd (omega (arith, same))
-zeros_compared (x ∷ xs) (y ∷ ys) a b same h k = rw (first_zero x xs h, first_zero y ys k) (zeros_compared xs ys a b (omega (arith, same)) (rest_zero x xs h) (rest_zero y ys k))
+-- numbers compare as they do with so many zeros put in at a place
+zeros_compared : (k : ℕ) (xs ys : List ℕ) → slice_cmp nat_cmp (replicate k 0 ++ xs) (replicate k 0 ++ ys) ≡ slice_cmp nat_cmp xs ys
+zeros_compared zero xs ys = refl
+zeros_compared (suc k) xs ys = zeros_compared k xs ys
 
-compared : (n : ℕ) (xs ys : List ℕ) (a b : ℕ) → length xs ≡ length ys → AreZeroFrom n xs → AreZeroFrom n ys
-    → slice_cmp nat_cmp (take n xs ++ a ∷ []) (take n ys ++ b ∷ []) ≡ slice_cmp nat_cmp (xs ++ a ∷ []) (ys ++ b ∷ [])
-compared zero xs ys a b same h k = zeros_compared xs ys a b same h k
-compared (suc n) [] [] a b same h k = refl
-compared (suc n) [] (y ∷ ys) a b same h k = absurd (omega (arith, same))
-compared (suc n) (x ∷ xs) [] a b same h k = absurd (omega (arith, same))
-compared (suc n) (x ∷ xs) (y ∷ ys) a b same h k = ap (λ o. ordering_then (nat_cmp x y) o) (compared n xs ys a b (omega (arith, same)) (zeros_later n x xs h) (zeros_later n y ys k))
-
-below_more : (bound n : ℕ) (xs : List ℕ) (last : ℕ) → EachBelow bound (xs ++ last ∷ []) → EachBelow bound (take n xs ++ last ∷ [])
-below_more bound zero [] last h = h
-below_more bound (suc n) [] last h = h
-below_more bound zero (x ∷ xs) last h = below_more bound zero xs last h.1
-below_more bound (suc n) (x ∷ xs) last h = (h.0, below_more bound n xs last h.1)
+padded_compared : (k n : ℕ) (xs ys : List ℕ) → length xs ≡ length ys
+    → slice_cmp nat_cmp (take n xs ++ (replicate k 0 ++ drop n xs)) (take n ys ++ (replicate k 0 ++ drop n ys)) ≡ slice_cmp nat_cmp xs ys
+padded_compared k zero xs ys same = zeros_compared k xs ys
+padded_compared k (suc n) [] [] same = zeros_compared k [] []
+padded_compared k (suc n) [] (y ∷ ys) same = absurd (omega (arith, same))
+padded_compared k (suc n) (x ∷ xs) [] same = absurd (omega (arith, same))
+padded_compared k (suc n) (x ∷ xs) (y ∷ ys) same = ap (λ o. ordering_then (nat_cmp x y) o) (padded_compared k n xs ys (omega (arith, same)))
 
 length_written : (n : ℕ) (xs : List ℕ) (last : ℕ) → n ≤ length xs → length (take n xs ++ last ∷ []) ≡ n + 1
 length_written n xs last h = omega (arith, length-append (take n xs) (last ∷ []), length-take-le n xs h)
@@ -90,13 +82,14 @@ written_is n w h = ap (λ xs. xs ++ w.second.count ∷ []) (first_terms n w h)
 pub padded_written : (n : ℕ) (w : Weight) → n ≤ 5 → HasTerms n w → padded n (written n w) ≡ components w
 padded_written n w few h = ap (padded n) (written_is n w few) ∙ filled n (terms_of w) w.second.count few h
 
-pub written_compared : (n : ℕ) (v w : Weight) → n ≤ 5 → HasTerms n v → HasTerms n w → slice_cmp nat_cmp (written n v) (written n w) ≡ scale.order (components v) (components w)
-written_compared n v w few h k =
-    rw (written_is n v few, written_is n w few) (compared n (terms_of v) (terms_of w) v.second.count w.second.count refl h k)
-    ∙ sym (parts_compared 5 (components v) (components w) refl)
-
-pub written_below : (bound n : ℕ) (w : Weight) → n ≤ 5 → EachBelow bound (components w) → EachBelow bound (written n w)
-written_below bound n w few h = rw (written_is n w few) (below_more bound n (terms_of w) w.second.count h)
-
 pub written_length : (n : ℕ) (w : Weight) → n ≤ 5 → length (written n w) ≡ n + 1
 written_length n w few = ap length (written_is n w few) ∙ length_written n (terms_of w) w.second.count few
+
+-- a weight below another is less than that as it is written
+pub written_less : (n : ℕ) (w v : Weight) (shown : List ℕ) → n ≤ 5 → HasTerms n w → length shown ≡ n + 1 → padded n shown ≡ components v → Below scale (components w) (components v)
+    → slice_cmp nat_cmp (written n w) shown ≡ Less
+written_less n w v shown few h count is below =
+    sym (padded_compared (5 - n) n (written n w) shown (written_length n w few ∙ sym count))
+    ∙ ap (λ xs. slice_cmp nat_cmp xs (padded n shown)) (padded_written n w few h)
+    ∙ ap (λ ys. slice_cmp nat_cmp (components w) ys) is
+    ∙ below_before (components w) (components v) refl below

@@ -1,3 +1,4 @@
 pub mod Spelled
+pub mod Searches
 pub mod Refusals
 pub mod private

@@ -41,7 +41,8 @@ pub(crate) fn shown_of(alloc: Global, terms: u32, answer: &Answer) -> Result<Sho
     })
 }
 
-/// The heads and the pairs, and the rows of the table that weigh less than its goal, with so many terms in their weights.
+/// The heads and the pairs, and the rows of the table that weigh less than its goal, with so many terms in their weights. Where
+/// there is no goal, all rows are.
 pub(crate) fn closed_of(
     alloc: Global,
     terms: u32,

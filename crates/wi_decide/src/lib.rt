@@ -1,13 +1,16 @@
-//! The answer to a query: whether a packet can take such a route while links fail, by what least run, and how that run fares.
+//! The answer to a query: whether a packet can take such a route while links fail, by what least run, and how that run fares. The
+//! search for a least run goes within any bounds and below a cut.
 #![tactic(auto)]
 
 mod certificate;
 mod decision;
 mod laws;
 mod refused;
+mod searching;
 mod spelling;
 
 pub use decision::decide;
 pub use laws::overflows_show;
-pub use refused::DecideRefused;
+pub use refused::{DecideRefused, SearchRefused};
+pub use searching::{LeastRun, Searched, search};
 pub use spelling::run_of;

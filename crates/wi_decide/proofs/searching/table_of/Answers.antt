@@ -1,5 +1,5 @@
 use Rattle.wi_decide.proofs.RuleLemmas.{ready}
-use Rattle.wi_decide.proofs.decision.table_of.Goals as goal
+use Rattle.wi_decide.proofs.searching.table_of.Goals as goal
 
 pub least-requires-clause-ready : goal.least-requires-clause-ready
 least-requires-clause-ready g c = ready c.args.system.now c.args.heads.now.heads c.requires.problem c.requires.vector

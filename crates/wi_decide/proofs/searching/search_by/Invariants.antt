@@ -1,4 +1,4 @@
-use Rattle.wi_decide.proofs.decision.decide.Given as goal
+use Rattle.wi_decide.proofs.searching.search_by.Given as goal
 
 abbrev pub ghosts-table_of-L-Ledger : goal.ghosts-table_of-L-Ledger
 ghosts-table_of-L-Ledger a = record { name = a.blank.name; parts = a.blank.parts }

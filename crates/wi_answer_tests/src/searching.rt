@@ -1,0 +1,116 @@
+//! Searches by example: below a cut, and within bounds that aren't the query's own.
+ghost use Rattle.wi_world.specs.Moves.{AreBounds};
+
+use crate::common::{query_of, steps_are};
+use std::alloc::Global;
+use std::process::Abort;
+use std::test::Fail;
+use wi_decide::{LeastRun, search};
+use wi_net::{Bounds, Network};
+use wi_quantity::{Vector, Weight};
+use wi_query::Query;
+use wi_samples::{N1, network};
+use wi_weight::{Effort, Pair, Terms};
+
+// The effort and the steps of a least run.
+type Least<'a> = (u128, &'a [(u32, u32)]);
+
+// A query, one within whose bounds is searched, the effort of the cut, and what is found.
+type Case<'a> = (&'a str, &'a str, Option<u128>, Option<Least<'a>>);
+
+fn by_effort(count: u128) -> Weight {
+    Pair {
+        first: Terms::of([0; 5]),
+        second: Effort { count },
+    }
+}
+
+fn found_is(rt: &impl Abort, found: &Option<LeastRun>, expected: &Option<Least>) {
+    match (found, expected) {
+        (Some(least), Some((effort, steps))) => {
+            assert!(rt; least.weight == by_effort(*effort));
+            steps_are(rt, least.run.steps.as_slice(), steps);
+        }
+        (None, None) => {}
+        _ => assert!(rt; false),
+    }
+}
+
+fn searches(
+    rt: &impl Abort,
+    alloc: Global,
+    net: &Network,
+    query: &Query,
+    vector: &Vector,
+    bounds: &Bounds,
+    case: &Case,
+)
+    requires { AreBounds net.now bounds.now }
+{
+    let cut = match case.2 {
+        Some(effort) => Some(by_effort(effort)),
+        None => None,
+    };
+    match search(alloc, net, query, vector, bounds, cut) {
+        Ok(searched) => {
+            found_is(rt, &searched.found, &case.3);
+            drop(searched);
+        }
+        Err(_) => assert!(rt; false),
+    }
+}
+
+fn bounded_is(
+    rt: &impl Abort,
+    alloc: Global,
+    net: &Network,
+    query: &Query,
+    case: &Case,
+) -> Result<(), Fail> {
+    let within = query_of(alloc, net, case.1)?;
+    let vector = Vector::new(alloc);
+    searches(rt, alloc, net, query, &vector, &within.bounds, case);
+    drop(vector);
+    drop(within);
+    Ok(())
+}
+
+fn case_is(rt: &impl Abort, alloc: Global, net: &Network, case: &Case) -> Result<(), Fail> {
+    let query = query_of(alloc, net, case.0)?;
+    let outcome = bounded_is(rt, alloc, net, &query, case);
+    drop(query);
+    outcome
+}
+
+fn cases_are(rt: &impl Abort, alloc: Global, net: &Network) -> Result<(), Fail> {
+    for case in CASES {
+        case_is(rt, alloc, net, case)?;
+    }
+    Ok(())
+}
+
+const TO_Y: &str = "<ip1> [x#a] .* [b#y] <ip1> 0";
+
+const TO_Y_WITHOUT_B: &str = "<ip1> [x#a] .* [b#y] <ip1> 0 down [a#b]";
+
+const STRAIGHT: &[(u32, u32)] = &[(0, 0), (0, 0)];
+
+// By c and b to y.
+const AROUND: &[(u32, u32)] = &[(1, 0), (0, 0), (0, 0)];
+
+const CASES: &[Case] = &[
+    (TO_Y, TO_Y, None, Some((8, STRAIGHT))),
+    (TO_Y, TO_Y, Some(9), Some((8, STRAIGHT))),
+    (TO_Y, TO_Y, Some(8), None),
+    // The link to b is down in the bounds that are searched, though not in the query's own.
+    (TO_Y, TO_Y_WITHOUT_B, None, Some((10, AROUND))),
+    (TO_Y, TO_Y_WITHOUT_B, Some(10), None),
+];
+
+#[test]
+fn the_least_run_below_a_cut_is_found(rt: HostRuntime) -> Result<(), Fail> {
+    let net = network(rt.alloc(), &N1)?;
+    let outcome = cases_are(&rt, rt.alloc(), &net);
+    drop(net);
+    outcome
+}

@@ -1,0 +1,45 @@
+use Rattle.std.proofs.lemmas.Result.{err_from_is_err_and}
+use Rattle.wi_decide.specs.private.Tables.{HasTable}
+use Rattle.wi_decide.proofs.AnswerLemmas.{all_fit, no_table}
+use Rattle.wi_decide.proofs.MakerLemmas.{few_terms, found_small, written_by}
+use Rattle.wi_decide.proofs.RowLemmas.{rows_fit}
+use Rattle.wi_decide.proofs.searching.search_by.Goals as goal
+
+pub found_of-requires-clause-table : goal.found_of-requires-clause-table
+found_of-requires-clause-table c = (c.args.cut, record { heads = c.in_ok-heads.heads.heads; pairs = c.in_ok-heads.heads.pairs; closed = c.in_ok-heads.ensures; least = c.in_ok-table.ensures.table })
+
+pub closed_of-requires-clause-few : goal.closed_of-requires-clause-few
+closed_of-requires-clause-few c = rw c.requires.terms (few_terms c.args.system.now.vector c.requires.vector)
+
+pub closed_of-requires-clause-fits : goal.closed_of-requires-clause-fits
+closed_of-requires-clause-fits c = rows_fit c.args.system.now c.in_ok-heads.heads.heads c.args.cut c.in_ok-table.table c.in_ok-table.ensures.table
+
+pub returns-clause-found : goal.returns-clause-found
+returns-clause-found c =
+    let has : HasTable c.args.system.now c.args.cut c.in_ok-table.table = record { heads = c.in_ok-heads.heads.heads; pairs = c.in_ok-heads.heads.pairs; closed = c.in_ok-heads.ensures; least = c.in_ok-table.ensures.table } in
+    c.in_ok-found.ensures.found c.args.cut has
+
+pub returns-clause-closed : goal.returns-clause-closed
+returns-clause-closed c =
+    written_by c.args.system.now c.in_ok-heads.heads.heads c.in_ok-heads.heads.pairs c.args.cut c.in_ok-table.table c.in_ok-found.found c.in_ok-closed.closed c.args.terms
+    c.requires.problem c.requires.vector c.requires.terms c.in_ok-heads.ensures c.in_ok-table.ensures.table c.in_ok-found.ensures.weight
+    c.in_ok-closed.ensures.heads c.in_ok-closed.ensures.pairs c.in_ok-closed.ensures.heads_rise c.in_ok-closed.ensures.pairs_rise c.in_ok-closed.ensures.rows c.in_ok-closed.ensures.sorted
+
+pub returns-clause-fits : goal.returns-clause-fits
+returns-clause-fits c =
+    all_fit c.args.system.now c.requires.problem c.args.cut c.in_ok-table.table
+    (record { heads = c.in_ok-heads.heads.heads; pairs = c.in_ok-heads.heads.pairs; closed = c.in_ok-heads.ensures; least = c.in_ok-table.ensures.table })
+
+pub returns-clause-small : goal.returns-clause-small
+returns-clause-small c = found_small c.args.system.now c.in_ok-heads.heads.heads c.args.cut c.in_ok-table.table c.in_ok-found.found c.in_ok-table.ensures.table c.in_ok-found.ensures.weight
+
+pub returns-in_err-table-clause-refused : goal.returns-in_err-table-clause-refused
+returns-in_err-table-clause-refused c =
+    let p = err_from_is_err_and c.from_residual-in_err-table.result c.from_residual-in_err-table.ensures.1 in
+    rw (p.1, p.2) (no_table c.args.system.now c.args.cut c.in_ok-heads.heads.heads c.in_ok-heads.heads.pairs c.in_err-table.field-0.0 c.in_ok-heads.ensures c.in_err-table.ensures.refused)
+
+pub returns-in_err-found-clause-refused : goal.returns-in_err-found-clause-refused
+returns-in_err-found-clause-refused c =
+    let p = err_from_is_err_and c.from_residual-in_err-found.result c.from_residual-in_err-found.ensures.1 in
+    rw (p.1, p.2)
+    (c.in_err-found.ensures.refused c.args.cut (record { heads = c.in_ok-heads.heads.heads; pairs = c.in_ok-heads.heads.pairs; closed = c.in_ok-heads.ensures; least = c.in_ok-table.ensures.table }))

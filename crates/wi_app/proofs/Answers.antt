@@ -72,5 +72,5 @@ word_ends problem file Yes status w run verdict h is = inl is
 word_ends problem file No status w run verdict h is = inr (inl is)
 word_ends problem file Inconclusive status w run verdict h is = inr (inr (inl (is, may_fail problem.net (asks problem) (weighs problem) w run verdict h)))
 
-pub answer_ends : (problem : Problem) (file : Option (List ℕ)) (shelf : ShelfSeen) (status : ℕ) (text : List ℕ) → IsReported problem file shelf status text → MayEnd problem file status
-answer_ends problem file shelf status text r = word_ends problem file r.answer.word status (option_map components r.answer.weight) r.answer.run r.answer.verdict r.holds r.status_is
+pub answer_ends : (printed : Problem → Answer → List ℕ) (problem : Problem) (file : Option (List ℕ)) (shelf : ShelfSeen) (status : ℕ) (text : List ℕ) → IsReported printed problem file shelf status text → MayEnd problem file status
+answer_ends printed problem file shelf status text r = word_ends problem file r.answer.word status (option_map components r.answer.weight) r.answer.run r.answer.verdict r.holds r.status_is

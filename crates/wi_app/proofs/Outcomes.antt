@@ -44,21 +44,24 @@ use Rattle.wi_accept.proofs.OneReading.{accept_the_same}
 use Rattle.wi_decide.specs.Refusals.{IsUnrefused}
 use Rattle.wi_gen.specs.Ring.{net_of, ring_of}
 use Rattle.wi_gen.specs.Texts.{query_text, weights_text}
-use Rattle.wi_report.specs.Reports.{accepted_text, report_of}
+use Rattle.wi_report.specs.Reports.{accepted_text}
 use Rattle.wi_report.specs.Summaries.{summary_of}
-use Rattle.wi_words.specs.Commands.{Command, Verify, Check, Play, Gen, command_of}
+use Rattle.wi_words.specs.Commands.{Command, Verify, Check, Play, Gen, Packets, Stack, command_of}
 use Rattle.wi_app.specs.Texts.{text_of, status_of, IsPutTogether}
 use Rattle.wi_app.specs.Edges.{Says, SaysWhy, kept}
 use Rattle.wi_app.specs.Shelves.{AllStand, IsCalm, OthersStand}
 use Rattle.wi_app.specs.Asked.{AreBadTexts, ForAsked, IsAsked, IsBadQuery, IsBadWeights, WeighsBy}
 use Rattle.wi_app.specs.Certificates.{FromCertificate, FromStore, IsAcceptedText, IsCertificate, IsCertificateFile, IsStored}
-use Rattle.wi_app.specs.Decided.{FromDecision, FromTexts, IsAnswer, IsReported, status_for}
+use Rattle.wi_app.specs.Decided.{FromDecision, FromTexts, IsAnswer, IsReported, packets_in, report_in, status_for}
 use Rattle.wi_app.specs.Generated.{FromRing, IsSummary, IsSummed}
+use Rattle.wi_app.specs.OnWire.{FromHex, IsHex, IsRefusedStack, IsShownHex, IsShownStack, ShowsNoStack}
+use Rattle.wi_wire.specs.declared.refused.StackRefused.{StackRefused}
+use Rattle.wi_wire.specs.declared.refused.StackRefused.TheVariants.{Cut, Reserved, Memory as StackMemory}
 use Rattle.wi_app.specs.Run.{AreAnswered, IsAnswered, IsStatus, HoldsNetwork, IsPlay, FileHasFault, FromNetwork, IsBadScript, FromScript, FromCommand, FromWords, CanBeAnswered, IsLeft, Prints, Completes}
-use Rattle.wi_app.specs.private.Stages.{FromAnswering, FromBytes, FromChecking, FromDeciding, IsBelieved, IsKept, IsNotBelieved, IsNotKept}
+use Rattle.wi_app.specs.private.Stages.{FromAnswering, FromBytes, FromChecking, FromDeciding, FromStack, IsBelieved, IsKept, IsNotBelieved, IsNotKept}
 use Rattle.wi_app.specs.declared.answer.Printed.{Printed}
 use Rattle.wi_app.specs.declared.refusal.Refusal.{Refusal}
-use Rattle.wi_app.specs.declared.refusal.Refusal.TheVariants.{CannotRead, CannotWrite, Network, Query as BadQuery, Weights as BadWeights, Overflow, TooLong, Script, LongScript, LargeCertificate, BadLine as BadCertificateLine, NotAccepted, NotWritten, Memory}
+use Rattle.wi_app.specs.declared.refusal.Refusal.TheVariants.{CannotRead, CannotWrite, Network, Query as BadQuery, Weights as BadWeights, Overflow, TooLong, Script, LongScript, LargeCertificate, BadLine as BadCertificateLine, NotAccepted, NotWritten, NotHex, BadStack, Memory}
 use Rattle.wi_app.proofs.Answers.{answer_ends}
 
 -- ---- from the parts of a command to the whole
@@ -109,7 +112,7 @@ all_left (Err refusal) old new stand = left_all old new refusal stand
 
 -- an answer on a network is one to a command. The fetch of the network left the shelf as it was
 pub verify_answered : (r : Result Printed Refusal) (old new : ShelfSeen) (name query : List ℕ) (weights file : Option (List ℕ)) (net : Net) → (old.told ≡ true → HoldsNetwork (old.file name) net)
-    → IfOk r (λ printed. IsAnswer net query weights file new printed.status printed.text) → IfOk r (λ printed. IsAnswered old new (Verify name query weights file) printed.status printed.text)
+    → IfOk r (λ printed. IsAnswer report_in net query weights file new printed.status printed.text) → IfOk r (λ printed. IsAnswered old new (Verify name query weights file) printed.status printed.text)
 verify_answered (Ok printed) old new name query weights file net holds answer = (net, holds, answer)
 verify_answered (Err refusal) old new name query weights file net holds answer = tt
 
@@ -122,10 +125,10 @@ verify_refused (Err refusal) old later new name query weights file net same hold
 ]
 
 -- what texts ask is answered, or the answer is refused
-pub asked_answered : (r : Result Printed Refusal) (net : Net) (text : List ℕ) (weights file : Option (List ℕ)) (shelf : ShelfSeen) (query : Query) (vector : List (List Part)) → IsAsked net text weights query vector
-    → IfOk r (λ printed. IsReported (problem_of net query vector) file shelf printed.status printed.text) → IfOk r (λ printed. IsAnswer net text weights file shelf printed.status printed.text)
-asked_answered (Ok printed) net text weights file shelf query vector asked reported = record { query = query; vector = vector; asked = asked; reported = reported }
-asked_answered (Err refusal) net text weights file shelf query vector asked reported = tt
+pub asked_answered : (r : Result Printed Refusal) (prints : Problem → Answer → List ℕ) (net : Net) (text : List ℕ) (weights file : Option (List ℕ)) (shelf : ShelfSeen) (query : Query) (vector : List (List Part)) → IsAsked net text weights query vector
+    → IfOk r (λ printed. IsReported prints (problem_of net query vector) file shelf printed.status printed.text) → IfOk r (λ printed. IsAnswer prints net text weights file shelf printed.status printed.text)
+asked_answered (Ok printed) prints net text weights file shelf query vector asked reported = record { query = query; vector = vector; asked = asked; reported = reported }
+asked_answered (Err refusal) prints net text weights file shelf query vector asked reported = tt
 
 pub asked_refused : (r : Result Printed Refusal) (old new : ShelfSeen) (net : Net) (text : List ℕ) (weights file : Option (List ℕ)) (query : Query) (vector : List (List Part)) → IsAsked net text weights query vector
     → IfErr r (λ refusal. FromDeciding old new (problem_of net query vector) file refusal) → IfErr r (λ refusal. FromAnswering old new net text weights file refusal)
@@ -140,17 +143,17 @@ kept_stored : (file : Option (List ℕ)) (shelf : ShelfSeen) (problem : Problem)
 kept_stored None shelf problem answer c is kept = tt
 kept_stored (Some name) shelf problem answer c is kept = (kept.0, record { certificate = c; is = is; text = kept.1; short = kept.2 }, kept.3)
 
-pub decided_reported : (r : Result Printed Refusal) (problem : Problem) (file : Option (List ℕ)) (shelf : ShelfSeen) (answer : Answer) (c : Certificate) (status : ℕ) (text : Result (List ℕ) NoMemory)
-    → IsDecided problem answer → IsUnrefused problem answer → IsCertificate problem answer c → status ≡ status_for answer.word → IfOk text (λ t. t ≡ report_of problem.net problem.bounds (length problem.vector) answer)
-    → IfOk r (λ printed. printed.status ≡ status) → IfOk r (λ printed. text ≡ Ok printed.text) → IfOk r (λ _. IsKept file shelf c) → IfOk r (λ printed. IsReported problem file shelf printed.status printed.text)
-decided_reported (Err refusal) problem file shelf answer c status text holds shown is due told same made kept = tt
-decided_reported (Ok printed) problem file shelf answer c status text holds shown is due told same made kept = record {
+pub decided_reported : (r : Result Printed Refusal) (prints : Problem → Answer → List ℕ) (problem : Problem) (file : Option (List ℕ)) (shelf : ShelfSeen) (answer : Answer) (c : Certificate) (status : ℕ) (text : Result (List ℕ) NoMemory)
+    → IsDecided problem answer → IsUnrefused problem answer → IsCertificate problem answer c → status ≡ status_for answer.word → IfOk text (λ t. t ≡ prints problem answer)
+    → IfOk r (λ printed. printed.status ≡ status) → IfOk r (λ printed. text ≡ Ok printed.text) → IfOk r (λ _. IsKept file shelf c) → IfOk r (λ printed. IsReported prints problem file shelf printed.status printed.text)
+decided_reported (Err refusal) prints problem file shelf answer c status text holds shown is due told same made kept = tt
+decided_reported (Ok printed) prints problem file shelf answer c status text holds shown is due told same made kept = record {
   answer = answer;
   holds = holds;
   shown = shown;
   stored = kept_stored file shelf problem answer c is kept;
   status_is = same ∙ due;
-  report_is = subst (λ (t : Result (List ℕ) NoMemory). IfOk t (λ t. t ≡ report_of problem.net problem.bounds (length problem.vector) answer)) made told;
+  text_is = subst (λ (t : Result (List ℕ) NoMemory). IfOk t (λ t. t ≡ prints problem answer)) made told;
 }
 
 not_kept : (old new : ShelfSeen) (problem : Problem) (file : Option (List ℕ)) (answer : Answer) (c : Certificate) (refusal : Refusal) → IsDecided problem answer → IsCertificate problem answer c → IsNotKept old new file c refusal
@@ -164,6 +167,54 @@ pub decided_refused : (r : Result Printed Refusal) (old new : ShelfSeen) (proble
     → IfErr r (λ refusal. IsNotKept old new file c refusal) → IfErr r (λ refusal. FromDeciding old new problem file refusal)
 decided_refused (Ok printed) old new problem file answer c holds is cause = tt
 decided_refused (Err refusal) old new problem file answer c holds is cause = inr (not_kept old new problem file answer c refusal holds is cause)
+
+-- ---- packets
+
+-- what is printed where nothing is stored is an answer to a command
+pub packets_answered : (r : Result Printed Refusal) (old new : ShelfSeen) (name query : List ℕ) (weights : Option (List ℕ)) (net : Net) → (old.told ≡ true → HoldsNetwork (old.file name) net)
+    → IfOk r (λ printed. IsAnswer packets_in net query weights None new printed.status printed.text) → IfOk r (λ printed. IsAnswered old new (Packets name query weights) printed.status printed.text)
+packets_answered (Ok printed) old new name query weights net holds answer = (net, holds, answer)
+packets_answered (Err refusal) old new name query weights net holds answer = tt
+
+-- and where there is no name to store under, no store is refused
+unstored : (old new : ShelfSeen) (name query : List ℕ) (weights : Option (List ℕ)) (problem : Problem) (refusal : Refusal) → FromStore old new problem None refusal → FromCommand old new (Packets name query weights) refusal
+unstored old new name query weights problem NotWritten cause = let none : None ≡ Some cause.1.0 = cause.1.1 in cc
+unstored old new name query weights problem (CannotWrite named) cause = let none : None ≡ Some named.now = cause.0 in cc
+unstored old new name query weights problem Memory cause = inl cause
+unstored old new name query weights problem refusal cause = elim cause [ ]
+
+pub packets_refused : (r : Result Printed Refusal) (old later new : ShelfSeen) (name query : List ℕ) (weights : Option (List ℕ)) (net : Net) → later ≡ old → (old.told ≡ true → HoldsNetwork (old.file name) net)
+    → IfErr r (λ refusal. FromAnswering later new net query weights None refusal) → IfErr r (λ refusal. FromCommand old new (Packets name query weights) refusal)
+packets_refused (Ok printed) old later new name query weights net same holds cause = tt
+packets_refused (Err refusal) old later new name query weights net same holds cause = elim (subst (λ (s : ShelfSeen). FromAnswering s new net query weights None refusal) same cause) [
+  | inl texts ↦ inr (net, holds, texts.0, texts.1)
+  | inr store ↦ unstored old new name query weights (problem_of net store.0 store.1) refusal store.3
+]
+
+-- where each file stands but that of no name, all do
+pub no_other : (old later new : ShelfSeen) → AllStand old later → OthersStand None later new → AllStand old new
+no_other old later new before after name = after name (λ none. cc) ∙ before name
+
+-- ---- stack
+
+-- a stack is an answer to a command
+pub stack_answered : (r : Result Printed Refusal) (old new : ShelfSeen) (hex : List ℕ) → IfOk r (λ printed. printed.status ≡ 0) → IfOk r (λ printed. IsShownHex hex printed.text) → IfOk r (λ printed. IsAnswered old new (Stack hex) printed.status printed.text)
+stack_answered (Ok printed) old new hex status shown = (shown, status)
+stack_answered (Err refusal) old new hex status shown = tt
+
+-- the stack of the bytes that a text is, or why there is none
+pub bytes_shown : (r : Result Printed Refusal) (hex bytes read : List ℕ) → read ≡ bytes → IsHex hex bytes → IfOk r (λ printed. IsShownStack read printed.text) → IfOk r (λ printed. IsShownHex hex printed.text)
+bytes_shown (Ok printed) hex bytes read same is shown = (bytes, is, subst (λ b. IsShownStack b printed.text) same shown)
+bytes_shown (Err refusal) hex bytes read same is shown = tt
+
+from_stack : (hex bytes : List ℕ) (refusal : Refusal) → IsHex hex bytes → FromStack bytes refusal → FromHex hex refusal
+from_stack hex bytes (BadStack refused) is cause = (bytes, is, cause)
+from_stack hex bytes Memory is cause = tt
+from_stack hex bytes refusal is cause = elim cause [ ]
+
+pub stack_refused : (r : Result Printed Refusal) (hex bytes read : List ℕ) → read ≡ bytes → IsHex hex bytes → IfErr r (λ refusal. FromStack read refusal) → IfErr r (λ refusal. FromHex hex refusal)
+stack_refused (Ok printed) hex bytes read same is cause = tt
+stack_refused (Err refusal) hex bytes read same is cause = from_stack hex bytes refusal is (subst (λ b. FromStack b refusal) same cause)
 
 -- ---- check
 
@@ -348,6 +399,8 @@ words_memory held (Some (Verify name query weights file)) = inl refl
 words_memory held (Some (Check name query file weights)) = inl refl
 words_memory held (Some (Play name script k)) = inl refl
 words_memory held (Some (Gen seed size)) = (refl, tt)
+words_memory held (Some (Packets name query weights)) = inl refl
+words_memory held (Some (Stack hex)) = (refl, tt)
 
 -- ---- where all is fine, only memory is wanting
 
@@ -517,6 +570,18 @@ ring_ends held seed size (TooLong effort) cause = (refl, inr (inr (cause.0, caus
 ring_ends held seed size Memory cause = (refl, inl refl)
 ring_ends held seed size refusal cause = elim cause.3 [ ]
 
+-- a text is read as bytes, unless these are none or begin with no stack
+bad_stack_ends : (hex bytes : List ℕ) (refused : StackRefused) → IsHex hex bytes → IsRefusedStack bytes refused → (status_of (BadStack refused) ≡ 16) × ShowsNoStack hex
+bad_stack_ends hex bytes StackMemory is cause = absurd (cause.due refl)
+bad_stack_ends hex bytes (Cut i) is cause = (refl, inr (Cut i, bytes, is, cause))
+bad_stack_ends hex bytes (Reserved i label) is cause = (refl, inr (Reserved i label, bytes, is, cause))
+
+stack_ends : (held : ShelfSeen) (hex : List ℕ) (refusal : Refusal) → FromHex hex refusal → Ends held (Stack hex) refusal
+stack_ends held hex NotHex cause = (refl, inr (inr (refl, inl cause)))
+stack_ends held hex (BadStack refused) cause = let due = bad_stack_ends hex cause.0 refused cause.1 cause.2 in (rw due.0 refl, inr (inr due))
+stack_ends held hex Memory cause = (refl, inl refl)
+stack_ends held hex refusal cause = elim cause [ ]
+
 refused_ends : (old new : ShelfSeen) (command : Command) (refusal : Refusal) → old.told ≡ true → CanBeAnswered old command → IsCalm old new → FromCommand old new command refusal → Ends old command refusal
 refused_ends old new (Verify name text given file) refusal t can calm (inl network) = wanting old (Verify name text given file) refusal (network_wants old new name refusal can.0 t can.1 calm network)
 refused_ends old new (Verify name text given file) refusal t can calm (inr (inl cause)) =
@@ -543,6 +608,14 @@ refused_ends old new (Play name script k) refusal t can calm (inr cause) =
     wanting old (Play name script k) refusal
     (script_wants old new can.0 script k can.2.0 can.2.1 refusal t can.2.2 can.2.3 calm (subst (λ net. FromScript old new net script k refusal) same cause.2))
 refused_ends old new (Gen seed size) refusal t can calm cause = ring_ends old seed size refusal cause.1
+refused_ends old new (Packets name text given) refusal t can calm (inl network) = wanting old (Packets name text given) refusal (network_wants old new name refusal can.0 t can.1 calm network)
+refused_ends old new (Packets name text given) refusal t can calm (inr cause) =
+    let same : cause.0 ≡ can.0 = one_network (old.file name) cause.0 can.0 (cause.1 t) can.1 in
+    elim (subst (λ net. FromTexts net text given refusal) same cause.2) [
+      | inl bad ↦ wanting old (Packets name text given) refusal (texts_want can.0 text given can.2.0 can.2.1 refusal can.2.2 bad)
+      | inr undecided ↦ decision_ends old name text given None can.0 undecided.0 undecided.1 refusal can.1 undecided.2 undecided.3
+    ]
+refused_ends old new (Stack hex) refusal t can calm cause = stack_ends old hex refusal cause.1
 
 -- so a command that can be answered ends with one of its statuses, or memory runs out
 ended : (held : ShelfSeen) (command : Command) (status result : ℕ) → IsStatus held command status → (result ≡ status) ⊎ (result ≡ 11) → IsStatus held command result ⊎ (result ≡ 11)
@@ -568,10 +641,13 @@ refused_completes words shelf_old shelf_new out_old out_new err_old err_new resu
 -- what is printed has a status of the command
 answered_ends : (old new : ShelfSeen) (command : Command) (status : ℕ) (text : List ℕ) → old.told ≡ true → IsAnswered old new command status text → IsStatus old command status
 answered_ends old new (Verify name query given file) status text t answer =
-    (answer.0, answer.1 t, (answer.2.query, answer.2.vector, answer.2.asked, answer_ends (problem_of answer.0 answer.2.query answer.2.vector) file new status text answer.2.reported))
+    (answer.0, answer.1 t, (answer.2.query, answer.2.vector, answer.2.asked, answer_ends report_in (problem_of answer.0 answer.2.query answer.2.vector) file new status text answer.2.reported))
 answered_ends old new (Check name query file given) status text t answer = answer.6
 answered_ends old new (Play name script k) status text t answer = answer.5
 answered_ends old new (Gen seed size) status text t answer = inl answer.1
+answered_ends old new (Packets name query given) status text t answer =
+    (answer.0, answer.1 t, (answer.2.query, answer.2.vector, answer.2.asked, answer_ends packets_in (problem_of answer.0 answer.2.query answer.2.vector) None new status text answer.2.reported))
+answered_ends old new (Stack hex) status text t answer = inl answer.1
 
 pub answered_completes : (words : List (List ℕ)) (shelf_old shelf_new : ShelfSeen) (out_old out_new err_old err_new : SinkSeen) (result status : ℕ) (text : List ℕ)
     → AreAnswered shelf_old shelf_new (command_of words) status text → Prints status text out_old out_new err_old err_new result → Completes words shelf_old shelf_new out_old out_new err_old err_new result

@@ -1,12 +1,12 @@
 -- A certificate's file that is read part by part: what was fed so far is its front.
-use Rattle.std.proofs.Common.{◌≡◌, ◌⊎◌, ℕ, ◌+◌, ◌<◌, ◌≤◌, true, List, [], ◌∷◌, ◌++◌, length, take, drop, length-append, append_assoc, append-nil, Option, Some, None, Result, Ok, Err, refl, sym, ap, subst, ◌∙◌, inl, inr, arith}
+use Rattle.std.proofs.Common.{◌≡◌, ℕ, ◌+◌, ◌<◌, ◌≤◌, true, List, [], ◌∷◌, ◌++◌, length, take, drop, length-append, append_assoc, append-nil, Option, Some, None, Ok, Err, refl, sym, ap, subst, ◌∙◌, inl, inr, arith}
 use Rattle.std.proofs.Math.Seq.{drop-append_seam}
 use Rattle.std.proofs.lemmas.List.{take-append-drop}
 use Rattle.wi_base.specs.Shelf.{ShelfSeen, IsLonger, IsPart}
 use Rattle.wi_build.specs.Problems.{Problem}
 use Rattle.wi_cert.specs.declared.certificate.Certificate.{Certificate}
 use Rattle.wi_cert.specs.Reading.{Fed, fed, finished, unread}
-use Rattle.wi_cert.specs.Text.{IsText, IsBadLine}
+use Rattle.wi_cert.specs.Text.{IsText}
 use Rattle.wi_cert.proofs.ReadingLemmas.{fed_append}
 use Rattle.wi_cert.proofs.SoundLemmas.{decoded_is_text}
 use Rattle.wi_cert.proofs.TellingLemmas.{bad_line}

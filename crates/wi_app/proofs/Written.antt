@@ -1,5 +1,5 @@
 -- What `verify` stored is a certificate that `check` accepts.
-use Rattle.std.proofs.Common.{◌≡◌, ◌≢◌, ◌⊎◌, inl, inr, ℕ, suc, ◌+◌, ◌<◌, ◌≤◌, ◌-◌, Bool, true, false, if◌then◌else◌, nat_eq, List, [], ◌∷◌, ◌++◌, length, length-append, drop, Option, Some, None, refl, sym, ap, subst, ◌∙◌, arith}
+use Rattle.std.proofs.Common.{◌≡◌, ◌≢◌, ◌⊎◌, inl, inr, ℕ, suc, ◌+◌, ◌<◌, ◌≤◌, Bool, true, false, if◌then◌else◌, nat_eq, List, [], ◌∷◌, length, length-append, drop, Option, Some, None, refl, sym, ap, subst, ◌∙◌, arith}
 use Rattle.std.specs.Prelude.{codes, max, option_and_then, option_map, IfSome, MatchBool}
 use Rattle.std.specs.Option.{option_map_or}
 use Rattle.std.proofs.lemmas.Bool.{and_parts}
@@ -36,18 +36,19 @@ use Rattle.wi_cert.proofs.WritingLemmas.{text_parts}
 use Rattle.wi_accept.specs.Answers.{IsDecided, answer_of, labels_of, run_of, steps_of}
 use Rattle.wi_accept.proofs.AcceptedLemmas.{answer_holds}
 use Rattle.wi_decide.specs.Refusals.{IsUnrefused}
-use Rattle.wi_words.specs.Commands.{Verify, Check, Command, command_of}
+use Rattle.wi_words.specs.Commands.{Verify, Check, command_of}
 use Rattle.wi_app.specs.Certificates.{IsAcceptedText, IsCertificateFile, IsStored}
-use Rattle.wi_app.specs.Decided.{IsAnswer}
+use Rattle.wi_app.specs.Decided.{IsAnswer, report_in}
 use Rattle.wi_app.specs.Edges.{Says, SaysWhy, kept}
 use Rattle.wi_app.specs.Run.{AreAnswered, CanBeAnswered, Completes, Does, IsAnswered, HoldsNetwork}
 use Rattle.wi_app.specs.Shelves.{IsCalm, OthersStand}
 use Rattle.wi_app.specs.Texts.{status_of, text_of}
 use Rattle.wi_app.specs.declared.refusal.Refusal.{Refusal}
-use Rattle.wi_app.specs.declared.refusal.Refusal.TheVariants.{Network, Weights, Script}
+use Rattle.wi_app.specs.declared.refusal.Refusal.TheVariants.{Network, Weights, Script, BadStack}
 use Rattle.wi_netjson.specs.declared.fault.NetFault.TheVariants as network_fault
 use Rattle.wi_quantity.specs.declared.fault.WeightFault.TheVariants as weights_fault
 use Rattle.wi_script.specs.declared.script.ScriptRefused.TheVariants as script_refused
+use Rattle.wi_wire.specs.declared.refused.StackRefused.TheVariants as stack_refused
 
 -- ---- the text isn't too long to be read
 -- what is done from each place on, whatever the steps are
@@ -141,7 +142,7 @@ can_check : (old new : ShelfSeen) (name text file : List ℕ) (weights : Option 
     → IsAnswered old new (Verify name text weights (Some file)) status report → CanBeAnswered new (Check name text file weights)
 can_check old new name text file weights status report apart told still stand answer = (answer.0, subst (λ f. HoldsNetwork f answer.0) (sym (stand name other)) (answer.1 told), (stored.0, certificate, held, accepted))
   where
-    asked : IsAnswer answer.0 text weights (Some file) new status report
+    asked : IsAnswer report_in answer.0 text weights (Some file) new status report
     asked = answer.2
 
     problem : Problem
@@ -182,6 +183,8 @@ status_high (Weights weights_fault.Memory) = omega arith
 status_high (Weights f) = omega arith
 status_high (Script script_refused.Memory) = omega arith
 status_high (Script f) = omega arith
+status_high (BadStack stack_refused.Memory) = omega arith
+status_high (BadStack f) = omega arith
 status_high refusal = omega arith
 
 kept_high : (status : ℕ) → 3 ≤ kept status

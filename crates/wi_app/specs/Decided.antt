@@ -1,5 +1,5 @@
 -- What is decided: the report on what texts ask of a network, and why there is none.
-use Rattle.std.specs.Prelude.{◌≡◌, ◌⊎◌, ℕ, List, length, Option}
+use Rattle.std.specs.Prelude.{◌≡◌, ◌⊎◌, ℕ, List, ◌++◌, length, Option}
 use Rattle.wi_base.specs.Shelf.{ShelfSeen}
 use Rattle.wi_net.specs.Net.{Net}
 use Rattle.wi_world.specs.declared.answer.Word.{Word}
@@ -12,6 +12,7 @@ use Rattle.wi_build.specs.Problems.{Problem, problem_of}
 use Rattle.wi_accept.specs.Answers.{IsDecided}
 use Rattle.wi_decide.specs.Refusals.{IsOverflowing, IsTooLong, IsUnrefused}
 use Rattle.wi_report.specs.Reports.{report_of}
+use Rattle.wi_report.specs.Packets.{packets_of}
 use Rattle.wi_app.specs.Asked.{AreBadTexts, ForAsked, IsAsked}
 use Rattle.wi_app.specs.Certificates.{IsStored}
 use Rattle.wi_app.specs.declared.refusal.Refusal.{Refusal}
@@ -23,22 +24,30 @@ status_for Yes = 0
 status_for No = 1
 status_for Inconclusive = 2
 
--- the report on an answer to a problem that holds and can be shown, with its status; its certificate stands under the name, if
--- there is one
-pub record IsReported (problem : Problem) (file : Option (List ℕ)) (shelf : ShelfSeen) (status : ℕ) (report : List ℕ) : Type 0 where
+-- the report on an answer to a problem
+abbrev pub report_in : Problem → Answer → List ℕ
+report_in problem answer = report_of problem.net problem.bounds (length problem.vector) answer
+
+-- the report, and behind it the packets of the run that the answer shows
+abbrev pub packets_in : Problem → Answer → List ℕ
+packets_in problem answer = report_in problem answer ++ packets_of problem.net answer.run
+
+-- the text, by what is printed, of an answer to a problem that holds and can be shown, with its status; its certificate stands under
+-- the name, if there is one
+pub record IsReported (printed : Problem → Answer → List ℕ) (problem : Problem) (file : Option (List ℕ)) (shelf : ShelfSeen) (status : ℕ) (text : List ℕ) : Type 0 where
   pub answer : Answer
   pub holds : IsDecided problem answer
   pub shown : IsUnrefused problem answer
   pub stored : IsStored file shelf problem answer
   pub status_is : status ≡ status_for answer.word
-  pub report_is : report ≡ report_of problem.net problem.bounds (length problem.vector) answer
+  pub text_is : text ≡ printed problem answer
 
--- the report on what texts ask of a network
-pub record IsAnswer (net : Net) (text : List ℕ) (weights file : Option (List ℕ)) (shelf : ShelfSeen) (status : ℕ) (report : List ℕ) : Type 0 where
+-- the text, by what is printed, of what texts ask of a network
+pub record IsAnswer (printed : Problem → Answer → List ℕ) (net : Net) (text : List ℕ) (weights file : Option (List ℕ)) (shelf : ShelfSeen) (status : ℕ) (report : List ℕ) : Type 0 where
   pub query : Query
   pub vector : List (List Part)
   pub asked : IsAsked net text weights query vector
-  pub reported : IsReported (problem_of net query vector) file shelf status report
+  pub reported : IsReported printed (problem_of net query vector) file shelf status report
 
 -- there is an answer, but a summary's weight doesn't fit, or else the least run is too long
 abbrev pub FromDecision : Problem → Refusal → Type 0

@@ -5,5 +5,6 @@ pub mod Asked
 pub mod Certificates
 pub mod Decided
 pub mod Generated
+pub mod OnWire
 pub mod Run
 pub mod private

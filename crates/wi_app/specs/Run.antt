@@ -16,14 +16,15 @@ use Rattle.wi_report.specs.States.{states_shown}
 use Rattle.wi_report.specs.Reports.{accepted_text}
 use Rattle.wi_accept.specs.Answers.{word_of}
 use Rattle.wi_cert.specs.declared.certificate.Certificate.{Certificate}
-use Rattle.wi_words.specs.Commands.{Command, Verify, Check, Play, Gen, command_of}
+use Rattle.wi_words.specs.Commands.{Command, Verify, Check, Play, Gen, Packets, Stack, command_of}
 use Rattle.wi_build.specs.Problems.{Problem}
 use Rattle.wi_query.specs.declared.query.Query.{Query}
 use Rattle.wi_quantity.specs.declared.vector.Part.{Part}
 use Rattle.wi_app.specs.Asked.{AreBadTexts, ForAsked, IsAsked}
 use Rattle.wi_app.specs.Certificates.{FromCertificate, FromStore, IsAcceptedText, IsCertificateFile, IsNamed, IsTooLargeToWrite}
-use Rattle.wi_app.specs.Decided.{EndsUndecided, FromTexts, IsAnswer}
+use Rattle.wi_app.specs.Decided.{EndsUndecided, FromTexts, IsAnswer, packets_in, report_in}
 use Rattle.wi_app.specs.Generated.{ForRing, FromRing, IsSummary}
+use Rattle.wi_app.specs.OnWire.{FromHex, IsShownHex, ShowsNoStack}
 use Rattle.wi_app.specs.Edges.{Untouched, PutAll, PutPart, PutNothing, SaysWhy}
 use Rattle.wi_app.specs.Shelves.{AllStand, FetchFailed, IsCalm, OthersStand}
 use Rattle.wi_app.specs.declared.refusal.Refusal.{Refusal}
@@ -49,7 +50,7 @@ HoldsNetwork (Some bytes) net = network_of bytes ≡ Ok net
 -- an answer to a command: where the shelf tells, over the files that it holds under the names, and with what it then holds
 abbrev pub IsAnswered : ShelfSeen → ShelfSeen → Command → ℕ → List ℕ → Type 0
 IsAnswered old new (Verify name query weights file) status text =
-    (net : Net) × (old.told ≡ true → HoldsNetwork (old.file name) net) × IsAnswer net query weights file new status text
+    (net : Net) × (old.told ≡ true → HoldsNetwork (old.file name) net) × IsAnswer report_in net query weights file new status text
 IsAnswered old new (Check name query file weights) status text =
     (net : Net) × (bytes : List ℕ) × (c : Certificate) × (old.told ≡ true → HoldsNetwork (old.file name) net) × IsCertificateFile old file bytes
     × IsAcceptedText net query weights bytes c × (status ≡ 0) × (text ≡ accepted_text (word_of c.shown.claim))
@@ -57,6 +58,9 @@ IsAnswered old new (Play name script k) status text =
     (net : Net) × (bytes : List ℕ) × (old.told ≡ true → HoldsNetwork (old.file name) net) × (old.told ≡ true → old.file script ≡ Some bytes)
     × IsPlay net k bytes text × (status ≡ 0)
 IsAnswered old new (Gen seed size) status text = IsSummary seed size text × (status ≡ 0)
+IsAnswered old new (Packets name query weights) status text =
+    (net : Net) × (old.told ≡ true → HoldsNetwork (old.file name) net) × IsAnswer packets_in net query weights None new status text
+IsAnswered old new (Stack hex) status text = IsShownHex hex text × (status ≡ 0)
 
 -- no words are answered but those of a command
 abbrev pub AreAnswered : ShelfSeen → ShelfSeen → Option Command → ℕ → List ℕ → Type 0
@@ -94,7 +98,8 @@ FromScript old new net name k (BadScript refused) =
 FromScript old new net name k Memory = IsCalm old new
 FromScript old new net name k refusal = ⊥
 
--- the network file is the cause, or, that being a network's, what is asked of it, or another file; or what is asked of a ring
+-- the network file is the cause, or, that being a network's, what is asked of it, or another file; or what is asked of a ring; or the
+-- text that is to be bytes
 abbrev pub FromCommand : ShelfSeen → ShelfSeen → Command → Refusal → Type 0
 FromCommand old new (Verify name query weights file) refusal =
     FromNetwork old new name refusal
@@ -108,6 +113,10 @@ FromCommand old new (Play name script k) refusal =
     FromNetwork old new name refusal
     ⊎ ((net : Net) × (old.told ≡ true → HoldsNetwork (old.file name) net) × FromScript old new net script k refusal)
 FromCommand old new (Gen seed size) refusal = IsCalm old new × FromRing seed size refusal
+FromCommand old new (Packets name query weights) refusal =
+    FromNetwork old new name refusal
+    ⊎ ((net : Net) × (old.told ≡ true → HoldsNetwork (old.file name) net) × FromTexts net query weights refusal × IsCalm old new)
+FromCommand old new (Stack hex) refusal = IsCalm old new × FromHex hex refusal
 
 -- the words are the cause, which are no command, or what they ask for
 abbrev pub FromWords : ShelfSeen → ShelfSeen → Option Command → Refusal → Type 0
@@ -150,13 +159,19 @@ abbrev pub Does : List (List ℕ) → ShelfSeen → ShelfSeen → SinkSeen → S
 Does words shelf_old shelf_new out_old out_new err_old err_new result =
     IsDone words shelf_old shelf_new out_old out_new err_old err_new result ⊎ IsRefused words shelf_old shelf_new out_old out_new err_old err_new result
 
--- a command can be answered: the shelf holds a network's file, and the texts are a query of it and weights, and it holds a
--- certificate, too, that is accepted; or it holds a script, too, that can be played. A ring can always be generated
+-- the shelf holds a network's file, and the texts are a query of it and weights
+abbrev pub CanBeAsked : ShelfSeen → List ℕ → List ℕ → Option (List ℕ) → Type 0
+CanBeAsked shelf name text weights = (net : Net) × HoldsNetwork (shelf.file name) net × ((query : Query) × (vector : List (List Part)) × IsAsked net text weights query vector)
+
+-- a command can be answered: texts can be asked of a network; or it is held with a certificate, too, that is accepted, or with a
+-- script that can be played. A ring can always be generated, and any text read as bytes
 abbrev pub CanBeAnswered : ShelfSeen → Command → Type 0
-CanBeAnswered shelf (Verify name text weights file) = (net : Net) × HoldsNetwork (shelf.file name) net × ((query : Query) × (vector : List (List Part)) × IsAsked net text weights query vector)
+CanBeAnswered shelf (Verify name text weights file) = CanBeAsked shelf name text weights
 CanBeAnswered shelf (Check name text file weights) = (net : Net) × HoldsNetwork (shelf.file name) net × ((bytes : List ℕ) × (c : Certificate) × IsCertificateFile shelf file bytes × IsAcceptedText net text weights bytes c)
 CanBeAnswered shelf (Play name script k) = (net : Net) × HoldsNetwork (shelf.file name) net × ((bytes text : List ℕ) × (shelf.file script ≡ Some bytes) × IsPlay net k bytes text)
 CanBeAnswered shelf (Gen seed size) = Unit {0}
+CanBeAnswered shelf (Packets name text weights) = CanBeAsked shelf name text weights
+CanBeAnswered shelf (Stack hex) = Unit {0}
 
 -- how a problem may end: with yes or no, with inconclusive where something may fail, or with a refusal that is due
 abbrev pub MayEnd : Problem → Option (List ℕ) → ℕ → Type 0
@@ -167,12 +182,18 @@ MayEnd problem file status =
     ⊎ EndsUndecided problem status
     ⊎ ((status ≡ 14) × IsNamed file × IsTooLargeToWrite problem)
 
+-- the statuses with which texts may end that are asked of a network
+abbrev pub IsAskedStatus : ShelfSeen → List ℕ → List ℕ → Option (List ℕ) → Option (List ℕ) → ℕ → Type 0
+IsAskedStatus shelf name text weights file status = (net : Net) × HoldsNetwork (shelf.file name) net × ForAsked net text weights (λ problem. MayEnd problem file status)
+
 -- the statuses with which a command may end that can be answered
 abbrev pub IsStatus : ShelfSeen → Command → ℕ → Type 0
-IsStatus shelf (Verify name text weights file) status = (net : Net) × HoldsNetwork (shelf.file name) net × ForAsked net text weights (λ problem. MayEnd problem file status)
+IsStatus shelf (Verify name text weights file) status = IsAskedStatus shelf name text weights file status
 IsStatus shelf (Check name text file weights) status = status ≡ 0
 IsStatus shelf (Play name script k) status = status ≡ 0
 IsStatus shelf (Gen seed size) status = (status ≡ 0) ⊎ ForRing seed size (λ problem. EndsUndecided problem status)
+IsStatus shelf (Packets name text weights) status = IsAskedStatus shelf name text weights None status
+IsStatus shelf (Stack hex) status = (status ≡ 0) ⊎ ((status ≡ 16) × ShowsNoStack hex)
 
 -- it ends with one of those, unless a call fails or memory runs out
 abbrev pub Completes : List (List ℕ) → ShelfSeen → ShelfSeen → SinkSeen → SinkSeen → SinkSeen → SinkSeen → ℕ → Type 0

@@ -7,9 +7,11 @@ ghost use Rattle.wi_app.specs.Run.{AreAnswered, FromCommand, FromWords, IsAnswer
 ghost use Rattle.wi_app.specs.Shelves.{IsCalm, OthersStand};
 
 use crate::check::check;
+use crate::packets::packets;
 use crate::play::play;
 use crate::refusal::Refusal;
 use crate::ring::summary_of_ring;
+use crate::stack::stack;
 use crate::verify::verify;
 use std::alloc::Global;
 use wi_base::Shelf;
@@ -71,5 +73,11 @@ fn answer_to<'a, S: Shelf>(
         } => check(alloc, network, query, certificate, weights, shelf),
         Command::Play { network, script, k } => play(alloc, network, script, k, shelf),
         Command::Gen { seed, size } => summary_of_ring(alloc, seed, size),
+        Command::Packets {
+            network,
+            query,
+            weights,
+        } => packets(alloc, network, query, weights, shelf),
+        Command::Stack { hex } => stack(alloc, hex),
     }
 }

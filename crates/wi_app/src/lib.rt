@@ -8,9 +8,11 @@ mod check;
 mod decided;
 mod fetch;
 mod laws;
+mod packets;
 mod play;
 mod refusal;
 mod ring;
+mod stack;
 mod texts;
 mod verify;
 

@@ -12,14 +12,15 @@ use wi_netjson::NetFault;
 use wi_quantity::{Weight, WeightFault};
 use wi_report::{
     bad_line_text, certificate_fault_text, network_fault_text, overflow_text, script_fault_text,
-    too_long_text, weight_fault_text,
+    stack_refused_text, too_long_text, weight_fault_text,
 };
 use wi_script::ScriptRefused;
 use wi_text::Text;
+use wi_wire::StackRefused;
 
 // What is said where the words are no command.
 const USAGE: &[u8] =
-    b"usage: whatif verify NETWORK QUERY [--weights W] [--certificate FILE]\n       whatif check NETWORK QUERY CERTIFICATE [--weights W]\n       whatif play NETWORK SCRIPT K\n       whatif gen SEED SIZE\n";
+    b"usage: whatif verify NETWORK QUERY [--weights W] [--certificate FILE]\n       whatif check NETWORK QUERY CERTIFICATE [--weights W]\n       whatif play NETWORK SCRIPT K\n       whatif gen SEED SIZE\n       whatif packets NETWORK QUERY [--weights W]\n       whatif stack HEX\n";
 
 // What is said where memory ran out.
 const NO_MEMORY: &[u8] = b"whatif: out of memory\n";
@@ -55,6 +56,10 @@ pub enum Refusal<'a> {
     NotAccepted(CheckRefused, usize),
     /// The certificate would be too long, so it isn't written.
     NotWritten,
+    /// The text isn't bytes in hexadecimal.
+    NotHex,
+    /// The bytes begin with no label stack.
+    BadStack(StackRefused),
     /// The call that was to print failed.
     CannotPrint,
     /// Memory ran out.
@@ -95,6 +100,9 @@ pub fn status_of(refusal: &Refusal<'_>) -> u8
         Refusal::BadLine(_) => 8,
         Refusal::NotAccepted(_, _) => 8,
         Refusal::NotWritten => 14,
+        Refusal::NotHex => 16,
+        Refusal::BadStack(StackRefused::Memory) => 11,
+        Refusal::BadStack(_) => 16,
         Refusal::Memory => 11,
     }
 }
@@ -137,6 +145,8 @@ pub fn say<E: Sink>(alloc: Global, refusal: Refusal<'_>, err: &mut E) -> u8
                 err,
             )
         }
+        Refusal::NotHex => put(b"wire: not hex\n", status, err),
+        Refusal::BadStack(refused) => put_made(stack_refused_text(alloc, &refused), status, err),
         Refusal::CannotPrint => put(b"whatif: cannot print\n", status, err),
         Refusal::Memory => put(NO_MEMORY, status, err),
     }

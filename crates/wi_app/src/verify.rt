@@ -1,6 +1,7 @@
 //! The report is made before the certificate is stored, and both before anything is printed: so whatever is refused has stored
-//! nothing, and what is printed has its certificate. The network is let go before anything is printed.
-ghost use Rattle.std.specs.Prelude.{◌≡◌, Ok, option_map, IfOk, IfErr};
+//! nothing, and what is printed has its certificate. The network is let go before anything is printed. What `packets` prints is
+//! made here, too: it asks the same, and prints more of the same answer.
+ghost use Rattle.std.specs.Prelude.{◌≡◌, Ok, option_map, IfOk, IfErr, IfSome};
 ghost use Rattle.wi_world.specs.Moves.{AreBounds};
 ghost use Rattle.wi_words.specs.Commands.{Verify};
 ghost use Rattle.wi_cert.specs.Text.{IsWritable};
@@ -8,7 +9,8 @@ ghost use Rattle.wi_build.specs.Problems.{problem_of};
 ghost use Rattle.wi_app.specs.Decided.{IsAnswer, IsReported, status_for};
 ghost use Rattle.wi_app.specs.Run.{FromCommand, IsAnswered, IsLeft};
 ghost use Rattle.wi_app.specs.Shelves.{IsCalm, OthersStand};
-ghost use Rattle.wi_app.specs.private.Stages.{FromAnswering, FromDeciding, IsKept, IsNotKept};
+ghost use Rattle.wi_report.specs.Reports.{IsKnownRun};
+ghost use Rattle.wi_app.specs.private.Stages.{FromAnswering, FromDeciding, IsKept, IsNotKept, printed_by};
 
 use crate::answer::Printed;
 use crate::certificate_file::store_certificate;
@@ -22,9 +24,18 @@ use wi_cert::Certificate;
 use wi_net::Network;
 use wi_quantity::Vector;
 use wi_query::Query;
-use wi_report::report;
+use wi_report::{packets as report_and_packets, report};
 use wi_text::Text;
+use wi_trace::Answer;
 use wi_world::Word;
+
+/// What is printed of an answer.
+#[derive(Clone, Copy)]
+pub enum Content {
+    Report,
+    /// The report, and then the packets of the run that it shows.
+    ReportAndPackets,
+}
 
 /// The report on a query of the network of a file, or why not. Runs are weighed by the weights, or by their effort alone. The
 /// certificate is stored under a name, if there is one.
@@ -44,17 +55,18 @@ pub fn verify<'a, S: Shelf>(
     ensures refused { IfErr result (λ refusal. FromCommand (S.seen shelf.old) (S.seen shelf.new) (Verify name.now query.now (option_map (λ s. s.now) weights.entry) (option_map (λ s. s.now) file.entry)) refusal) }
 {
     let net = network(alloc, name, shelf)?;
-    let printed = answer(alloc, &net, query, weights, file, shelf);
+    let printed = answer(alloc, &net, query, weights, Content::Report, file, shelf);
     drop(net);
     printed
 }
 
-// The report on a query of a network.
-fn answer<'a, S: Shelf>(
+/// What is printed of the answer to a query of a network, or why not. Its certificate is stored under a name, if there is one.
+pub fn answer<'a, S: Shelf>(
     alloc: Global,
     net: &Network,
     query: &str,
     weights: Option<&str>,
+    content: Content,
     file: Option<&'a str>,
     shelf: &mut S,
 ) -> Result<Printed, Refusal<'a>>
@@ -62,21 +74,30 @@ fn answer<'a, S: Shelf>(
     ensures others { OthersStand (option_map (λ s. s.now) file.entry) (S.seen shelf.old) (S.seen shelf.new) }
     ensures left { IfErr result (λ refusal. IsLeft refusal (S.seen shelf.old) (S.seen shelf.new)) }
     ensures calm { IfOk result (λ _. IsCalm (S.seen shelf.old) (S.seen shelf.new)) }
-    ensures answered { IfOk result (λ printed. IsAnswer net.now query.now (option_map (λ s. s.now) weights.entry) (option_map (λ s. s.now) file.entry) (S.seen shelf.new) printed.status printed.text) }
+    ensures answered { IfOk result (λ printed. IsAnswer (printed_by content) net.now query.now (option_map (λ s. s.now) weights.entry) (option_map (λ s. s.now) file.entry) (S.seen shelf.new) printed.status printed.text) }
     ensures refused { IfErr result (λ refusal. FromAnswering (S.seen shelf.old) (S.seen shelf.new) net.now query.now (option_map (λ s. s.now) weights.entry) (option_map (λ s. s.now) file.entry) refusal) }
 {
     let asked = read_texts(alloc, net, query, weights)?;
-    let printed = reported(alloc, net, &asked.query, &asked.vector, file, shelf);
+    let printed = reported(
+        alloc,
+        net,
+        &asked.query,
+        &asked.vector,
+        content,
+        file,
+        shelf,
+    );
     drop(asked);
     printed
 }
 
-// The report on a query that was read.
+// What is printed of the answer to a query that was read.
 fn reported<'a, S: Shelf>(
     alloc: Global,
     net: &Network,
     query: &Query,
     vector: &Vector,
+    content: Content,
     file: Option<&'a str>,
     shelf: &mut S,
 ) -> Result<Printed, Refusal<'a>>
@@ -85,16 +106,35 @@ fn reported<'a, S: Shelf>(
     ensures others { OthersStand (option_map (λ s. s.now) file.entry) (S.seen shelf.old) (S.seen shelf.new) }
     ensures left { IfErr result (λ refusal. IsLeft refusal (S.seen shelf.old) (S.seen shelf.new)) }
     ensures calm { IfOk result (λ _. IsCalm (S.seen shelf.old) (S.seen shelf.new)) }
-    ensures reported { IfOk result (λ printed. IsReported (problem_of net.now query.now vector.now) (option_map (λ s. s.now) file.entry) (S.seen shelf.new) printed.status printed.text) }
+    ensures reported { IfOk result (λ printed. IsReported (printed_by content) (problem_of net.now query.now vector.now) (option_map (λ s. s.now) file.entry) (S.seen shelf.new) printed.status printed.text) }
     ensures refused { IfErr result (λ refusal. FromDeciding (S.seen shelf.old) (S.seen shelf.new) (problem_of net.now query.now vector.now) (option_map (λ s. s.now) file.entry) refusal) }
 {
     let (answer, certificate) = decided(alloc, net, query, vector)?;
-    let text = report(alloc, net, query, vector, &answer);
+    let text = text_by(alloc, net, query, vector, &answer, content);
     let status = status_for(answer.word);
     drop(answer);
     let printed = stored(alloc, &certificate, file, status, text, shelf);
     drop(certificate);
     printed
+}
+
+// The text that is printed of an answer.
+fn text_by(
+    alloc: Global,
+    net: &Network,
+    query: &Query,
+    vector: &Vector,
+    answer: &Answer,
+    content: Content,
+) -> Result<Text, NoMemory>
+    requires bounds { AreBounds net.now query.now.bounds }
+    requires run { IfSome answer.now.run (IsKnownRun net.now) }
+    ensures { IfOk result (λ text. text ≡ printed_by content (problem_of net.now query.now vector.now) answer.now) }
+{
+    match content {
+        Content::Report => report(alloc, net, query, vector, answer),
+        Content::ReportAndPackets => report_and_packets(alloc, net, query, vector, answer),
+    }
 }
 
 // A report, whose certificate is stored if there is a name for it.

@@ -1,4 +1,5 @@
 pub mod ShownLemmas
 pub mod ReportLemmas
+pub mod PacketLemmas
 mod ReportRows
 pub mod CertificateLemmas

@@ -54,6 +54,12 @@ two_pieces r a b c one two f h = subst (λ x. OnOk r (two ≡ x)) (ap (λ x. x +
 pub three_pieces : {E : Type 0} (r : Result (Unit {0}) E) (a b c d one two three : List ℕ) → one ≡ a ++ b → two ≡ one ++ c → OnOk r (three ≡ two ++ d) → OnOk r (three ≡ a ++ ((b ++ c) ++ d))
 three_pieces r a b c d one two three f g h = two_pieces r a (b ++ c) d two three (g ∙ ap (λ x. x ++ c) f ∙ append_assoc a b c) h
 
+pub five_pieces : {E : Type 0} (r : Result (Unit {0}) E) (a b c d e f one two three four five : List ℕ) → one ≡ a ++ b → two ≡ one ++ c → three ≡ two ++ d → four ≡ three ++ e → OnOk r (five ≡ four ++ f)
+    → OnOk r (five ≡ a ++ ((((b ++ c) ++ d) ++ e) ++ f))
+five_pieces r a b c d e f one two three four five g h i j k =
+    let pair : two ≡ a ++ (b ++ c) = h ∙ ap (λ x. x ++ c) g ∙ append_assoc a b c in
+    three_pieces r a ((b ++ c) ++ d) e f three four five (i ∙ ap (λ x. x ++ d) pair ∙ append_assoc a (b ++ c) d) j k
+
 -- links of the network are known one by one
 pub link_at : (net : Net) (s : List LinkId) (i : ℕ) (e : LinkId) → list_all (is_link net) s ≡ true → Some e ≡ slice_get s i → is_link net e ≡ true
 link_at net s i e all is = all_get (is_link net) s i e all (sym is)

@@ -5,5 +5,8 @@ pub mod QueryFaults
 pub mod WeightFaults
 pub mod Reports
 pub mod Summaries
+pub mod Packets
+pub mod Stacks
 pub mod RefusedDecisions
 pub mod CertificateFaults
+pub mod private

@@ -3,21 +3,25 @@
 
 mod certificate_faults;
 mod network_faults;
+mod packet_lines;
 mod query_faults;
 mod refused_decisions;
 mod reports;
 mod script_faults;
 mod shown;
+mod stacks;
 mod state_lines;
 mod summaries;
 mod weight_faults;
 
 pub use certificate_faults::{bad_line_text, certificate_fault_text};
 pub use network_faults::network_fault_text;
+pub use packet_lines::packets;
 pub use query_faults::query_fault_text;
 pub use refused_decisions::{overflow_text, too_long_text};
 pub use reports::{accepted_text, report};
 pub use script_faults::script_fault_text;
+pub use stacks::{stack_refused_text, stack_text};
 pub use state_lines::states;
 pub use summaries::summary;
 pub use weight_faults::weight_fault_text;

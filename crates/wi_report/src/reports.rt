@@ -252,7 +252,8 @@ fn put_run(net: &Network, run: &Run, text: &mut Text) -> Result<(), NoMemory>
     put_steps(net, run.first, header, run.steps.as_slice(), text)
 }
 
-fn twin_of(header: &Header) -> Result<Header, NoMemory>
+/// Another header of the same labels.
+pub(crate) fn twin_of(header: &Header) -> Result<Header, NoMemory>
     ensures { IfOk result (λ twin. twin ≡ header.now) }
 {
     match header.twin() {
@@ -285,8 +286,8 @@ fn put_steps(
     Ok(())
 }
 
-// Where a step leads: the header changes, and the answer is the link that the packet is on then.
-fn hop(
+/// Where a step leads: the header changes, and the answer is the link that the packet is on then.
+pub(crate) fn hop(
     net: &Network,
     link: LinkId,
     header: &mut Header,

@@ -141,9 +141,9 @@ fn put_interface(net: &Network, interface: NameId, text: &mut Text) -> Result<()
     text.put_name(net.interface_name(interface))
 }
 
-// A label's name.
+/// Adds the name of a label of the network.
 #[tactic(auto, using(std::proofs::lemmas::Option::get_or_from_slice_get))]
-fn put_label(net: &Network, label: Label, text: &mut Text) -> Result<(), NoMemory>
+pub(crate) fn put_label(net: &Network, label: Label, text: &mut Text) -> Result<(), NoMemory>
     requires { label.0 < length net.now.labels }
     ensures { OnOk result (text.new ≡ text.old ++ label_shown net.now label) }
 {

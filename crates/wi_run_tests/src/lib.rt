@@ -16,6 +16,8 @@ mod edges;
 #[cfg(test)]
 mod faults;
 #[cfg(test)]
+mod packets;
+#[cfg(test)]
 mod plays;
 #[cfg(test)]
 mod ring;

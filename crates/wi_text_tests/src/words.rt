@@ -94,6 +94,38 @@ fn is_gen(
     Ok(())
 }
 
+fn is_packets(
+    rt: &impl Abort,
+    alloc: Global,
+    text: &str,
+    network: &str,
+    weights: Option<&str>,
+) -> Result<(), Fail> {
+    let words = words_of(alloc, text)?;
+    match command_of(alloc, words.as_slice())? {
+        Some(
+            Command::Packets {
+                network: n,
+                query,
+                weights: w,
+            },
+        ) => {
+            assert!(rt; n == network && query == "q" && w == weights, "{text}");
+        }
+        _ => assert!(rt; false, "{text}"),
+    }
+    Ok(())
+}
+
+fn is_stack(rt: &impl Abort, alloc: Global, text: &str, hex: &str) -> Result<(), Fail> {
+    let words = words_of(alloc, text)?;
+    match command_of(alloc, words.as_slice())? {
+        Some(Command::Stack { hex: h }) => assert!(rt; h == hex, "{text}"),
+        _ => assert!(rt; false, "{text}"),
+    }
+    Ok(())
+}
+
 fn is_no_command(rt: &impl Abort, alloc: Global, text: &str) -> Result<(), Fail> {
     let words = words_of(alloc, text)?;
     assert!(rt; command_of(alloc, words.as_slice())?.is_none(), "{text}");
@@ -234,6 +266,38 @@ fn seeds_and_sizes_are_found(rt: HostRuntime) -> Result<(), Fail> {
     Ok(())
 }
 
+// Words with the network and the weights of `packets`.
+const PACKETS: &[(&str, &str, Option<&str>)] = &[
+    ("whatif|packets|n|q", "n", None),
+    ("whatif|packets|n|q|--weights|w", "n", Some("w")),
+    ("whatif|packets|--weights=w|n|q", "n", Some("w")),
+    ("whatif|packets|--|-n|q", "-n", None),
+];
+
+#[test]
+fn words_of_packets_are_found(rt: HostRuntime) -> Result<(), Fail> {
+    for (text, network, weights) in PACKETS {
+        is_packets(&rt, rt.alloc(), text, network, *weights)?;
+    }
+    Ok(())
+}
+
+// Words with the text of `stack`, which is taken whatever it is.
+const STACKS: &[(&str, &str)] = &[
+    ("whatif|stack|0001e040", "0001e040"),
+    ("whatif|stack|", ""),
+    ("whatif|stack|0g", "0g"),
+    ("whatif|stack|--|-1", "-1"),
+];
+
+#[test]
+fn words_of_stack_are_found(rt: HostRuntime) -> Result<(), Fail> {
+    for (text, hex) in STACKS {
+        is_stack(&rt, rt.alloc(), text, hex)?;
+    }
+    Ok(())
+}
+
 const NO_COMMANDS: &[&str] = &[
     // No verb, or another one.
     "",
@@ -247,6 +311,8 @@ const NO_COMMANDS: &[&str] = &[
     "whatif|verify |n|q",
     "whatif|checks|n|q|c",
     "whatif|generate|1|4",
+    "whatif|packet|n|q",
+    "whatif|stacks|00",
     // Help.
     "whatif|--help",
     "whatif|-h",
@@ -268,6 +334,10 @@ const NO_COMMANDS: &[&str] = &[
     "whatif|check|n|q|c|d",
     "whatif|gen|1",
     "whatif|gen|1|4|5",
+    "whatif|packets|n",
+    "whatif|packets|n|q|w",
+    "whatif|stack",
+    "whatif|stack|00|00",
     // No number from 0 to 65,535.
     "whatif|play|n|s|",
     "whatif|play|n|s|65536",
@@ -310,6 +380,10 @@ const NO_COMMANDS: &[&str] = &[
     "whatif|check|n|q|c|--certificate|c",
     "whatif|play|n|s|1|--certificate|c",
     "whatif|gen|1|4|--weights|a",
+    "whatif|packets|n|q|--certificate|c",
+    "whatif|packets|n|q|--weights|a|--weights|b",
+    "whatif|stack|00|--weights|a",
+    "whatif|stack|-1",
     "whatif|verify|n|q|--=W",
     "whatif|verify|-n|q",
     "whatif|verify|n|-1",

@@ -1,12 +1,12 @@
 -- Stacks that are written and read entry by entry.
-use Rattle.std.proofs.Common.{◌≡◌, ℕ, suc, ◌+◌, ◌-◌, ◌<◌, Bool, true, false, nat_lt, nat_eq, List, [], ◌∷◌, ◌++◌, length, drop, get_or, refl, sym, ap, ◌∙◌, arith, append_assoc, length-append, length-drop}
+use Rattle.std.proofs.Common.{◌≡◌, ℕ, suc, ◌+◌, ◌-◌, ◌<◌, Bool, true, false, nat_lt, nat_eq, List, [], ◌∷◌, ◌++◌, length, drop, get_or, refl, sym, ap, ◌∙◌, arith, append_assoc, append-nil, length-append, length-drop}
 use Rattle.std.specs.List.{list_all}
 use Rattle.std.proofs.lemmas.Bool.{and_from, lt-ltb, eq-eqb, ne_eqb}
 use Rattle.std.proofs.lemmas.List.{drop_at, drop_more, length_push}
 use Rattle.wi_net.proofs.KeptLists.{all_push}
 use Rattle.wi_wire.specs.declared.entry.Entry.{Entry}
-use Rattle.wi_wire.specs.Stacks.{is_free, is_entry, entry_bytes, upper_bytes, stack_bytes, IsStack}
-use Rattle.wi_wire.specs.private.Entries.{s_of, FitsBits, IsFirst}
+use Rattle.wi_wire.specs.Stacks.{is_free, is_entry, entry_bytes, upper_bytes, s_of, each_entry, stack_bytes, IsStack}
+use Rattle.wi_wire.specs.private.Entries.{FitsBits, IsFirst}
 
 -- a bottom entry under upper ones
 stack_push : (upper : List Entry) (e : Entry) → stack_bytes (upper ++ e ∷ []) ≡ upper_bytes upper ++ entry_bytes 1 e
@@ -42,23 +42,24 @@ stack_read bytes rest after upper all e is_bottom fit before first free bottom p
       bytes_are = whole ∙ ap (λ (r : List ℕ). stack_bytes all ++ r) (sym left);
     }
 
--- the bytes of an entry stand before those of the entries below it, whichever it is
-bytes_step : (es : List Entry) (i : ℕ) (d : Entry) → i < length es → stack_bytes (drop i es) ≡ entry_bytes (s_of (nat_eq (i + 1) (length es))) (get_or es i d) ++ stack_bytes (drop (i + 1) es)
-bytes_step es i d within = ap stack_bytes (drop_more es i d within) ∙ go (drop (i + 1) es) refl
+-- what an entry is written as stands before what those below it are, whichever it is
+each_step : (written : ℕ → Entry → List ℕ) (es : List Entry) (i : ℕ) (d : Entry) → i < length es
+    → each_entry written (drop i es) ≡ written (s_of (nat_eq (i + 1) (length es))) (get_or es i d) ++ each_entry written (drop (i + 1) es)
+each_step written es i d within = ap (each_entry written) (drop_more es i d within) ∙ go (drop (i + 1) es) refl
   where
-    go : (rest : List Entry) → drop (i + 1) es ≡ rest → stack_bytes (get_or es i d ∷ rest) ≡ entry_bytes (s_of (nat_eq (i + 1) (length es))) (get_or es i d) ++ stack_bytes rest
+    go : (rest : List Entry) → drop (i + 1) es ≡ rest → each_entry written (get_or es i d ∷ rest) ≡ written (s_of (nat_eq (i + 1) (length es))) (get_or es i d) ++ each_entry written rest
     go [] left =
         let count : length es - (i + 1) ≡ 0 = sym (length-drop (i + 1) es) ∙ ap length left in
         let last : nat_eq (i + 1) (length es) ≡ true = eq-eqb (i + 1) (length es) (omega (arith, within, count)) in
-        rw last refl
+        rw last (sym (append-nil (written 1 (get_or es i d))))
     go (f ∷ rest) left =
         let count : length es - (i + 1) ≡ suc (length rest) = sym (length-drop (i + 1) es) ∙ ap length left in
         let upper : nat_eq (i + 1) (length es) ≡ false = ne_eqb (i + 1) (length es) (λ same. absurd (omega (arith, count, same))) in
         rw upper refl
 
--- a stack is written entry by entry
-pub write_next : (es : List Entry) (i : ℕ) (d : Entry) (made more : List ℕ) → i < length es → more ≡ made ++ entry_bytes (s_of (nat_eq (i + 1) (length es))) (get_or es i d)
-    → made ++ stack_bytes (drop i es) ≡ stack_bytes es → more ++ stack_bytes (drop (i + 1) es) ≡ stack_bytes es
-write_next es i d made more within push walk =
-    ap (λ (bytes : List ℕ). bytes ++ stack_bytes (drop (i + 1) es)) push ∙ append_assoc made (entry_bytes (s_of (nat_eq (i + 1) (length es))) (get_or es i d)) (stack_bytes (drop (i + 1) es))
-    ∙ ap (λ (bytes : List ℕ). made ++ bytes) (sym (bytes_step es i d within)) ∙ walk
+-- a stack is written entry by entry, whatever an entry is written as
+pub each_next : (written : ℕ → Entry → List ℕ) (es : List Entry) (i : ℕ) (d : Entry) (made more whole : List ℕ) → i < length es → more ≡ made ++ written (s_of (nat_eq (i + 1) (length es))) (get_or es i d)
+    → made ++ each_entry written (drop i es) ≡ whole → more ++ each_entry written (drop (i + 1) es) ≡ whole
+each_next written es i d made more whole within push walk =
+    ap (λ (text : List ℕ). text ++ each_entry written (drop (i + 1) es)) push ∙ append_assoc made (written (s_of (nat_eq (i + 1) (length es))) (get_or es i d)) (each_entry written (drop (i + 1) es))
+    ∙ ap (λ (text : List ℕ). made ++ text) (sym (each_step written es i d within)) ∙ walk

@@ -1,6 +1,6 @@
 -- Label stacks as bytes (RFC 3032, section 2.1). An entry is 32 bits, the highest first: the label 20, Exp 3, S 1, TTL 8. S is 1 in
 -- the bottom entry alone. Labels 0 to 15 are reserved; no stack here has one.
-use Rattle.std.specs.Prelude.{◌≡◌, ℕ, ◌+◌, ◌*◌, ◌/◌, ◌%◌, ◌^◌, ◌<◌, ◌&&◌, true, Bool, nat_le, nat_lt, List, [], ◌∷◌, ◌++◌, length}
+use Rattle.std.specs.Prelude.{◌≡◌, ℕ, ◌+◌, ◌*◌, ◌/◌, ◌%◌, ◌^◌, ◌<◌, ◌&&◌, true, Bool, if◌then◌else◌, nat_le, nat_lt, List, [], ◌∷◌, ◌++◌, length}
 use Rattle.std.specs.List.{flat_map, list_all}
 use Rattle.wi_wire.specs.declared.entry.Entry.{Entry}
 use Rattle.wi_wire.specs.declared.refused.StackRefused.{StackRefused}
@@ -26,11 +26,19 @@ entry_bytes s e = bytes_of (e.label * 2 ^ 12 + e.exp * 2 ^ 9 + s * 2 ^ 8 + e.ttl
 abbrev pub upper_bytes : List Entry → List ℕ
 upper_bytes entries = flat_map (entry_bytes 0) entries
 
+-- S, where it is told whether the entry is the bottom one
+abbrev pub s_of : Bool → ℕ
+s_of is_bottom = if is_bottom then 1 else 0
+
+-- what each entry of a stack is written as, top first, one behind the other: S is 1 in the bottom entry alone
+abbrev pub each_entry : (ℕ → Entry → List ℕ) → List Entry → List ℕ
+each_entry written [] = []
+each_entry written (e ∷ []) = written 1 e
+each_entry written (e ∷ f ∷ entries) = written 0 e ++ each_entry written (f ∷ entries)
+
 -- a stack, top first
 abbrev pub stack_bytes : List Entry → List ℕ
-stack_bytes [] = []
-stack_bytes (e ∷ []) = entry_bytes 1 e
-stack_bytes (e ∷ f ∷ entries) = entry_bytes 0 e ++ stack_bytes (f ∷ entries)
+stack_bytes entries = each_entry entry_bytes entries
 
 -- the bytes begin with a stack of these entries; the rest follows
 pub record IsStack (bytes : List ℕ) (entries : List Entry) (rest : List ℕ) : Type 0 where

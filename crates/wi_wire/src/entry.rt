@@ -1,8 +1,8 @@
 //! One entry is kept as its parts, since what is printed and what is compared are these. It costs eight bytes. In its 32 bits each
 //! part counts a power of two, so that putting it together and taking it apart are a sum and divisions, and take no memory.
 ghost use Rattle.std.specs.Prelude.{◌≡◌, ◌++◌, ◌∷◌, [], true, OnOk};
-ghost use Rattle.wi_wire.specs.Stacks.{is_free, is_entry};
-ghost use Rattle.wi_wire.specs.private.Entries.{s_of, word_of, IsWord};
+ghost use Rattle.wi_wire.specs.Stacks.{entry_bytes, is_free, is_entry, s_of};
+ghost use Rattle.wi_wire.specs.private.Entries.{word_of, IsWord};
 
 use wi_base::NoMemory;
 
@@ -14,6 +14,16 @@ pub struct Entry {
     /// From 0 to 7.
     pub exp: u8,
     pub ttl: u8,
+}
+
+impl Entry {
+    /// The entry's four bytes, in network order (RFC 3032, section 2.1). S is set in the bottom entry of a stack alone.
+    pub fn bytes(self, is_bottom: bool) -> [u8; 4]
+        requires { is_entry self ≡ true }
+        ensures { result ≡ entry_bytes (s_of is_bottom) self }
+    {
+        word_of(self, is_bottom).to_be_bytes()
+    }
 }
 
 // Labels below the first are reserved, and those above the last don't fit in 20 bits.
@@ -35,8 +45,8 @@ pub(crate) fn is_free(label: u32) -> bool
     FIRST_FREE <= label && label <= LAST_FREE
 }
 
-/// An entry as 32 bits.
-pub(crate) fn word_of(entry: Entry, is_bottom: bool) -> u32
+// An entry as 32 bits.
+fn word_of(entry: Entry, is_bottom: bool) -> u32
     requires { is_entry entry ≡ true }
     ensures { result ≡ word_of (s_of is_bottom) entry }
 {

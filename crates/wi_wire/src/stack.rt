@@ -1,10 +1,10 @@
 //! Bytes are read entry by entry, and what follows the bottom entry isn't looked at. Both ways cost in the number of entries.
 ghost use Rattle.std.specs.Prelude.{◌≡◌, ◌<◌, ◌++◌, true, length, drop, IfOk, IfErr, IfSome, IfNone, OnOk};
 ghost use Rattle.std.specs.List.{list_all};
-ghost use Rattle.wi_wire.specs.Stacks.{IsStack, IsNoStack, is_entry, entry_bytes, stack_bytes};
-ghost use Rattle.wi_wire.specs.private.Entries.{s_of, IsFirst};
+ghost use Rattle.wi_wire.specs.Stacks.{IsStack, IsNoStack, is_entry, entry_bytes, s_of, stack_bytes};
+ghost use Rattle.wi_wire.specs.private.Entries.{IsFirst};
 
-use crate::entry::{Entry, add_entry, entry_in, is_free, word_of};
+use crate::entry::{Entry, add_entry, entry_in, is_free};
 use crate::refused::StackRefused;
 use std::alloc::Global;
 use wi_base::NoMemory;
@@ -27,8 +27,7 @@ fn put_entry(bytes: &mut Vec<u8>, entry: Entry, is_bottom: bool) -> Result<(), N
     requires { is_entry entry ≡ true }
     ensures { OnOk result (bytes.new.items ≡ bytes.old.items ++ entry_bytes (s_of is_bottom) entry) }
 {
-    let word = word_of(entry, is_bottom);
-    bytes.extend_from_slice(&word.to_be_bytes())?;
+    bytes.extend_from_slice(&entry.bytes(is_bottom))?;
     Ok(())
 }
 

@@ -227,8 +227,7 @@ const VALUED: &[Valued] = &[
 
 fn has_values(alloc: Global, net: &Network, (labels, wanted): &Valued) -> Result<bool, Fail> {
     let header = Header::from_labels(alloc, labels)?;
-    let same = header.is_valid()
-        && are_known(net, labels)
+    let same = are_known(net, labels)
         && match (entries_of(alloc, net, &header, 64), wanted) {
             (Ok(entries), Ok(wanted)) => entries.as_slice() == *wanted,
             (Err(NoValue::Label(label)), Err(wanted)) => label == wanted.0,

@@ -1,8 +1,9 @@
 //! A value that isn't written as numbers are written is none, so each value has one name, and each entry at most one label of a
 //! class. Labels are looked up by these names, of which the network has an index: both ways cost in the number of labels.
 ghost use Rattle.std.specs.Prelude.{◌≡◌, true, IfOk, IfErr, option_map, string_bytes};
-ghost use Rattle.wi_labels.specs.Header.{is_valid_header};
+ghost use Rattle.std.specs.List.{list_all};
 ghost use Rattle.wi_net.specs.Net.{label_known, labels_known};
+ghost use Rattle.wi_wire.specs.Stacks.{is_entry};
 ghost use Rattle.wi_wire.specs.Values.{HasNoValue, value_in, value_of, entries_of};
 ghost use Rattle.wi_wire.specs.Values.{name_of, of_class, label_of, labels_of, header_of};
 ghost use Rattle.wi_wire.specs.private.Labelled.{entry_at, class_of};
@@ -22,9 +23,9 @@ pub fn entries_of(
     header: &Header,
     ttl: u8,
 ) -> Result<Vec<Entry>, NoValue>
-    requires valid { is_valid_header header.now ≡ true }
-    requires known { labels_known net.now header.now ≡ true }
+    requires { labels_known net.now header.now ≡ true }
     ensures entries { IfOk result (λ entries. entries_of net.now ttl header.now ≡ Ok entries.items) }
+    ensures fit { IfOk result (λ entries. list_all is_entry entries.items ≡ true) }
     ensures refused { IfErr result (HasNoValue net.now ttl header.now) }
 {
     let mut entries = Vec::new(alloc);

@@ -34,9 +34,18 @@ play = record (new_shape (codes "play")) { rules = operand (codes "NETWORK") ∷
 abbrev pub gen : Shape
 gen = record (new_shape (codes "gen")) { rules = operand (codes "SEED") ∷ operand (codes "SIZE") ∷ [] }
 
+-- `packets NETWORK QUERY [--weights W]`
+abbrev pub packets : Shape
+packets = record (new_shape (codes "packets")) { rules = operand (codes "NETWORK") ∷ operand (codes "QUERY") ∷ option (codes "weights") ∷ [] }
+
+-- `stack HEX`
+abbrev pub stack : Shape
+stack = record (new_shape (codes "stack")) { rules = operand (codes "HEX") ∷ [] }
+
 -- the program's commands, one of which has to be given
 abbrev pub program : App
-program = with_subcommand (with_subcommand (with_subcommand (with_subcommand (record { top = record (new_shape (codes "whatif")) { subcommand_required = true }; subs = [] }) verify) check) play) gen
+program =
+    with_subcommand (with_subcommand (with_subcommand (with_subcommand (with_subcommand (with_subcommand (record { top = record (new_shape (codes "whatif")) { subcommand_required = true }; subs = [] }) verify) check) play) gen) packets) stack
 
 -- clap takes the words: its parse has no fault
 abbrev pub is_empty : {X : Type 0} → List X → Bool
@@ -47,12 +56,14 @@ abbrev pub are_taken : List Text → Bool
 are_taken words = is_empty (fault_of program words)
 
 -- a command, with what was given to it: the names of files, the texts of a query and of weights, how many risk groups may fail, the
--- seed and the size of a ring
+-- seed and the size of a ring, a text that is to be bytes
 pub data Command : Type 0 where
   Verify : (network query : Text) (weights certificate : Option Text) → Command
   Check : (network query certificate : Text) (weights : Option Text) → Command
   Play : (network script : Text) (k : ℕ) → Command
   Gen : (seed size : ℕ) → Command
+  Packets : (network query : Text) (weights : Option Text) → Command
+  Stack : (hex : Text) → Command
 
 -- a number from a least to a most one: a decimal without leading zeros
 abbrev pub number_within : ℕ → ℕ → Text → Option ℕ
@@ -92,12 +103,20 @@ play_of rows =
 abbrev pub gen_of : List Row → Option Command
 gen_of rows = option_and_then (λ seed. option_map (λ size. Gen seed size) (option_and_then size_in (first_of (codes "SIZE") rows))) (option_and_then seed_in (first_of (codes "SEED") rows))
 
+abbrev pub packets_of : List Row → Option Command
+packets_of rows = option_and_then (λ network. option_map (λ query. Packets network query (first_of (codes "weights") rows)) (first_of (codes "QUERY") rows)) (first_of (codes "NETWORK") rows)
+
+abbrev pub stack_of : List Row → Option Command
+stack_of rows = option_map (λ hex. Stack hex) (first_of (codes "HEX") rows)
+
 abbrev pub command_named : Text × List Row → Option Command
 command_named met =
     if bytes_eq met.0 (codes "verify") then verify_of met.1
     else if bytes_eq met.0 (codes "check") then check_of met.1
     else if bytes_eq met.0 (codes "play") then play_of met.1
     else if bytes_eq met.0 (codes "gen") then gen_of met.1
+    else if bytes_eq met.0 (codes "packets") then packets_of met.1
+    else if bytes_eq met.0 (codes "stack") then stack_of met.1
     else None
 
 -- the command that the words are, if they are one. The first word is the program's name and isn't looked at

@@ -4,7 +4,7 @@ ghost use Rattle.std.specs.Prelude.{◌≡◌, IfOk, false};
 ghost use Rattle.clap.specs.Words.{app_of, rule_of, shape_of};
 ghost use Rattle.clap.specs.Simple.{with_subcommand};
 ghost use Rattle.clap.specs.declared.builder.command.Command.TheViews.{out-Command as fields_of};
-ghost use Rattle.wi_words.specs.Commands.{check, gen, operand, option, play, program, verify};
+ghost use Rattle.wi_words.specs.Commands.{check, gen, operand, option, packets, play, program, stack, verify};
 
 use clap::{Arg, ArgAction, Command};
 use std::alloc::{AllocError, Global};
@@ -85,6 +85,31 @@ fn generate<'a>(alloc: Global) -> Result<Command<'a>, AllocError>
     Ok(command)
 }
 
+// `packets NETWORK QUERY [--weights W]`
+fn packets<'a>(alloc: Global) -> Result<Command<'a>, AllocError>
+    ensures shape { IfOk result (λ c. shape_of c ≡ packets) }
+    ensures local { IfOk result (λ c. (fields_of c).has_globals ≡ false) }
+{
+    let network = operand(alloc, "NETWORK");
+    let query = operand(alloc, "QUERY");
+    let weights = option(alloc, "weights");
+    let command = Command::new(alloc, "packets")
+        .arg(network)?
+        .arg(query)?
+        .arg(weights)?;
+    Ok(command)
+}
+
+// `stack HEX`
+fn stack<'a>(alloc: Global) -> Result<Command<'a>, AllocError>
+    ensures shape { IfOk result (λ c. shape_of c ≡ stack) }
+    ensures local { IfOk result (λ c. (fields_of c).has_globals ≡ false) }
+{
+    let hex = operand(alloc, "HEX");
+    let command = Command::new(alloc, "stack").arg(hex)?;
+    Ok(command)
+}
+
 // The program with commands on files of a user's: these are added to one without commands.
 fn with_asking<'a>(alloc: Global, whole: Command<'a>) -> Result<Command<'a>, AllocError>
     ensures { IfOk result (λ c. app_of c ≡ with_subcommand (with_subcommand (app_of whole.entry) verify) check) }
@@ -103,10 +128,20 @@ fn with_trying<'a>(alloc: Global, whole: Command<'a>) -> Result<Command<'a>, All
     Ok(whole.subcommand(play)?.subcommand(generate)?)
 }
 
+// A program with the commands on label stacks added.
+fn with_wire<'a>(alloc: Global, whole: Command<'a>) -> Result<Command<'a>, AllocError>
+    ensures { IfOk result (λ c. app_of c ≡ with_subcommand (with_subcommand (app_of whole.entry) packets) stack) }
+{
+    let packets = packets(alloc)?;
+    let stack = stack(alloc)?;
+    Ok(whole.subcommand(packets)?.subcommand(stack)?)
+}
+
 /// The program, whose commands are its subcommands.
 pub fn program<'a>(alloc: Global) -> Result<Command<'a>, AllocError>
     ensures { IfOk result (λ c. app_of c ≡ program) }
 {
     let whole = Command::new(alloc, "whatif").subcommand_required(true);
-    with_trying(alloc, with_asking(alloc, whole)?)
+    let whole = with_trying(alloc, with_asking(alloc, whole)?)?;
+    with_wire(alloc, whole)
 }

@@ -45,6 +45,16 @@ pub enum Command<'a> {
         seed: u64,
         size: u32,
     },
+    /// `packets NETWORK QUERY [--weights W]`: the name of the network file, the text of the query, and that of the weights.
+    Packets {
+        network: &'a str,
+        query: &'a str,
+        weights: Option<&'a str>,
+    },
+    /// `stack HEX`: the text that is to be bytes, whatever it is.
+    Stack {
+        hex: &'a str,
+    },
 }
 
 /// The command that the words are, if they are one. The first word is the program's name and isn't looked at; asking for

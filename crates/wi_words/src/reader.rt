@@ -4,7 +4,7 @@ ghost use Rattle.std.specs.Prelude.{◌≡◌, ◌≤◌, ◌^◌, true, None, I
 ghost use Rattle.std.specs.Str.Parse.{digits_value};
 ghost use Rattle.wi_text.specs.Characters.{is_number};
 ghost use Rattle.clap.specs.Words.{first_of, found_of, rows_of, subcommand_rows_of};
-ghost use Rattle.wi_words.specs.Commands.{IsFit, check_of, command_named, gen_of, most_failed, number_within, play_of, seed_in, size_in, verify_of};
+ghost use Rattle.wi_words.specs.Commands.{IsFit, check_of, command_named, gen_of, most_failed, number_within, packets_of, play_of, seed_in, size_in, stack_of, verify_of};
 ghost use Rattle.wi_words.specs.Shown.{shown};
 
 use crate::Command;
@@ -121,6 +121,28 @@ fn gen_of<'a>(matches: &ArgMatches<'a>) -> Option<Command<'a>>
     Some(Command::Gen { seed, size })
 }
 
+fn packets_of<'a>(matches: &ArgMatches<'a>) -> Option<Command<'a>>
+    ensures command { option_map shown result ≡ packets_of (rows_of (found_of matches.now)) }
+    ensures fit { IfSome result (λ c. IsFit (shown c)) }
+{
+    let network = value_of(matches, "NETWORK")?;
+    let query = value_of(matches, "QUERY")?;
+    let weights = value_of(matches, "weights");
+    Some(Command::Packets {
+        network,
+        query,
+        weights,
+    })
+}
+
+fn stack_of<'a>(matches: &ArgMatches<'a>) -> Option<Command<'a>>
+    ensures command { option_map shown result ≡ stack_of (rows_of (found_of matches.now)) }
+    ensures fit { IfSome result (λ c. IsFit (shown c)) }
+{
+    let hex = value_of(matches, "HEX")?;
+    Some(Command::Stack { hex })
+}
+
 // The command of the subcommand with this name.
 fn command_named<'a>(name: &str, matches: &ArgMatches<'a>) -> Option<Command<'a>>
     ensures command { option_map shown result ≡ command_named (name.now, rows_of (found_of matches.now)) }
@@ -131,6 +153,8 @@ fn command_named<'a>(name: &str, matches: &ArgMatches<'a>) -> Option<Command<'a>
         "check" => check_of(matches),
         "play" => play_of(matches),
         "gen" => gen_of(matches),
+        "packets" => packets_of(matches),
+        "stack" => stack_of(matches),
         _ => None,
     }
 }

@@ -2,16 +2,20 @@
 use Rattle.std.specs.Prelude.{◌≡◌, ◌⊎◌, ℕ, ◌<◌, ◌≤◌, true, List, length, Option, Some, None}
 use Rattle.wi_base.specs.Shelf.{ShelfSeen, IsLonger}
 use Rattle.wi_net.specs.Net.{Net}
+use Rattle.wi_trace.specs.declared.answer.Answer.{Answer}
 use Rattle.wi_build.specs.Problems.{Problem, IsProblem}
 use Rattle.wi_cert.specs.declared.certificate.Certificate.{Certificate}
 use Rattle.wi_cert.specs.Text.{IsText, closed_text}
 use Rattle.wi_accept.specs.Answers.{IsDecided, answer_of}
 use Rattle.wi_accept.specs.Causes.{IsAccepted, IsRefusal}
+use Rattle.wi_app.specs.declared.verify.Content.{Content}
+use Rattle.wi_app.specs.declared.verify.Content.TheVariants.{Report, ReportAndPackets}
 use Rattle.wi_app.specs.declared.refusal.Refusal.{Refusal}
-use Rattle.wi_app.specs.declared.refusal.Refusal.TheVariants.{CannotRead, CannotWrite, Script as BadScript, LargeCertificate, NotAccepted, NotWritten, Memory}
+use Rattle.wi_app.specs.declared.refusal.Refusal.TheVariants.{CannotRead, CannotWrite, Script as BadScript, LargeCertificate, NotAccepted, NotWritten, BadStack, Memory}
 use Rattle.wi_app.specs.Asked.{AreBadTexts, ForAsked}
 use Rattle.wi_app.specs.Certificates.{FromCertificate, FromStore, IsNamed}
-use Rattle.wi_app.specs.Decided.{FromDecision, FromTexts}
+use Rattle.wi_app.specs.Decided.{FromDecision, FromTexts, packets_in, report_in}
+use Rattle.wi_app.specs.OnWire.{IsRefusedStack}
 use Rattle.wi_app.specs.Run.{IsBadScript}
 use Rattle.wi_app.specs.Shelves.{FetchFailed, IsCalm, StoreFailed}
 
@@ -22,7 +26,19 @@ FromBytes net k bytes (BadScript refused) = IsBadScript net k bytes refused
 FromBytes net k bytes Memory = Unit {0}
 FromBytes net k bytes refusal = ⊥
 
--- ---- verify
+-- ---- stack
+-- bytes are the cause, which begin with no stack
+abbrev pub FromStack : List ℕ → Refusal → Type 0
+FromStack bytes (BadStack refused) = IsRefusedStack bytes refused
+FromStack bytes Memory = Unit {0}
+FromStack bytes refusal = ⊥
+
+-- ---- verify and packets
+-- what is printed of an answer
+abbrev pub printed_by : Content → Problem → Answer → List ℕ
+printed_by Report = report_in
+printed_by ReportAndPackets = packets_in
+
 -- the texts are the cause, or what both ask, or its certificate is to be stored and can't be
 abbrev pub FromAnswering : ShelfSeen → ShelfSeen → Net → List ℕ → Option (List ℕ) → Option (List ℕ) → Refusal → Type 0
 FromAnswering old new net text weights file refusal = (FromTexts net text weights refusal × IsCalm old new) ⊎ ForAsked net text weights (λ problem. FromStore old new problem file refusal)

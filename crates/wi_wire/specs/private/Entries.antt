@@ -1,11 +1,7 @@
 -- Entries as the code that writes and reads them speaks of them.
-use Rattle.std.specs.Prelude.{◌≡◌, ℕ, ◌+◌, ◌*◌, ◌^◌, ◌<◌, Bool, if◌then◌else◌, List, ◌++◌}
+use Rattle.std.specs.Prelude.{◌≡◌, ℕ, ◌+◌, ◌*◌, ◌^◌, ◌<◌, Bool, List, ◌++◌}
 use Rattle.wi_wire.specs.declared.entry.Entry.{Entry}
-use Rattle.wi_wire.specs.Stacks.{entry_bytes}
-
--- S, where it is told whether the entry is the bottom one
-abbrev pub s_of : Bool → ℕ
-s_of is_bottom = if is_bottom then 1 else 0
+use Rattle.wi_wire.specs.Stacks.{entry_bytes, s_of}
 
 -- an entry's 32 bits, whose S is given
 abbrev pub word_of : ℕ → Entry → ℕ

@@ -1,4 +1,4 @@
-use Rattle.wi_app.proofs.Outcomes.{ring_answered}
+use Rattle.wi_app.proofs.Outcomes.{ring_answered, stack_answered}
 use Rattle.wi_app.proofs.answer.answer_to.Goals as goal
 
 pub returns-in-Verify-clause-refused : goal.returns-in-Verify-clause-refused
@@ -16,3 +16,13 @@ returns-in-Play-clause-refused g c = rw c.in-Play.is c.play.ensures.refused
 pub returns-in-Gen-clause-answered : goal.returns-in-Gen-clause-answered
 returns-in-Gen-clause-answered g c =
     rw c.in-Gen.is (ring_answered c.summary_of_ring.result (g.S.Shelf.seen c.args.shelf.now) (g.S.Shelf.seen c.args.shelf.now) c.in-Gen.seed c.in-Gen.size c.summary_of_ring.ensures.status c.summary_of_ring.ensures.summary)
+
+pub returns-in-Packets-clause-answered : goal.returns-in-Packets-clause-answered
+returns-in-Packets-clause-answered g c = rw c.in-Packets.is c.packets.ensures.answered
+
+pub returns-in-Packets-clause-refused : goal.returns-in-Packets-clause-refused
+returns-in-Packets-clause-refused g c = rw c.in-Packets.is c.packets.ensures.refused
+
+pub returns-in-Stack-clause-answered : goal.returns-in-Stack-clause-answered
+returns-in-Stack-clause-answered g c =
+    rw c.in-Stack.is (stack_answered c.stack.result (g.S.Shelf.seen c.args.shelf.now) (g.S.Shelf.seen c.args.shelf.now) c.in-Stack.hex.now c.stack.ensures.status c.stack.ensures.shown)

@@ -1,4 +1,4 @@
-use Rattle.std.proofs.Common.{Result, Err, subst}
+use Rattle.std.proofs.Common.{Err, subst}
 use Rattle.wi_cert.specs.Reading.{Finishes}
 use Rattle.wi_app.proofs.Parts.{fed_badly, fed_text}
 use Rattle.wi_app.proofs.certificate_file.fetch_certificate.Goals as goal

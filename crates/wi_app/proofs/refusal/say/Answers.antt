@@ -44,3 +44,11 @@ returns-in-NotAccepted-clause-said g c =
 pub returns-in-NotWritten-clause-said : goal.returns-in-NotWritten-clause-said
 returns-in-NotWritten-clause-said g c =
     said_words _ _ _ (g.E.Sink.seen c.args.err.now) (g.E.Sink.seen c.put-in-NotWritten.new.err) _ c.in-NotWritten.is c.status_of-status.ensures c.put-in-NotWritten.ensures.said
+
+pub returns-in-NotHex-clause-said : goal.returns-in-NotHex-clause-said
+returns-in-NotHex-clause-said g c =
+    said_words _ _ _ (g.E.Sink.seen c.args.err.now) (g.E.Sink.seen c.put-in-NotHex.new.err) _ c.in-NotHex.is c.status_of-status.ensures c.put-in-NotHex.ensures.said
+
+pub returns-in-BadStack-clause-said : goal.returns-in-BadStack-clause-said
+returns-in-BadStack-clause-said g c =
+    said_made _ _ _ (g.E.Sink.seen c.args.err.now) (g.E.Sink.seen c.put_made-in-BadStack.new.err) _ c.in-BadStack.is c.status_of-status.ensures tt (c.put_made-in-BadStack.ensures.said _ c.stack_refused_text.ensures)

@@ -1,4 +1,5 @@
 use Rattle.std.proofs.Common.{inl, refl}
+use Rattle.wi_app.specs.private.Stages.{printed_by}
 use Rattle.wi_app.proofs.Outcomes.{asked_answered, asked_refused, err_as}
 use Rattle.wi_app.proofs.verify.answer.Goals as goal
 
@@ -7,7 +8,7 @@ returns-in_err-asked-clause-refused g c = err_as _ _ _ c.from_residual.ensures.1
 
 pub returns-clause-answered : goal.returns-clause-answered
 returns-clause-answered g c =
-    asked_answered c.reported-printed.result _ _ _ _ (g.S.Shelf.seen c.reported-printed.new.shelf) _ _ c.in_ok-asked.ensures.read c.reported-printed.ensures.reported
+    asked_answered c.reported-printed.result (printed_by c.args.content) _ _ _ _ (g.S.Shelf.seen c.reported-printed.new.shelf) _ _ c.in_ok-asked.ensures.read c.reported-printed.ensures.reported
 
 pub returns-clause-refused : goal.returns-clause-refused
 returns-clause-refused g c =

@@ -1,5 +1,6 @@
-use Rattle.wi_wire.proofs.ReadingLemmas.{write_next}
+use Rattle.wi_wire.specs.Stacks.{entry_bytes}
+use Rattle.wi_wire.proofs.ReadingLemmas.{each_next}
 use Rattle.wi_wire.proofs.stack.write_stack.Goals as goal
 
 pub loop-i-preserved : goal.loop-i-preserved
-loop-i-preserved c = write_next _ _ (record { label = 0; exp = 0; ttl = 0 }) _ _ c.loop-i-test.true c.in_ok-put_entry.ensures c.loop-i.invariant
+loop-i-preserved c = each_next entry_bytes _ _ (record { label = 0; exp = 0; ttl = 0 }) _ _ _ c.loop-i-test.true c.in_ok-put_entry.ensures c.loop-i.invariant

@@ -1,0 +1,119 @@
+-- How far branches were opened.
+use Rattle.std.specs.Prelude.{◌≡◌, ℕ, ◌<◌, ◌≤◌, true, false, List, [], ◌∷◌, ◌++◌, length, Option, Some, None, IfSome, option_map}
+use Rattle.wi_net.specs.declared.bounds.Bounds.{Bounds}
+use Rattle.wi_net.specs.Net.{Net}
+use Rattle.wi_world.specs.declared.answer.Word.TheVariants.{Yes, No}
+use Rattle.wi_world.specs.Runs.{verdict_of}
+use Rattle.wi_quantity.specs.Weighing.{components}
+use Rattle.wi_trace.specs.declared.answer.Answer.{Answer}
+use Rattle.wi_cert.specs.declared.closed.Closed.{Closed as Leaf}
+use Rattle.wi_trees.specs.Branches.{IsBranch, CanSplit, with_down, with_up, split_of}
+use Rattle.wi_build.specs.Problems.{Problem, IsAnswering}
+use Rattle.wi_decide.specs.declared.searching.LeastRun.{LeastRun}
+use Rattle.wi_decide.specs.declared.refused.SearchRefused.{SearchRefused}
+use Rattle.wi_decide.specs.declared.refused.SearchRefused.TheVariants as search
+use Rattle.wi_decide.specs.Searches.{IsUnsearched}
+use Rattle.wi_branch.specs.declared.opened.Opened.{Opened}
+use Rattle.wi_branch.specs.declared.opened.Opened.TheVariants as opened
+use Rattle.wi_branch.specs.declared.refused.ExactRefused.{ExactRefused}
+use Rattle.wi_branch.specs.declared.refused.ExactRefused.TheVariants.{Overflow, TooLong, NodeLimit, Memory}
+use Rattle.wi_branch.specs.declared.finding.Told.{Told}
+use Rattle.wi_branch.specs.declared.finding.Told.TheVariants.{Nothing, Fitting, Splitting}
+use Rattle.wi_branch.specs.Walks.{within, is_fitting, IsNode, IsWalk}
+
+-- the node of what a branch tells
+abbrev pub node_of : Told → Opened
+node_of (Nothing leaf) = opened.Closed leaf
+node_of (Fitting found leaf) = opened.Fits found.weight leaf
+node_of (Splitting e) = opened.Split e
+
+-- a matching moving run that fits
+pub record IsBest (problem : Problem) (found : LeastRun) : Type 0 where
+  pub answers : IsAnswering problem (components found.weight) found.run
+  pub fitting : is_fitting (verdict_of problem.net problem.bounds found.run) ≡ true
+
+abbrev pub IsToldWell : Problem → Told → Type 0
+IsToldWell problem (Nothing leaf) = Unit {0}
+IsToldWell problem (Fitting found leaf) = IsBest problem found
+IsToldWell problem (Splitting e) = CanSplit problem.net problem.bounds e
+
+-- what a least run tells: whether it fits, and else by what link to split
+abbrev pub IsJudged : Net → Bounds → LeastRun → Told → Type 0
+IsJudged net branch found (Nothing leaf) = ⊥
+IsJudged net branch found (Fitting shown leaf) = (shown ≡ found) × (is_fitting (verdict_of net branch found.run) ≡ true)
+IsJudged net branch found (Splitting e) =
+    (is_fitting (verdict_of net branch found.run) ≡ false) × (split_of net branch found.run ≡ Some e) × CanSplit net branch e
+
+-- where a run fits, its leaf is this
+abbrev pub KeepsLeaf : Leaf → Told → Type 0
+KeepsLeaf closed (Nothing leaf) = ⊥
+KeepsLeaf closed (Fitting found leaf) = leaf ≡ closed
+KeepsLeaf closed (Splitting e) = Unit {0}
+
+-- a branch that is split may have one more risk group fail
+abbrev pub MaySplit : Bounds → Told → Type 0
+MaySplit branch (Nothing leaf) = Unit {0}
+MaySplit branch (Fitting found leaf) = Unit {0}
+MaySplit branch (Splitting e) = 0 < branch.k
+
+-- the best run so far, the nodes, and the branches left, the next one first
+pub record Opening : Type 0 where
+  pub best : Option LeastRun
+  pub opened : List Opened
+  pub left : List Bounds
+
+abbrev pub cut_of : Option LeastRun → Option (List ℕ)
+cut_of best = option_map (λ found. components found.weight) best
+
+-- once a branch was opened
+abbrev pub after_told : Net → Opening → Bounds → Told → Opening
+after_told net now branch (Nothing leaf) = record now { opened = now.opened ++ opened.Closed leaf ∷ [] }
+after_told net now branch (Fitting found leaf) = record now { best = Some found; opened = now.opened ++ opened.Fits found.weight leaf ∷ [] }
+after_told net now branch (Splitting e) =
+    record now { opened = now.opened ++ opened.Split e ∷ []; left = with_down net branch e ∷ with_up net branch e ∷ now.left }
+
+-- each is a branch of the whole
+abbrev pub AreBranches : Net → Bounds → List Bounds → Type 0
+AreBranches net whole [] = Unit {0}
+AreBranches net whole (branch ∷ left) = IsBranch net whole branch × AreBranches net whole left
+
+-- what holds as long as branches are opened
+pub record IsOpening (problem : Problem) (limit : ℕ) (now : Opening) : Type 0 where
+  pub walk : IsWalk problem None now.opened (problem.bounds ∷ []) (cut_of now.best) now.left
+  pub branches : AreBranches problem.net problem.bounds now.left
+  pub best : IfSome now.best (λ found. (branch : Bounds) × IsBranch problem.net problem.bounds branch × IsBest (within problem branch) found)
+  pub few : length now.opened ≤ limit
+
+-- and once none is left
+abbrev pub IsDone : Problem → ℕ → Opening → Type 0
+IsDone problem limit now = IsOpening problem limit now × (now.left ≡ [])
+
+-- once a branch was opened: what it told
+pub record IsOpenedAt (problem : Problem) (branch : Bounds) (now after : Opening) : Type 0 where
+  pub told : Told
+  pub after_is : after ≡ after_told problem.net now branch told
+  pub node : IsNode (within problem branch) (cut_of now.best) (node_of told)
+  pub well : IsToldWell (within problem branch) told
+
+-- why a branch can't be opened, after these nodes
+abbrev pub IsStoppedAt : Problem → Option (List ℕ) → List Opened → ExactRefused → Type 0
+IsStoppedAt problem cut nodes (Overflow opened head target w) = (opened ≡ nodes) × IsUnsearched problem cut (search.Overflow head target w)
+IsStoppedAt problem cut nodes (TooLong opened n) = (opened ≡ nodes) × IsUnsearched problem cut (search.TooLong n)
+IsStoppedAt problem cut nodes (NodeLimit opened) = ⊥
+IsStoppedAt problem cut nodes Memory = Unit {0}
+
+-- the refusal of a search, with the nodes before it
+abbrev pub stopped_by : List Opened → SearchRefused → ExactRefused
+stopped_by opened (search.Overflow head target w) = Overflow opened head target w
+stopped_by opened (search.TooLong n) = TooLong opened n
+stopped_by opened search.Memory = Memory
+
+-- the answer with a best run, or without one
+abbrev pub answer_with : Net → Bounds → Option LeastRun → Answer
+answer_with net whole None = record { word = No; weight = None; run = None; verdict = None }
+answer_with net whole (Some found) = record {
+  word = Yes;
+  weight = Some found.weight;
+  run = Some found.run;
+  verdict = Some (verdict_of net whole found.run);
+}

@@ -1,0 +1,139 @@
+//! Branches wait on a stack, and none is copied: a child is made when its parent is split, and let go when it was opened. The best
+//! run is kept whole, and each leaf as it was found.
+ghost use Rattle.std.specs.Prelude.{◌≡◌, ◌∷◌, ◌++◌, ◌<◌, [], Some, None, length, option_map, MatchOption, OnOk, IfOk};
+ghost use Rattle.wi_quantity.specs.Weighing.{components};
+ghost use Rattle.wi_world.specs.Moves.{AreBounds};
+ghost use Rattle.wi_branch.specs.private.Courses.{MaySplit, after_told, cut_of};
+
+use crate::branches::{with_down, with_up};
+use crate::finding::Told;
+use crate::opened::Opened;
+use std::alloc::Global;
+use std::marker::Model;
+use wi_base::NoMemory;
+use wi_cert::Closed;
+use wi_decide::LeastRun;
+use wi_net::{Bounds, LinkId, Network};
+use wi_quantity::Weight;
+
+/// The best run that fitted so far, the nodes in preorder, and the branches that are left.
+#[derive(Drop)]
+pub(crate) struct Course {
+    pub(crate) best: Option<LeastRun>,
+    pub(crate) opened: Vec<Opened>,
+    // The next one last.
+    left: Vec<Bounds>,
+}
+
+impl Model for Course {
+    ghost use Rattle.std.specs.Prelude.{reverse};
+    ghost use Rattle.wi_branch.specs.private.Courses.{Opening};
+
+    ghost Value = { Opening };
+
+    ghost view = { λ c. record { best = c.best; opened = c.opened.items; left = reverse c.left.items } };
+}
+
+impl Course {
+    /// Nothing was opened yet.
+    pub(crate) fn new(alloc: Global, whole: Bounds) -> Result<Course, NoMemory>
+        ensures { IfOk result (λ course. course ≡ record { best = None; opened = []; left = whole ∷ [] }) }
+    {
+        let mut left = Vec::new(alloc);
+        put(&mut left, whole)?;
+        Ok(Course {
+            best: None,
+            opened: Vec::new(alloc),
+            left,
+        })
+    }
+
+    /// How many nodes were opened. It takes no memory.
+    pub(crate) fn len(&self) -> usize
+        ensures { result ≡ length self.now.opened }
+    {
+        self.opened.len()
+    }
+
+    /// The weight of the best run so far.
+    pub(crate) fn cut(&self) -> Option<Weight>
+        ensures { option_map components result ≡ cut_of self.now.best }
+    {
+        match &self.best {
+            Some(found) => Some(found.weight),
+            None => None,
+        }
+    }
+
+    /// Takes the next branch.
+    pub(crate) fn next(&mut self) -> Option<Bounds>
+        ensures { MatchOption result ((self.old.left ≡ []) × (self.new ≡ self.old)) (λ branch. self.old ≡ record self.new { left = branch ∷ self.new.left }) }
+    {
+        self.left.pop()
+    }
+
+    /// Notes what a branch told; the children of a split are the next ones.
+    pub(crate) fn note(
+        &mut self,
+        alloc: Global,
+        net: &Network,
+        branch: &Bounds,
+        told: Told,
+    ) -> Result<(), NoMemory>
+        requires bounds { AreBounds net.now branch.now }
+        requires split { MaySplit branch.now told }
+        ensures { OnOk result (self.new ≡ after_told net.now self.old branch.now told) }
+    {
+        match told {
+            Told::Nothing(leaf) => self.add(Opened::Closed(leaf)),
+            Told::Fitting(found, leaf) => self.improve(found, leaf),
+            Told::Splitting(link) => self.split(alloc, net, branch, link),
+        }
+    }
+
+    // Adds a node.
+    fn add(&mut self, node: Opened) -> Result<(), NoMemory>
+        ensures { OnOk result (self.new ≡ record self.old { opened = self.old.opened ++ node ∷ [] }) }
+    {
+        match self.opened.push(node) {
+            Ok(()) => Ok(()),
+            Err(_failed) => Err(NoMemory::Memory),
+        }
+    }
+
+    // A better run.
+    fn improve(&mut self, found: LeastRun, leaf: Closed) -> Result<(), NoMemory>
+        ensures { OnOk result (self.new ≡ record self.old { best = Some found; opened = self.old.opened ++ Opened.Fits found.weight leaf ∷ [] }) }
+    {
+        self.add(Opened::Fits(found.weight, leaf))?;
+        self.best = Some(found);
+        Ok(())
+    }
+
+    // Leaves the two children of a branch.
+    fn split(
+        &mut self,
+        alloc: Global,
+        net: &Network,
+        branch: &Bounds,
+        link: LinkId,
+    ) -> Result<(), NoMemory>
+        requires bounds { AreBounds net.now branch.now }
+        requires room { 0 < branch.now.k }
+        ensures { OnOk result (self.new ≡ after_told net.now self.old branch.now (Told.Splitting link)) }
+    {
+        self.add(Opened::Split(link))?;
+        put(&mut self.left, with_up(alloc, net, branch, link)?)?;
+        put(&mut self.left, with_down(alloc, net, branch, link)?)
+    }
+}
+
+// Puts a branch at the end.
+fn put(left: &mut Vec<Bounds>, branch: Bounds) -> Result<(), NoMemory>
+    ensures { OnOk result (left.new.items ≡ left.old.items ++ branch ∷ []) }
+{
+    match left.push(branch) {
+        Ok(()) => Ok(()),
+        Err(_failed) => Err(NoMemory::Memory),
+    }
+}

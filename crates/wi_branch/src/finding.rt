@@ -1,0 +1,86 @@
+//! One search tells all of a branch: that nothing is left to find there, or the least run, which fits or tells by what link to
+//! split.
+ghost use Rattle.std.specs.Prelude.{◌≡◌, IfOk, IfErr, option_map};
+ghost use Rattle.wi_world.specs.Moves.{AreBounds};
+ghost use Rattle.wi_world.specs.Moving.{IsMovingRun};
+ghost use Rattle.wi_quantity.specs.Weighing.{components};
+ghost use Rattle.wi_build.specs.Problems.{problem_in};
+ghost use Rattle.wi_decide.specs.Searches.{IsUnsearched};
+ghost use Rattle.wi_branch.specs.Walks.{IsNode, is_fitting};
+ghost use Rattle.wi_branch.specs.private.Courses.{IsJudged, IsToldWell, KeepsLeaf, node_of};
+
+use crate::branches::first_free;
+use std::alloc::Global;
+use wi_base::NoMemory;
+use wi_cert::Closed;
+use wi_decide::{LeastRun, SearchRefused, Searched, search};
+use wi_net::{Bounds, LinkId, Network};
+use wi_quantity::{Vector, Weight};
+use wi_query::Query;
+use wi_trace::{needs, verdict};
+use wi_world::Verdict;
+
+// What a branch tells, with what shows that nothing lighter is there.
+#[derive(Drop)]
+pub(crate) enum Told {
+    // No run is below the cut.
+    Nothing(Closed),
+    // The least one fits.
+    Fitting(LeastRun, Closed),
+    // It doesn't: this is the link to split by.
+    Splitting(LinkId),
+}
+
+/// What is found at a branch, below a cut.
+pub(crate) fn tell(
+    alloc: Global,
+    net: &Network,
+    query: &Query,
+    vector: &Vector,
+    branch: &Bounds,
+    cut: Option<Weight>,
+) -> Result<Told, SearchRefused>
+    requires { AreBounds net.now branch.now }
+    ensures node { IfOk result (λ told. IsNode (problem_in net.now query.now vector.now branch.now) (option_map components cut) (node_of told)) }
+    ensures well { IfOk result (λ told. IsToldWell (problem_in net.now query.now vector.now branch.now) told) }
+    ensures refused { IfErr result (λ refused. IsUnsearched (problem_in net.now query.now vector.now branch.now) (option_map components cut) refused) }
+{
+    net.keeps();
+    let Searched { found, closed } = search(alloc, net, query, vector, branch, cut)?;
+    match found {
+        None => Ok(Told::Nothing(closed)),
+        Some(found) => Ok(judged(alloc, net, branch, found, closed)?),
+    }
+}
+
+// A least run fits its branch, or tells by what link to split.
+fn judged(
+    alloc: Global,
+    net: &Network,
+    branch: &Bounds,
+    found: LeastRun,
+    closed: Closed,
+) -> Result<Told, NoMemory>
+    requires bounds { AreBounds net.now branch.now }
+    requires moving { IsMovingRun net.now branch.now found.run }
+    ensures judged { IfOk result (λ told. IsJudged net.now branch.now found told) }
+    ensures leaf { IfOk result (λ told. KeepsLeaf closed told) }
+{
+    net.keeps();
+    let verdict = verdict(alloc, net, &found.run, branch)?;
+    if is_fitting(&verdict) {
+        return Ok(Told::Fitting(found, closed));
+    }
+    let needs = needs(alloc, net, &found.run, branch)?;
+    Ok(Told::Splitting(first_free(&needs, branch).unwrap()))
+}
+
+// Whether a verdict is that a run fits.
+fn is_fitting(verdict: &Verdict) -> bool
+    ensures { result ≡ is_fitting verdict.now }
+{
+    match verdict {
+        Verdict::Fits(_) => true,
+        Verdict::Exceeds(_) | Verdict::UsesFailed(_) => false,
+    }
+}

@@ -1,0 +1,249 @@
+//! Exact answers by example.
+ghost use Rattle.std.specs.Prelude.{IfOk};
+ghost use Rattle.wi_world.specs.Moves.{AreBounds};
+
+use std::alloc::Global;
+use std::process::Abort;
+use std::test::Fail;
+use wi_branch::{ExactAnswer, ExactRefused, Opened, exact};
+use wi_net::{FailSet, LinkId, Network};
+use wi_quantity::Vector;
+use wi_query::{Query, read_query};
+use wi_samples::{N1, N1_FIBER, N2, N3, Sample, network};
+use wi_trace::Answer;
+use wi_world::{Verdict, Word};
+
+// What a node is to be: nothing is below the cut, a run of this effort fits, or the branch is split by this link.
+#[derive(Clone, Copy)]
+enum Node {
+    Closed,
+    Fits(u128),
+    Split(u32),
+}
+
+// A query, how many risk groups may fail, the most nodes, what fails in a yes, and the nodes that are opened.
+#[derive(Clone, Copy)]
+struct Case<'a> {
+    text: &'a str,
+    k: u32,
+    limit: u32,
+    fails: Option<&'a [u32]>,
+    nodes: &'a [Node],
+}
+
+fn query_of(alloc: Global, net: &Network, text: &str) -> Result<Query, Fail>
+    ensures { IfOk result (λ query. AreBounds net.now query.bounds) }
+{
+    match read_query(alloc, net, text) {
+        Ok(query) => Ok(query),
+        Err(_) => Err(Fail::new("no query")),
+    }
+}
+
+fn set_is(rt: &impl Abort, set: &FailSet, links: &[u32]) {
+    assert_eq!(rt; set.len(), links.len());
+    for (i, link) in links.iter().enumerate() {
+        assert_eq!(rt; set.at(i), Some(LinkId(*link)));
+    }
+}
+
+fn node_is(node: &Opened, expected: Node) -> bool {
+    match (node, expected) {
+        (Opened::Closed(_), Node::Closed) => true,
+        (Opened::Fits(weight, _), Node::Fits(effort)) => weight.second.count == effort,
+        (Opened::Split(link), Node::Split(number)) => *link == LinkId(number),
+        _ => false,
+    }
+}
+
+fn nodes_are(rt: &impl Abort, opened: &[Opened], expected: &[Node]) {
+    assert_eq!(rt; opened.len(), expected.len());
+    for (node, wanted) in opened.iter().zip(expected) {
+        assert!(rt; node_is(node, *wanted));
+    }
+}
+
+// A yes under these failures, or a no.
+fn answer_is(rt: &impl Abort, answer: &Answer, fails: Option<&[u32]>) {
+    match (&answer.verdict, fails) {
+        (Some(Verdict::Fits(set)), Some(links)) => {
+            assert!(rt; answer.word == Word::Yes);
+            set_is(rt, set, links);
+        }
+        (None, None) => assert!(rt; answer.word == Word::No),
+        _ => assert!(rt; false),
+    }
+}
+
+fn exact_is(rt: &impl Abort, exact: &ExactAnswer, case: &Case) {
+    answer_is(rt, &exact.answer, case.fails);
+    nodes_are(rt, exact.opened.as_slice(), case.nodes);
+}
+
+// Over the limit, after as many nodes.
+fn refused_is(rt: &impl Abort, refused: &ExactRefused, case: &Case) {
+    match refused {
+        ExactRefused::NodeLimit { opened } => {
+            assert_eq!(rt; opened.as_slice().len(), case.limit as usize);
+            nodes_are(rt, opened.as_slice(), case.nodes);
+        }
+        _ => assert!(rt; false),
+    }
+}
+
+fn answers(
+    rt: &impl Abort,
+    alloc: Global,
+    net: &Network,
+    query: &Query,
+    vector: &Vector,
+    case: &Case,
+)
+    requires { AreBounds net.now query.now.bounds }
+{
+    match exact(alloc, net, query, case.k, vector, case.limit) {
+        Ok(exact) => {
+            exact_is(rt, &exact, case);
+            drop(exact);
+        }
+        Err(refused) => {
+            refused_is(rt, &refused, case);
+            drop(refused);
+        }
+    }
+}
+
+fn case_is(rt: &impl Abort, alloc: Global, net: &Network, case: &Case) -> Result<(), Fail> {
+    let query = query_of(alloc, net, case.text)?;
+    let vector = Vector::new(alloc);
+    answers(rt, alloc, net, &query, &vector, case);
+    drop(vector);
+    drop(query);
+    Ok(())
+}
+
+fn cases_are(rt: &impl Abort, alloc: Global, net: &Network, cases: &[Case]) -> Result<(), Fail> {
+    for case in cases {
+        case_is(rt, alloc, net, case)?;
+    }
+    Ok(())
+}
+
+fn network_answers(
+    rt: &impl Abort,
+    alloc: Global,
+    sample: &Sample,
+    cases: &[Case],
+) -> Result<(), Fail> {
+    let net = network(alloc, sample)?;
+    let outcome = cases_are(rt, alloc, &net, cases);
+    drop(net);
+    outcome
+}
+
+const LIMIT: u32 = 10_000;
+
+const SPLIT: &[Node] = &[Node::Split(1), Node::Closed, Node::Closed];
+
+const RETURNS: &str = "<ip1> [x#a] [a#c] [c#a] [a#b] .* <ip1> 5";
+
+const TO_Z: &str = "<ip1> [x#a] [a#c] .* [b#z] <ip1> 1";
+
+const AROUND: &str = "<ip1> [x#a] [a#c] .* [b#y] <ip1> 1";
+
+// What comes back to a takes the link that it needed to have failed: under no set of failures is there such a run.
+const RETURNING: &[Case] = &[
+    Case {
+        text: RETURNS,
+        k: 5,
+        limit: LIMIT,
+        fails: None,
+        nodes: SPLIT,
+    },
+    Case {
+        text: RETURNS,
+        k: 5,
+        limit: 3,
+        fails: None,
+        nodes: SPLIT,
+    },
+    Case {
+        text: RETURNS,
+        k: 5,
+        limit: 2,
+        fails: None,
+        nodes: &[Node::Split(1), Node::Closed],
+    },
+];
+
+// Two links have to fail on the way to z: with one failure it is a no, and with two a yes.
+const TO_Z_CASES: &[Case] = &[
+    Case {
+        text: TO_Z,
+        k: 1,
+        limit: LIMIT,
+        fails: None,
+        nodes: SPLIT,
+    },
+    Case {
+        text: TO_Z,
+        k: 2,
+        limit: LIMIT,
+        fails: Some(&[1, 4]),
+        nodes: &[Node::Fits(10)],
+    },
+];
+
+// The link to y fails with the one to b.
+const FIBER: &[Case] = &[Case {
+    text: AROUND,
+    k: 1,
+    limit: LIMIT,
+    fails: None,
+    nodes: SPLIT,
+}];
+
+// Without a run there is one node; with none that may fail, a run that needs a failure leaves nothing to split.
+const PLAIN: &[Case] = &[
+    Case {
+        text: AROUND,
+        k: 1,
+        limit: LIMIT,
+        fails: Some(&[1]),
+        nodes: &[Node::Fits(10)],
+    },
+    Case {
+        text: AROUND,
+        k: 0,
+        limit: LIMIT,
+        fails: None,
+        nodes: &[Node::Closed],
+    },
+    Case {
+        text: AROUND,
+        k: 1,
+        limit: 0,
+        fails: None,
+        nodes: &[],
+    },
+];
+
+#[test]
+fn a_run_that_returns_is_a_no(rt: HostRuntime) -> Result<(), Fail> {
+    network_answers(&rt, rt.alloc(), &N3, RETURNING)
+}
+
+#[test]
+fn two_failures_are_a_yes_where_one_is_a_no(rt: HostRuntime) -> Result<(), Fail> {
+    network_answers(&rt, rt.alloc(), &N2, TO_Z_CASES)
+}
+
+#[test]
+fn a_risk_group_fails_as_one(rt: HostRuntime) -> Result<(), Fail> {
+    network_answers(&rt, rt.alloc(), &N1_FIBER, FIBER)
+}
+
+#[test]
+fn one_node_where_nothing_is_split(rt: HostRuntime) -> Result<(), Fail> {
+    network_answers(&rt, rt.alloc(), &N1, PLAIN)
+}

@@ -1,0 +1,6 @@
+//! Tests of exact answers. They need no more than the public interface, and stand in a crate of their own because a crate with
+//! tests is proved once without them and once with them.
+#![tactic(auto)]
+
+#[cfg(test)]
+mod exact;

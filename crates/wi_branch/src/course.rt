@@ -85,19 +85,9 @@ impl Course {
         ensures { OnOk result (self.new ≡ after_told net.now self.old branch.now told) }
     {
         match told {
-            Told::Nothing(leaf) => self.add(Opened::Closed(leaf)),
+            Told::Nothing(leaf) => put(&mut self.opened, Opened::Closed(leaf)),
             Told::Fitting(found, leaf) => self.improve(found, leaf),
             Told::Splitting(link) => self.split(alloc, net, branch, link),
-        }
-    }
-
-    // Adds a node.
-    fn add(&mut self, node: Opened) -> Result<(), NoMemory>
-        ensures { OnOk result (self.new ≡ record self.old { opened = self.old.opened ++ node ∷ [] }) }
-    {
-        match self.opened.push(node) {
-            Ok(()) => Ok(()),
-            Err(_failed) => Err(NoMemory::Memory),
         }
     }
 
@@ -105,7 +95,7 @@ impl Course {
     fn improve(&mut self, found: LeastRun, leaf: Closed) -> Result<(), NoMemory>
         ensures { OnOk result (self.new ≡ record self.old { best = Some found; opened = self.old.opened ++ Opened.Fits found.weight leaf ∷ [] }) }
     {
-        self.add(Opened::Fits(found.weight, leaf))?;
+        put(&mut self.opened, Opened::Fits(found.weight, leaf))?;
         self.best = Some(found);
         Ok(())
     }
@@ -122,17 +112,17 @@ impl Course {
         requires room { 0 < branch.now.k }
         ensures { OnOk result (self.new ≡ after_told net.now self.old branch.now (Told.Splitting link)) }
     {
-        self.add(Opened::Split(link))?;
+        put(&mut self.opened, Opened::Split(link))?;
         put(&mut self.left, with_up(alloc, net, branch, link)?)?;
         put(&mut self.left, with_down(alloc, net, branch, link)?)
     }
 }
 
-// Puts a branch at the end.
-fn put(left: &mut Vec<Bounds>, branch: Bounds) -> Result<(), NoMemory>
-    ensures { OnOk result (left.new.items ≡ left.old.items ++ branch ∷ []) }
+// Puts one more at the end.
+fn put<T: Drop>(items: &mut Vec<T>, item: T) -> Result<(), NoMemory>
+    ensures { OnOk result (items.new.items ≡ items.old.items ++ item ∷ []) }
 {
-    match left.push(branch) {
+    match items.push(item) {
         Ok(()) => Ok(()),
         Err(_failed) => Err(NoMemory::Memory),
     }

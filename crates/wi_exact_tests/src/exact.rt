@@ -21,13 +21,21 @@ enum Node {
     Split(u32),
 }
 
-// A query, how many risk groups may fail, the most nodes, what fails in a yes, and the nodes that are opened.
+// What the outcome is to be: a yes under these failures, a no, or that there would be more nodes than the limit.
+#[derive(Clone, Copy)]
+enum Outcome<'a> {
+    Yes(&'a [u32]),
+    No,
+    OverLimit,
+}
+
+// A query, how many risk groups may fail, the most nodes, the outcome, and the nodes that are opened.
 #[derive(Clone, Copy)]
 struct Case<'a> {
     text: &'a str,
     k: u32,
     limit: u32,
-    fails: Option<&'a [u32]>,
+    outcome: Outcome<'a>,
     nodes: &'a [Node],
 }
 
@@ -63,27 +71,25 @@ fn nodes_are(rt: &impl Abort, opened: &[Opened], expected: &[Node]) {
     }
 }
 
-// A yes under these failures, or a no.
-fn answer_is(rt: &impl Abort, answer: &Answer, fails: Option<&[u32]>) {
-    match (&answer.verdict, fails) {
-        (Some(Verdict::Fits(set)), Some(links)) => {
+fn answer_is(rt: &impl Abort, answer: &Answer, outcome: Outcome) {
+    match (&answer.verdict, outcome) {
+        (Some(Verdict::Fits(set)), Outcome::Yes(links)) => {
             assert!(rt; answer.word == Word::Yes);
             set_is(rt, set, links);
         }
-        (None, None) => assert!(rt; answer.word == Word::No),
+        (None, Outcome::No) => assert!(rt; answer.word == Word::No),
         _ => assert!(rt; false),
     }
 }
 
 fn exact_is(rt: &impl Abort, exact: &ExactAnswer, case: &Case) {
-    answer_is(rt, &exact.answer, case.fails);
+    answer_is(rt, &exact.answer, case.outcome);
     nodes_are(rt, exact.opened.as_slice(), case.nodes);
 }
 
-// Over the limit, after as many nodes.
 fn refused_is(rt: &impl Abort, refused: &ExactRefused, case: &Case) {
-    match refused {
-        ExactRefused::NodeLimit { opened } => {
+    match (refused, case.outcome) {
+        (ExactRefused::NodeLimit { opened }, Outcome::OverLimit) => {
             assert_eq!(rt; opened.as_slice().len(), case.limit as usize);
             nodes_are(rt, opened.as_slice(), case.nodes);
         }
@@ -157,21 +163,21 @@ const RETURNING: &[Case] = &[
         text: RETURNS,
         k: 5,
         limit: LIMIT,
-        fails: None,
+        outcome: Outcome::No,
         nodes: SPLIT,
     },
     Case {
         text: RETURNS,
         k: 5,
         limit: 3,
-        fails: None,
+        outcome: Outcome::No,
         nodes: SPLIT,
     },
     Case {
         text: RETURNS,
         k: 5,
         limit: 2,
-        fails: None,
+        outcome: Outcome::OverLimit,
         nodes: &[Node::Split(1), Node::Closed],
     },
 ];
@@ -182,14 +188,14 @@ const TO_Z_CASES: &[Case] = &[
         text: TO_Z,
         k: 1,
         limit: LIMIT,
-        fails: None,
+        outcome: Outcome::No,
         nodes: SPLIT,
     },
     Case {
         text: TO_Z,
         k: 2,
         limit: LIMIT,
-        fails: Some(&[1, 4]),
+        outcome: Outcome::Yes(&[1, 4]),
         nodes: &[Node::Fits(10)],
     },
 ];
@@ -199,7 +205,7 @@ const FIBER: &[Case] = &[Case {
     text: AROUND,
     k: 1,
     limit: LIMIT,
-    fails: None,
+    outcome: Outcome::No,
     nodes: SPLIT,
 }];
 
@@ -209,21 +215,21 @@ const PLAIN: &[Case] = &[
         text: AROUND,
         k: 1,
         limit: LIMIT,
-        fails: Some(&[1]),
+        outcome: Outcome::Yes(&[1]),
         nodes: &[Node::Fits(10)],
     },
     Case {
         text: AROUND,
         k: 0,
         limit: LIMIT,
-        fails: None,
+        outcome: Outcome::No,
         nodes: &[Node::Closed],
     },
     Case {
         text: AROUND,
         k: 1,
         limit: 0,
-        fails: None,
+        outcome: Outcome::OverLimit,
         nodes: &[],
     },
 ];

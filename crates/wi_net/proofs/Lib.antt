@@ -13,5 +13,8 @@ pub mod KeptLinks
 pub mod KeptRows
 pub mod KeptLemmas
 pub mod DraftLemmas
+pub mod PlaceLemmas
+pub mod ApartLemmas
+pub mod OverLemmas
 pub mod EndLemmas
 pub mod Classes

@@ -29,6 +29,10 @@ empty_net = record { routers = []; labels = []; classes = []; interfaces = []; l
 abbrev pub empty : Draft
 empty = record { net = empty_net; named = []; firsts = [] }
 
+-- a network's routers and links alone; its risk groups have no names
+abbrev pub links_alone : Net → Draft
+links_alone net = record { net = record net { labels = []; classes = []; rows = [] }; named = []; firsts = [] }
+
 infixl 10 ◌>>=◌
 abbrev pub ◌>>=◌ : {A B E : Type 0} → Result A E → (A → Result B E) → Result B E
 (Ok x) >>= f = f x

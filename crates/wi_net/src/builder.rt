@@ -8,7 +8,7 @@ ghost use Rattle.wi_net.specs.Tables.{is_row, row_members, group_members};
 ghost use Rattle.wi_net.specs.Finding.{find_router, find_label, out_place, in_place, find_out, find_in};
 ghost use Rattle.wi_net.specs.Network.{IsNetwork, is_no_later};
 ghost use Rattle.wi_net.specs.private.Network.{groups_of};
-ghost use Rattle.wi_net.specs.Builder.{empty, add_router, add_label, link_ends, add_link, add_table, first_in, named_with, firsts_with, with_row, is_group_name, Gives};
+ghost use Rattle.wi_net.specs.Builder.{empty, links_alone, add_router, add_label, link_ends, add_link, add_table, first_in, named_with, firsts_with, with_row, is_group_name, Gives};
 ghost use Rattle.wi_net.specs.private.Builder.{IsDraft};
 
 use crate::links::Links;
@@ -63,6 +63,28 @@ impl NetworkBuilder {
             named: Names::new(alloc),
             firsts: Vec::new(alloc),
         }
+    }
+
+    /// A network's routers and links, with no label and no table. Its risk groups have no names here: a link that is added
+    /// joins none of them. It costs a copy of all names and links.
+    pub fn over(network: &Network) -> Result<NetworkBuilder, NoMemory>
+        ensures { IfOk result (λ builder. builder ≡ links_alone network.now) }
+    {
+        network.keeps();
+        let alloc = *network.classes.allocator();
+        let routers = network.routers.twin()?;
+        let interfaces = network.interfaces.twin()?;
+        let links = network.links.twin()?;
+        Ok(NetworkBuilder {
+            routers,
+            labels: Names::new(alloc),
+            classes: Vec::new(alloc),
+            interfaces,
+            links,
+            tables: Tables::new(alloc),
+            named: Names::new(alloc),
+            firsts: Vec::new(alloc),
+        })
     }
 
     /// The network.

@@ -1,7 +1,7 @@
 //! Files, queries and scripts name links by their ends, so there are two indexes, and to find a link by either end is one
 //! look-up. They double what a link takes.
-ghost use Rattle.std.specs.Prelude.{◌≡◌, ◌<◌, ◌^◌, ◌++◌, ◌∷◌, [], ℕ, None, length, IfSome, position, slice_get, Some, OnOk, OnErr};
-ghost use Rattle.wi_net.specs.Ends.{is_out, is_in};
+ghost use Rattle.std.specs.Prelude.{◌≡◌, ◌<◌, ◌^◌, ◌++◌, ◌∷◌, [], ℕ, None, length, true, IfOk, IfSome, position, slice_get, Some, OnOk, OnErr};
+ghost use Rattle.wi_net.specs.Ends.{is_out, is_in, are_ends_apart};
 
 use crate::parts::{Link, NameId, RouterId};
 use indexmap::IndexSet;
@@ -87,6 +87,34 @@ impl Links {
         ensures within { IfSome result (λ n. n < length self.now.0) }
     {
         self.ins.get_index_of(&(router.0, name.0))
+    }
+
+    /// Equal links, where no two have one end.
+    pub fn twin(&self) -> Result<Links, NoMemory>
+        requires { are_ends_apart self.now.0 ≡ true }
+        ensures { IfOk result (λ links. links.0 ≡ self.now.0) }
+    {
+        let mut links = Links::new(*self.links.allocator());
+        match links.put_all(self.as_slice()) {
+            Ok(()) => Ok(links),
+            Err(refused) => {
+                drop(links);
+                Err(refused)
+            }
+        }
+    }
+
+    // Puts all of some links, where there are none.
+    fn put_all(&mut self, links: &[Link]) -> Result<(), NoMemory>
+        requires none { self.old.0 ≡ [] }
+        requires apart { are_ends_apart links.now ≡ true }
+        ensures { OnOk result (self.new.0 ≡ links.now) }
+    {
+        for link in links {
+            self.reserve()?;
+            self.put(*link);
+        }
+        Ok(())
     }
 
     /// Makes room for one more link.

@@ -1,7 +1,7 @@
 //! Routers, labels, interfaces and risk groups are numbers in all but texts: a name is looked up once, by hashing, and kept
 //! once.
-ghost use Rattle.std.specs.Prelude.{◌≡◌, ◌<◌, ◌≤◌, ◌+◌, string_bytes, ◌^◌, ◌++◌, ◌∷◌, [], None, length, slice_get, Some, IfSome, OnOk, OnErr};
-ghost use Rattle.wi_net.specs.Names.{place, with_name, number_of};
+ghost use Rattle.std.specs.Prelude.{◌≡◌, ◌<◌, ◌≤◌, ◌+◌, string_bytes, ◌^◌, ◌++◌, ◌∷◌, [], None, length, slice_get, Some, true, IfOk, IfSome, OnOk, OnErr};
+ghost use Rattle.wi_net.specs.Names.{place, with_name, number_of, are_names};
 
 use indexmap::IndexSet;
 use std::alloc::Global;
@@ -66,6 +66,33 @@ impl Names {
     {
         let text = String::from_str(*self.texts.allocator(), name)?;
         self.texts.insert(text)?;
+        Ok(())
+    }
+
+    /// Equal names, where no two are the same.
+    pub fn twin(&self) -> Result<Names, NoMemory>
+        requires { are_names self.now.0 ≡ true }
+        ensures { IfOk result (λ names. names.0 ≡ self.now.0) }
+    {
+        let mut names = Names::new(*self.texts.allocator());
+        match names.add_all(self) {
+            Ok(()) => Ok(names),
+            Err(refused) => {
+                drop(names);
+                Err(refused)
+            }
+        }
+    }
+
+    // Adds all names of another list, where there are none.
+    fn add_all(&mut self, other: &Names) -> Result<(), NoMemory>
+        requires none { self.old.0 ≡ [] }
+        requires names { are_names other.now.0 ≡ true }
+        ensures { OnOk result (self.new.0 ≡ other.now.0) }
+    {
+        for i in 0..other.len() {
+            self.add(other.get(i))?;
+        }
         Ok(())
     }
 

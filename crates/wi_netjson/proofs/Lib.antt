@@ -6,7 +6,6 @@ pub mod FoundLemmas
 pub mod RowRules
 pub mod WrittenLemmas
 pub mod TextLemmas
-pub mod PlaceLemmas
 pub mod ReadNames
 pub mod ReadGroups
 pub mod ReadLinks

@@ -18,7 +18,8 @@ use Rattle.wi_net.proofs.FindingLemmas.{position-map}
 use Rattle.wi_net.proofs.KeptLists.{none_by, all_get}
 use Rattle.wi_netjson.specs.Written.{is_larger}
 use Rattle.wi_netjson.proofs.FoundLemmas.{passes_at}
-use Rattle.wi_netjson.proofs.WrittenLemmas.{names, any_here, none_at}
+use Rattle.wi_net.proofs.PlaceLemmas.{none_at}
+use Rattle.wi_netjson.proofs.WrittenLemmas.{names, any_here}
 
 -- the name of a risk group
 abbrev pub group_name : ℕ → List ℕ

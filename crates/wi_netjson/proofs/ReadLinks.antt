@@ -1,9 +1,8 @@
 -- Links that were written are read as they were.
-use Rattle.std.proofs.Common.{◌≡◌, ℕ, suc, ◌+◌, ◌<◌, ◌≤◌, ◌⊎◌, inl, inr, Bool, true, false, cond, not, ◌&&◌, ◌==◌, nat_lt, nat_le, List, [], ◌∷◌, ◌++◌, map, take, drop, length, slice_get, position, Option, Some, None, Result, Ok, refl, sym, ap, ◌∙◌, append_assoc, append-nil, true≢false, arith}
-use Rattle.std.specs.Prelude.{is_none}
+use Rattle.std.proofs.Common.{◌≡◌, ℕ, suc, ◌+◌, ◌<◌, ◌≤◌, ◌⊎◌, inl, inr, Bool, true, false, cond, not, ◌&&◌, ◌==◌, nat_lt, nat_le, List, [], ◌∷◌, ◌++◌, map, take, drop, length, slice_get, Option, Some, None, Result, Ok, refl, sym, ap, ◌∙◌, append_assoc, append-nil, true≢false, arith}
 use Rattle.std.specs.List.{list_all}
 use Rattle.std.specs.Str.{bytes_eq}
-use Rattle.std.proofs.lemmas.Bool.{and_parts, and_from, leb-true, lt-ltb, le-ltb, eqb-true, eq-eqb, cases_lt}
+use Rattle.std.proofs.lemmas.Bool.{and_parts, leb-true, lt-ltb, le-ltb, eqb-true, cases_lt}
 use Rattle.std.proofs.lemmas.List.{take_all, length-take-le}
 use Rattle.std.proofs.lemmas.List.Sums.{prefix_len-le-length}
 use Rattle.std.proofs.lemmas.Option.{slice_get_within, get_or_from_slice_get}
@@ -12,55 +11,24 @@ use Rattle.wi_net.specs.declared.parts.Link.{Link}
 use Rattle.wi_net.specs.declared.parts.LinkId.{LinkId}
 use Rattle.wi_net.specs.declared.parts.RouterId.{RouterId}
 use Rattle.wi_net.specs.Names.{is_name, are_names, with_name, number_of}
-use Rattle.wi_net.specs.Ends.{is_out, is_in, are_ends_apart}
+use Rattle.wi_net.specs.Ends.{are_ends_apart}
 use Rattle.wi_net.specs.Net.{Net, is_link, all_links, risk_of}
 use Rattle.wi_net.specs.Finding.{find_router, find_out, find_in}
 use Rattle.wi_net.specs.Network.{IsNetwork, HasEnds, is_risk_named, named_next, named_after}
 use Rattle.wi_net.specs.Builder.{◌>>=◌, Draft, with_new_link, is_group_name, first_in, named_with, firsts_with}
 use Rattle.wi_net.proofs.SetLemmas.{all_at, has-all_links}
-use Rattle.wi_net.proofs.KeptLists.{nothing_is, same_flip, all_get, get_there, get_before}
+use Rattle.wi_net.proofs.KeptLists.{all_get, get_there, get_before}
 use Rattle.wi_net.proofs.MemberLemmas.{position_found, position_missing}
 use Rattle.wi_netjson.specs.declared.fault.NetFault.{NetFault}
 use Rattle.wi_netjson.specs.Reading.{each}
 use Rattle.wi_netjson.specs.Links.{link_at, link_rules}
 use Rattle.wi_netjson.specs.Written.{name_at, is_larger, has_larger, link_data}
 use Rattle.wi_netjson.specs.private.Written.{has_small_distance}
-use Rattle.wi_netjson.proofs.PlaceLemmas.{IsApart, before, split_at, found_at, found_in_take, none_in_take}
-use Rattle.wi_netjson.proofs.ReadNames.{names_apart, name_in}
+use Rattle.wi_net.proofs.PlaceLemmas.{before, get_middle, longer, split_at, found_at, found_in_take, none_in_take}
+use Rattle.wi_net.proofs.ApartLemmas.{names_apart, name_in, same_out, same_in, outs_apart, ins_apart}
 use Rattle.wi_netjson.proofs.ReadGroups.{group_of, group_named, GroupsAre, GroupsStep, RiskFits, groups_step, link_of}
 use Rattle.wi_net.proofs.EndLemmas.{has_ends}
-use Rattle.wi_netjson.proofs.WrittenLemmas.{longer, any_here}
-
--- links are apart by either end
-pub test_flip : (a b c d : ℕ) → ((a == b) && (c == d)) ≡ false → ((b == a) && (d == c)) ≡ false
-test_flip a b c d e = rw (same_flip b a, same_flip d c) e
-
-pub test_self : (a b : ℕ) → ((a == a) && (b == b)) ≡ true
-test_self a b = and_from (a == a) (b == b) (eq-eqb a a refl) (eq-eqb b b refl)
-
-abbrev pub same_out : Link → Link → Bool
-same_out x y = is_out x.from x.out_if y
-
-abbrev pub same_in : Link → Link → Bool
-same_in x y = is_in x.to x.in_if y
-
-pub outs_apart : IsApart same_out are_ends_apart
-outs_apart = record { flip = λ x y e. test_flip x.from.0 y.from.0 x.out_if.0 y.out_if.0 e; self = λ x. test_self x.from.0 x.out_if.0; head = head }
-  where
-    head : (x : Link) (xs : List Link) → are_ends_apart (x ∷ xs) ≡ true → (position (same_out x) xs ≡ None) × (are_ends_apart xs ≡ true)
-    head x xs all =
-        let parts = and_parts (is_none (position (same_out x) xs)) (is_none (position (same_in x) xs) && are_ends_apart xs) all in
-        let more = and_parts (is_none (position (same_in x) xs)) (are_ends_apart xs) parts.1 in
-        (nothing_is (position (same_out x) xs) parts.0, more.1)
-
-pub ins_apart : IsApart same_in are_ends_apart
-ins_apart = record { flip = λ x y e. test_flip x.to.0 y.to.0 x.in_if.0 y.in_if.0 e; self = λ x. test_self x.to.0 x.in_if.0; head = head }
-  where
-    head : (x : Link) (xs : List Link) → are_ends_apart (x ∷ xs) ≡ true → (position (same_in x) xs ≡ None) × (are_ends_apart xs ≡ true)
-    head x xs all =
-        let parts = and_parts (is_none (position (same_out x) xs)) (is_none (position (same_in x) xs) && are_ends_apart xs) all in
-        let more = and_parts (is_none (position (same_in x) xs)) (are_ends_apart xs) parts.1 in
-        (nothing_is (position (same_in x) xs) more.0, more.1)
+use Rattle.wi_netjson.proofs.WrittenLemmas.{any_here}
 
 -- a name of a number: it is a name, and stands there
 pub record HasName (names : List (List ℕ)) (i : ℕ) (s : List ℕ) : Type 0 where
@@ -183,11 +151,6 @@ pub record IsWritten (net : Net) : Type 0 where
   pub kept : IsNetwork net
   pub small : list_all has_small_distance net.links ≡ true
 
--- a link of the network, by its place
-at_place : (pre post : List Link) (l : Link) → slice_get (pre ++ l ∷ post) (length pre) ≡ Some l
-at_place [] post l = refl
-at_place (x ∷ pre) post l = at_place pre post l
-
 get_pre : (pre post : List Link) (i : ℕ) (x : Link) → i < length pre → slice_get (pre ++ post) i ≡ Some x → slice_get pre i ≡ Some x
 get_pre pre post i x lt at =
     let there = get_there pre i lt in
@@ -206,7 +169,7 @@ risk_fits net pre post l k is =
     }
   where
     here : slice_get net.links (length pre) ≡ Some l
-    here = ap (λ xs. slice_get xs (length pre)) is ∙ at_place pre post l
+    here = ap (λ xs. slice_get xs (length pre)) is ∙ get_middle pre post l
 
     linked : is_link net (link_of (length pre)) ≡ true
     linked = lt-ltb (length pre) (length net.links) (slice_get_within net.links (length pre) l here)
@@ -254,7 +217,7 @@ link_step net v pre post l n m h i named firsts w versioned is out_next in_next 
     before_link = draft_at net (take n net.interfaces) pre named firsts
 
     here : slice_get net.links (length pre) ≡ Some l
-    here = ap (λ xs. slice_get xs (length pre)) is ∙ at_place pre post l
+    here = ap (λ xs. slice_get xs (length pre)) is ∙ get_middle pre post l
 
     fits : RiskFits net.links pre l
     fits = risk_fits net pre post l w.kept is

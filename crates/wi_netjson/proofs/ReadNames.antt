@@ -1,47 +1,23 @@
 -- Names that were written are read as they were.
-use Rattle.std.proofs.Common.{◌≡◌, ℕ, suc, ◌+◌, Bool, true, false, ◌&&◌, List, [], ◌∷◌, ◌++◌, map, length, None, Ok, refl, sym, ap, ◌∙◌, append_assoc, append-nil, true≢false, arith}
-use Rattle.std.specs.Prelude.{is_none}
+use Rattle.std.proofs.Common.{◌≡◌, ℕ, suc, ◌+◌, Bool, true, false, List, [], ◌∷◌, ◌++◌, map, length, Ok, refl, sym, ap, ◌∙◌, append_assoc, append-nil, arith}
 use Rattle.std.specs.List.{list_all}
 use Rattle.std.specs.Str.{bytes_eq}
 use Rattle.std.proofs.lemmas.Bool.{and_parts}
-use Rattle.std.proofs.lemmas.Slice.Eq.{bytes_eq-Decides}
-use Rattle.std.proofs.lemmas.Bool.{false_from_ne_true}
 use Rattle.serde_json.specs.Data.{Data, string}
 use Rattle.serde_json.specs.View.{items_of}
 use Rattle.serde_json.specs.Events.{items_len}
 use Rattle.wi_labels.specs.declared.label.Class.{Class}
 use Rattle.wi_labels.specs.declared.label.Class.TheVariants.{Mpls, Smpls, Ip}
 use Rattle.wi_labels.specs.Header.{same_class}
-use Rattle.wi_net.specs.Names.{is_name, place, are_names}
+use Rattle.wi_net.specs.Names.{are_names}
 use Rattle.wi_net.specs.Network.{is_no_later, are_in_order}
 use Rattle.wi_net.specs.Builder.{Draft}
-use Rattle.wi_net.proofs.KeptLists.{nothing_is}
 use Rattle.wi_netjson.specs.Reading.{each}
 use Rattle.wi_netjson.specs.Routers.{router_at}
 use Rattle.wi_netjson.specs.Labels.{label_at}
 use Rattle.wi_netjson.specs.Written.{labels_in}
-use Rattle.wi_netjson.proofs.PlaceLemmas.{IsApart, before}
-
-bytes_self : (s : List ℕ) → bytes_eq s s ≡ true
-bytes_self s = (bytes_eq-Decides s s).1 refl
-
-bytes_flip : (s t : List ℕ) → bytes_eq s t ≡ false → bytes_eq t s ≡ false
-bytes_flip s t e = false_from_ne_true (bytes_eq t s) (λ h. true≢false (sym ((bytes_eq-Decides s t).1 (sym ((bytes_eq-Decides t s).0 h))) ∙ e))
-
--- names are apart
-pub names_apart : IsApart bytes_eq are_names
-names_apart = record { flip = bytes_flip; self = bytes_self; head = head }
-  where
-    head : (s : List ℕ) (names : List (List ℕ)) → are_names (s ∷ names) ≡ true → (place names s ≡ None) × (are_names names ≡ true)
-    head s names all =
-        let parts = and_parts (is_name s) (is_none (place names s) && are_names names) all in
-        let more = and_parts (is_none (place names s)) (are_names names) parts.1 in
-        (nothing_is (place names s) more.0, more.1)
-
--- a name among names is a name
-pub name_in : (pre post : List (List ℕ)) (s : List ℕ) → are_names (pre ++ s ∷ post) ≡ true → is_name s ≡ true
-name_in [] post s all = (and_parts (is_name s) (is_none (place post s) && are_names post) all).0
-name_in (x ∷ pre) post s all = name_in pre post s ((names_apart.head x (pre ++ s ∷ post) all).1)
+use Rattle.wi_net.proofs.PlaceLemmas.{before}
+use Rattle.wi_net.proofs.ApartLemmas.{names_apart, name_in}
 
 -- so many items
 pub len_of_list : {X : Type 0} (f : X → Data) (xs : List X) → items_len (items_of (map f xs)) ≡ length xs

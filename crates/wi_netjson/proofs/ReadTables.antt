@@ -36,9 +36,10 @@ use Rattle.wi_netjson.specs.Reading.{each}
 use Rattle.wi_netjson.specs.Operations.{labelled, operation_of, operation_at}
 use Rattle.wi_netjson.specs.Tables.{way_at, member_at, group_members_at, group_at, table_ends, table_at}
 use Rattle.wi_netjson.specs.Written.{name_at, label_name, target_name, out_name, in_name, op_data, way_data, group_data, row_data}
-use Rattle.wi_netjson.proofs.PlaceLemmas.{IsApart, before, found_at}
-use Rattle.wi_netjson.proofs.ReadNames.{names_apart, len_of_list}
-use Rattle.wi_netjson.proofs.ReadLinks.{same_out, same_in, outs_apart, ins_apart, test_flip, test_self, name_of, router_is_found}
+use Rattle.wi_net.proofs.PlaceLemmas.{IsApart, before, found_at}
+use Rattle.wi_net.proofs.ApartLemmas.{names_apart, same_out, same_in, outs_apart, ins_apart, test_flip, test_self}
+use Rattle.wi_netjson.proofs.ReadNames.{len_of_list}
+use Rattle.wi_netjson.proofs.ReadLinks.{name_of, router_is_found}
 use Rattle.wi_net.proofs.EndLemmas.{has_ends}
 use Rattle.wi_netjson.proofs.WrittenLemmas.{row_in}
 

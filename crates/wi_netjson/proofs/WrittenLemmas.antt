@@ -4,7 +4,7 @@ use Rattle.std.specs.Prelude.{is_none, codes, option_map}
 use Rattle.std.specs.List.{list_all, list_any}
 use Rattle.std.specs.Global.{Vec}
 use Rattle.std.proofs.lemmas.Bool.{and_parts, and_from, cases_lt, cases_eq, eq-eqb, ne_eqb}
-use Rattle.std.proofs.lemmas.List.{map_push, take_more, take_all, length-take, drop-append-le, get_or-set_same, get_or-set_other}
+use Rattle.std.proofs.lemmas.List.{map_push, take_all, length-take, drop-append-le, get_or-set_same, get_or-set_other}
 use Rattle.std.proofs.Math.ListN.{drop_of_length-le}
 use Rattle.std.proofs.lemmas.List.Folds.{list_any-append}
 use Rattle.std.proofs.lemmas.Option.{slice_get_within, get_or_from_slice_get}
@@ -22,13 +22,11 @@ use Rattle.wi_net.specs.declared.parts.TableRow.{TableRow}
 use Rattle.wi_net.specs.Tables.{is_row, are_rows_apart, groups_in}
 use Rattle.wi_net.specs.Net.{Net, entry}
 use Rattle.wi_net.specs.Network.{IsNetwork, is_row_of}
-use Rattle.wi_net.proofs.KeptLists.{nothing_is, none_parts, same_flip, all_get, all_push, get_there}
+use Rattle.wi_net.proofs.KeptLists.{nothing_is, same_flip, all_get, all_push, get_there}
+use Rattle.wi_net.proofs.PlaceLemmas.{longer, none_at}
 use Rattle.wi_netjson.specs.Written.{name_at, list_of, labels_in, op_data, way_data, group_data, row_data}
 
 -- one more
-pub longer : {X : Type 0} (xs : List X) (i : ℕ) (x : X) → slice_get xs i ≡ Some x → take (i + 1) xs ≡ take i xs ++ x ∷ []
-longer xs i x at = take_more xs i x (slice_get_within xs i x at) ∙ ap (λ y. take i xs ++ y ∷ []) (get_or_from_slice_get xs i x x at)
-
 pub made_more : {X : Type 0} (f : X → Data) (xs : List X) (vs after : List Value) (v : Value) (x : X) (i : ℕ) → map view vs ≡ map f (take i xs) → after ≡ vs ++ v ∷ [] → slice_get xs i ≡ Some x → view v ≡ f x → map view after ≡ map f (take (i + 1) xs)
 made_more f xs vs after v x i so_far pushed at is =
     ap (map view) pushed ∙ map_push view vs v ∙ ap (λ d. map view vs ++ d ∷ []) is ∙ ap (λ ds. ds ++ f x ∷ []) so_far ∙ sym (map_push f (take i xs) x) ∙ ap (map f) (sym (longer xs i x at))
@@ -155,12 +153,6 @@ way_written net m l out ops v at at_out is made = made ∙ rw (is, at, named net
 pub row_written : (net : Net) (row : TableRow) (l : Link) (to into name : List ℕ) (groups v : Data) → slice_get net.links row.link.0 ≡ Some l → slice_get net.routers l.to.0 ≡ Some to → slice_get net.interfaces l.in_if.0 ≡ Some into → slice_get net.labels row.label.0 ≡ Some name
     → groups ≡ list_of (group_data net) row.groups → v ≡ object (member (codes "at") (string to) (member (codes "groups") groups (member (codes "in") (string into) (member (codes "label") (string name) no_members)))) → v ≡ row_data net row
 row_written net row l to into name groups v at at_to at_in at_name is made = made ∙ rw (is, at, named net.routers l.to.0 to at_to, named net.interfaces l.in_if.0 into at_in, named net.labels row.label.0 name at_name) refl
-
--- what no place is found for stands nowhere
-pub none_at : {X : Type 0} (p : X → Bool) (xs : List X) (i : ℕ) (x : X) → position p xs ≡ None → slice_get xs i ≡ Some x → p x ≡ false
-none_at p [] i x none at = cc
-none_at p (y ∷ xs) zero x none at = let same : y ≡ x = cc in ap p (sym same) ∙ (none_parts p y xs none).0
-none_at p (y ∷ xs) (suc i) x none at = none_at p xs i x (none_parts p y xs none).1 at
 
 -- the groups of a row are what the rows say of its link and label
 groups_of_row : (rows : List TableRow) (i : ℕ) (row : TableRow) → are_rows_apart rows ≡ true → slice_get rows i ≡ Some row → groups_in rows row.link row.label ≡ row.groups

@@ -1,5 +1,5 @@
-//! Tests of headers, of networks and of network files that need only what `wi_labels`, `wi_net` and `wi_netjson` offer to all:
-//! here they don't make those crates be proved a second time, since a crate that has tests is.
+//! Tests of headers, of networks, of network files and of plans in them that need only what `wi_labels`, `wi_net`, `wi_netjson`
+//! and `wi_planjson` offer to all: here they don't make those crates be proved a second time, since a crate that has tests is.
 #![tactic(auto)]
 
 #[cfg(test)]
@@ -14,6 +14,8 @@ mod headers;
 mod limits;
 #[cfg(test)]
 mod networks;
+#[cfg(test)]
+mod plans;
 #[cfg(test)]
 mod risks;
 #[cfg(test)]

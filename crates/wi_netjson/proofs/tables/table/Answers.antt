@@ -1,4 +1,4 @@
-use Rattle.std.proofs.Common.{◌∙◌, Ok, sym, ap, rules}
+use Rattle.std.proofs.Common.{◌∙◌, Ok, sym, ap}
 use Rattle.serde_json.specs.View.{items_view}
 use Rattle.wi_netjson.proofs.RowRules.{row_rules}
 use Rattle.wi_netjson.proofs.tables.table.Goals as goal

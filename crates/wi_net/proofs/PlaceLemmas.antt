@@ -3,13 +3,18 @@ use Rattle.std.proofs.Common.{◌≡◌, ℕ, zero, suc, ◌+◌, ◌<◌, ◌�
 use Rattle.std.specs.List.{list_any, position_from}
 use Rattle.std.proofs.Math.Seq.{drop-cons}
 use Rattle.std.proofs.lemmas.Bool.{or_parts, or_from}
-use Rattle.std.proofs.lemmas.List.{take-append-drop, length-take-le}
+use Rattle.std.proofs.lemmas.List.{take-append-drop, take_more, length-take-le}
 use Rattle.std.proofs.lemmas.List.Folds.{list_any-append}
 use Rattle.std.proofs.lemmas.Iterator.Adapters.{position_from-zero}
 use Rattle.std.proofs.lemmas.Option.{slice_get_within, get_or_from_slice_get}
 use Rattle.wi_net.proofs.FindingLemmas.{none_any}
-use Rattle.wi_net.proofs.KeptLists.{none_from}
-use Rattle.wi_netjson.proofs.WrittenLemmas.{none_at}
+use Rattle.wi_net.proofs.KeptLists.{none_from, none_parts}
+
+-- what no place is found for stands nowhere
+pub none_at : {X : Type 0} (p : X → Bool) (xs : List X) (i : ℕ) (x : X) → position p xs ≡ None → slice_get xs i ≡ Some x → p x ≡ false
+none_at p [] i x none at = cc
+none_at p (y ∷ xs) zero x none at = let same : y ≡ x = cc in ap p (sym same) ∙ (none_parts p y xs none).0
+none_at p (y ∷ xs) (suc i) x none at = none_at p xs i x (none_parts p y xs none).1 at
 
 -- nothing passes in a beginning of a list where nothing passes
 pub none_front : {X : Type 0} (p : X → Bool) (xs ys : List X) → position p (xs ++ ys) ≡ None → position p xs ≡ None
@@ -37,6 +42,15 @@ split_at xs i x at =
     let within = slice_get_within xs i x at in
     sym (take-append-drop i xs) ∙ ap (λ ys. take i xs ++ ys) (drop-cons xs i x within ∙ ap (λ y. y ∷ drop (suc i) xs) (get_or_from_slice_get xs i x x at))
 
+-- what stands behind a beginning
+pub get_middle : {X : Type 0} (xs ys : List X) (x : X) → slice_get (xs ++ x ∷ ys) (length xs) ≡ Some x
+get_middle [] ys x = refl
+get_middle (y ∷ xs) ys x = get_middle xs ys x
+
+-- a list up to one more place
+pub longer : {X : Type 0} (xs : List X) (i : ℕ) (x : X) → slice_get xs i ≡ Some x → take (i + 1) xs ≡ take i xs ++ x ∷ []
+longer xs i x at = take_more xs i x (slice_get_within xs i x at) ∙ ap (λ y. take i xs ++ y ∷ []) (get_or_from_slice_get xs i x x at)
+
 -- a list whose elements are apart by a test
 pub record IsApart {X : Type 0} (t : X → X → Bool) (A : List X → Bool) : Type 0 where
   pub flip : (x y : X) → t x y ≡ false → t y x ≡ false
@@ -46,16 +60,12 @@ pub record IsApart {X : Type 0} (t : X → X → Bool) (A : List X → Bool) : T
 -- what stands after a list isn't in it
 pub before : {X : Type 0} (t : X → X → Bool) (A : List X → Bool) → IsApart t A → (pre post : List X) (x : X) → A (pre ++ x ∷ post) ≡ true → position (t x) pre ≡ None
 before t A a [] post x all = refl
-before {X} t A a (y ∷ pre) post x all =
+before t A a (y ∷ pre) post x all =
     let parts = a.head y (pre ++ x ∷ post) all in
     let other : t y x ≡ false = none_at (t y) (pre ++ x ∷ post) (length pre) x parts.0 (get_middle pre post x) in
     none_cons (t x) y pre (a.flip y x other) (before t A a pre post x parts.1)
-  where
-    get_middle : (xs ys : List X) (z : X) → slice_get (xs ++ z ∷ ys) (length xs) ≡ Some z
-    get_middle [] ys z = refl
-    get_middle (w ∷ xs) ys z = get_middle xs ys z
 
-none_before : {X : Type 0} (t : X → X → Bool) (A : List X → Bool) → IsApart t A → (xs : List X) (k : ℕ) (x : X) → A xs ≡ true → slice_get xs k ≡ Some x → position (t x) (take k xs) ≡ None
+pub none_before : {X : Type 0} (t : X → X → Bool) (A : List X → Bool) → IsApart t A → (xs : List X) (k : ℕ) (x : X) → A xs ≡ true → slice_get xs k ≡ Some x → position (t x) (take k xs) ≡ None
 none_before t A a xs k x all at = before t A a (take k xs) (drop (suc k) xs) x (ap A (sym (split_at xs k x at)) ∙ all)
 
 -- an element is found at its place, also in a beginning that has it

@@ -1,0 +1,4 @@
+-- What only private contracts and proofs use: no public contract reaches it.
+pub mod Made
+pub mod Places
+pub mod Starts

@@ -1,0 +1,6 @@
+pub mod Labels
+pub mod Rows
+pub mod Protected
+pub mod OneWay
+pub mod Refusals
+pub mod private

@@ -9,8 +9,15 @@ pub mod WeightLemmas
 pub mod DemandWeights
 pub mod MatchLemmas
 pub mod LeastLemmas
+pub mod Bounding
+pub mod Showing
 pub mod AcceptedLemmas
+pub mod Leasts
+pub mod RightlyShown
 pub mod MakerLemmas
+pub mod Visits
+pub mod AcceptedTrees
+pub mod MadeTrees
 pub mod RisingRows
 pub mod OneClosed
 pub mod UnusedTerms

@@ -77,10 +77,10 @@ rows_have c each = each_added (IsRow c.shown) (HasTerms c.shown.terms) (λ befor
 module _ (problem : Problem) (a b : Answer) (c d : Certificate) (k : IsProblem problem) (decided : IsDecided problem a) (also : IsDecided problem b) (maker : IsMaker problem a c) (other : IsMaker problem b d) where
   -- heads and pairs are the least closed ones in both
   heads_in : AllIn c.closed.heads d.closed.heads
-  heads_in = all_in c.closed.heads d.closed.heads (maker.closed.within d.closed.heads d.closed.pairs other.closed.closed).0
+  heads_in = all_in c.closed.heads d.closed.heads (maker.least.closed.within d.closed.heads d.closed.pairs other.least.closed.closed).0
 
   pairs_in : AllIn c.closed.pairs d.closed.pairs
-  pairs_in = all_in c.closed.pairs d.closed.pairs (maker.closed.within d.closed.heads d.closed.pairs other.closed.closed).1
+  pairs_in = all_in c.closed.pairs d.closed.pairs (maker.least.closed.within d.closed.heads d.closed.pairs other.least.closed.closed).1
 
   -- where the one says no, the other shows no run
   no_run : is_no c.shown.claim ≡ true → is_no d.shown.claim ≡ false → ⊥
@@ -103,9 +103,9 @@ module _ (problem : Problem) (a b : Answer) (c d : Certificate) (k : IsProblem p
       = in_contains (rows_of c.shown.terms c.closed.rows) (row r.p r.g r.q w) (in_map (λ (x : Row). row x.p x.g x.q (padded c.shown.terms x.weight)) c.closed.rows r there) in
       let least : IsLeastWithin problem d.closed.heads (bound_of d.shown) r.p r.g r.q w
       = subst (λ (hs : List (ℕ × ℕ)). IsLeastWithin problem hs (bound_of d.shown) r.p r.g r.q w) heads
-      (subst (λ (o : Option (List ℕ)). IsLeastWithin problem c.closed.heads o r.p r.g r.q w) bound ((maker.rows r.p r.g r.q w).0 here)) in
+      (subst (λ (o : Option (List ℕ)). IsLeastWithin problem c.closed.heads o r.p r.g r.q w) bound ((maker.least.rows r.p r.g r.q w).0 here)) in
       let found = map_in (λ (x : Row). row x.p x.g x.q (padded d.shown.terms x.weight)) d.closed.rows (row r.p r.g r.q w)
-      (contains_in (rows_of d.shown.terms d.closed.rows) (row r.p r.g r.q w) ((other.rows r.p r.g r.q w).1 least)) in
+      (contains_in (rows_of d.shown.terms d.closed.rows) (row r.p r.g r.q w) ((other.least.rows r.p r.g r.q w).1 least)) in
       let count : length found.0.weight ≡ length r.weight
       = rows_have d other.writable.closed.rows found.0 found.1 ∙ ap (λ n. n + 1) (sym terms) ∙ sym (rows_have c maker.writable.closed.rows r there) in
       subst (In d.closed.rows) (same_row d.shown.terms found.0 r count (found.2 ∙ ap (λ n. row r.p r.g r.q (padded n r.weight)) terms)) found.1

@@ -1,15 +1,20 @@
 -- The order of weights is the one by which runs are compared.
-use Rattle.std.proofs.Common.{◌≡◌, ℕ, zero, suc, ◌<◌, Bool, true, false, ◌&&◌, nat_eq, nat_lt, List, [], ◌∷◌, take, drop, length, refl, arith, ap, sym, ◌∙◌, inl, inr}
+use Rattle.std.proofs.Common.{◌≡◌, ℕ, zero, suc, ◌<◌, Bool, true, false, ◌&&◌, nat_eq, nat_lt, List, [], ◌∷◌, take, drop, length, refl, arith, ap, sym, ◌∙◌, inl, inr, Option, Some, None}
 use Rattle.std.specs.Cmp.Lexicographic.{slice_cmp}
 use Rattle.std.specs.Ordering.{nat_cmp, ordering_then}
 use Rattle.std.specs.declared.cmp.Ordering.{Ordering}
 use Rattle.std.specs.declared.cmp.Ordering.TheVariants.{Less, Equal, Greater}
 use Rattle.std.proofs.lemmas.Bool.{and_parts, and_from, or_left, or_right, eqb-true, eq-eqb, ltb-true, lt-ltb, false_from_ne_true}
 use Rattle.std.proofs.lemmas.Bool.Decides.{nat_tests}
-use Rattle.wi_weight.specs.Weights.{AtMost, Below}
+use Rattle.std.specs.Prelude.{IfSome}
+use Rattle.wi_weight.specs.Weights.{IsWeight, AtMost, Below}
+use Rattle.wi_weight.specs.lemmas.Order.{below_or_at_most}
 use Rattle.wi_weight.specs.lemmas.Then.{then_tied, less_parts}
 use Rattle.wi_world.specs.Runs.{is_less}
+use Rattle.wi_pds.specs.Closed.{Within}
+use Rattle.wi_trees.specs.Trees.{IsBelow}
 use Rattle.wi_build.specs.Systems.{scale}
+use Rattle.wi_accept.proofs.WeightLemmas.{scale_laws}
 
 pub then_assoc : (a b c : Ordering) → ordering_then (ordering_then a b) c ≡ ordering_then a (ordering_then b c)
 then_assoc Less b c = refl
@@ -79,3 +84,19 @@ below_before x w h below = sym (parts_compared 5 x w h) ∙ below
 -- and is less
 pub below_less : (x w : List ℕ) → length x ≡ length w → Below scale x w → is_less x w ≡ true
 below_less x w h below = before_less x w h (below_before x w h below)
+
+-- a weight that is less is below
+pub less_below : (x w : List ℕ) → IsWeight scale x → IsWeight scale w → is_less x w ≡ true → Below scale x w
+less_below x w six other less = elim (below_or_at_most scale_laws x w six other) [
+  | inl below ↦ below
+  | inr most ↦ (let more : true ≡ false = sym less ∙ not_less w x (other ∙ sym six) most in cc)
+]
+
+-- below a bound, in the order of runs and in that of weights
+pub below_within : (bound : Option (List ℕ)) → IfSome bound (λ b. IsWeight scale b) → (w : List ℕ) → IsWeight scale w → IsBelow bound w → Within scale bound w
+below_within None is w six below = tt
+below_within (Some b) is w six below = less_below w b six is below
+
+pub within_below : (bound : Option (List ℕ)) → IfSome bound (λ b. IsWeight scale b) → (w : List ℕ) → IsWeight scale w → Within scale bound w → IsBelow bound w
+within_below None is w six within = tt
+within_below (Some b) is w six within = below_less w b (six ∙ sym is) within

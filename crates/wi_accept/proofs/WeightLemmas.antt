@@ -21,12 +21,11 @@ use Rattle.wi_pds.specs.Runs.{Pops}
 use Rattle.wi_pds.proofs.Bound.{weight_run}
 use Rattle.wi_rules.proofs.Lists.{map_in, contains_in}
 use Rattle.wi_build.specs.Systems.{scale}
-use Rattle.wi_cert.specs.declared.certificate.Certificate.{Certificate}
+use Rattle.wi_cert.specs.declared.closed.Closed.{Closed}
 use Rattle.wi_cert.specs.declared.row.Row.{Row}
 use Rattle.wi_cert.specs.declared.shown.Shown.{Shown}
 use Rattle.wi_cert.specs.Shown.{is_no, IsShown}
-use Rattle.wi_cert.specs.Closed.{IsRow}
-use Rattle.wi_cert.specs.Text.{IsWritable}
+use Rattle.wi_cert.specs.Closed.{IsRow, IsClosed}
 use Rattle.wi_accept.specs.Answers.{padded}
 use Rattle.wi_accept.specs.Demands.{row}
 use Rattle.wi_accept.specs.Causes.{rows_of, bound_of}
@@ -92,8 +91,8 @@ abbrev IsSix : ℕ → Row → Type 0
 IsSix terms r = length (padded terms r.weight) ≡ 6
 
 -- rows weigh weights
-pub row_weights : (c : Certificate) → IsWritable c → AreWeights scale (rows_of c.shown.terms c.closed.rows)
-row_weights c k p g q w at =
-    let found = map_in (λ (r : Row). row r.p r.g r.q (padded c.shown.terms r.weight)) c.closed.rows (row p g q w) (contains_in (rows_of c.shown.terms c.closed.rows) (row p g q w) at) in
-    let is : IsSix c.shown.terms found.0 = each_added (IsRow c.shown) (IsSix c.shown.terms) (λ before r h. padded_six c.shown.terms r.weight k.shown.terms h.weight) [] c.closed.rows k.closed.rows found.0 found.1 in
+pub row_weights : (s : Shown) (c : Closed) → IsShown s → IsClosed s c → AreWeights scale (rows_of s.terms c.rows)
+row_weights s c shown closed p g q w at =
+    let found = map_in (λ (r : Row). row r.p r.g r.q (padded s.terms r.weight)) c.rows (row p g q w) (contains_in (rows_of s.terms c.rows) (row p g q w) at) in
+    let is : IsSix s.terms found.0 = each_added (IsRow s) (IsSix s.terms) (λ before r h. padded_six s.terms r.weight shown.terms h.weight) [] c.rows closed.rows found.0 found.1 in
     subst (λ (x : List ℕ). IsWeight scale x) (ap (λ (s : Summary). s.weight) found.2) is

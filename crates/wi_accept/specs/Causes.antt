@@ -1,5 +1,5 @@
 -- Why a certificate isn't believed, and which cause is told.
-use Rattle.std.specs.Prelude.{◌≡◌, ◌≢◌, ℕ, ◌<◌, Bool, true, false, if◌then◌else◌, List, map, length, Option, Some, None}
+use Rattle.std.specs.Prelude.{◌≡◌, ◌≢◌, ℕ, ◌+◌, ◌*◌, ◌<◌, Bool, true, false, if◌then◌else◌, List, map, length, Option, Some, None}
 use Rattle.wi_net.specs.Net.{Net}
 use Rattle.wi_world.specs.declared.run.Run.{Run}
 use Rattle.wi_world.specs.declared.answer.Verdict.{Verdict}
@@ -21,7 +21,9 @@ use Rattle.wi_cert.specs.declared.row.Row.{Row}
 use Rattle.wi_cert.specs.declared.check_refused.Part.{Part}
 use Rattle.wi_cert.specs.declared.check_refused.Part.TheVariants.{First, Path, Last}
 use Rattle.wi_cert.specs.declared.check_refused.CheckRefused.{CheckRefused}
-use Rattle.wi_cert.specs.declared.check_refused.CheckRefused.TheVariants.{TermsDiffer, StepNotInTable, NoMatch, WeightDiffers, WrongAnswer, HeadMissing, PairMissing, GoalBelow, NotClosed, Memory}
+use Rattle.wi_cert.specs.declared.check_refused.CheckRefused.TheVariants.{TermsDiffer, StepNotInTable, NoMatch, WeightDiffers, WrongAnswer, Unbounded, BadSplit, Leaf, Memory}
+use Rattle.wi_cert.specs.declared.check_refused.ClosedRefused.{ClosedRefused}
+use Rattle.wi_cert.specs.declared.check_refused.ClosedRefused.TheVariants.{HeadMissing, PairMissing, GoalBelow, NotClosed}
 use Rattle.wi_cert.specs.Shown.{is_no}
 use Rattle.wi_accept.specs.declared.need.Need.{Need}
 use Rattle.wi_accept.specs.declared.need.Need.TheVariants.{Head, Pair}
@@ -69,44 +71,70 @@ open_in problem terms bound c = first_open scale components (rules problem) c.he
 abbrev pub ShowsRun : Shown → Type 0
 ShowsRun s = is_no s.claim ≡ false
 
+-- a cause for which what is shown isn't believed
+abbrev pub IsShownCause : Problem → Shown → CheckRefused → Type 0
+IsShownCause problem s (TermsDiffer shown asked) = (shown ≡ s.terms) × (asked ≡ length problem.vector) × (shown ≢ asked)
+IsShownCause problem s (StepNotInTable n) = ShowsRun s × (why : Cause) × (moving_fault problem.net problem.bounds (run_of problem.net s) ≡ Some (n, why))
+IsShownCause problem s (NoMatch part) = ShowsRun s × IsFirstUnmatched problem.net (asks problem) (run_of problem.net s) part
+IsShownCause problem s (WeightDiffers shown counted) =
+    ShowsRun s × (components shown ≡ padded s.terms s.weight) × (components counted ≡ weighs problem (run_of problem.net s))
+    × (components shown ≢ components counted)
+IsShownCause problem s WrongAnswer = is_wrong s.claim (verdict_of problem.net problem.bounds (run_of problem.net s)) ≡ true
+IsShownCause problem s (Unbounded r) = ⊥
+IsShownCause problem s (BadSplit n) = ⊥
+IsShownCause problem s (Leaf n r) = ⊥
+IsShownCause problem s Memory = ⊥
+
+-- a cause for which heads, pairs and rows, whose weights have so many terms, don't bound every run below a bound
+abbrev pub IsClosedCause : Problem → ℕ → Option (List ℕ) → Closed → ClosedRefused → Type 0
+IsClosedCause problem terms bound c (HeadMissing p g) = missing_in problem c ≡ Some (Head p g)
+IsClosedCause problem terms bound c (PairMissing u v) = missing_in problem c ≡ Some (Pair u v)
+IsClosedCause problem terms bound c (GoalBelow w) = goal_in terms c ≡ Some (components w)
+IsClosedCause problem terms bound c (NotClosed head target sum) = open_in problem terms bound c ≡ Some (row head.0 head.1 target (components sum))
+
 -- a cause for which a certificate isn't believed
 abbrev pub IsCause : Problem → Certificate → CheckRefused → Type 0
-IsCause problem c (TermsDiffer shown asked) = (shown ≡ c.shown.terms) × (asked ≡ length problem.vector) × (shown ≢ asked)
-IsCause problem c (StepNotInTable n) = ShowsRun c.shown × (why : Cause) × (moving_fault problem.net problem.bounds (run_of problem.net c.shown) ≡ Some (n, why))
-IsCause problem c (NoMatch part) = ShowsRun c.shown × IsFirstUnmatched problem.net (asks problem) (run_of problem.net c.shown) part
-IsCause problem c (WeightDiffers shown counted) =
-    ShowsRun c.shown × (components shown ≡ padded c.shown.terms c.shown.weight) × (components counted ≡ weighs problem (run_of problem.net c.shown))
-    × (components shown ≢ components counted)
-IsCause problem c WrongAnswer = is_wrong c.shown.claim (verdict_of problem.net problem.bounds (run_of problem.net c.shown)) ≡ true
-IsCause problem c (HeadMissing p g) = missing_in problem c.closed ≡ Some (Head p g)
-IsCause problem c (PairMissing u v) = missing_in problem c.closed ≡ Some (Pair u v)
-IsCause problem c (GoalBelow w) = goal_in c.shown.terms c.closed ≡ Some (components w)
-IsCause problem c (NotClosed head target sum) = open_in problem c.shown.terms (bound_of c.shown) c.closed ≡ Some (row head.0 head.1 target (components sum))
-IsCause problem c Memory = ⊥
+IsCause problem c (Unbounded r) = IsClosedCause problem c.shown.terms (bound_of c.shown) c.closed r
+IsCause problem c r = IsShownCause problem c.shown r
 
 -- the order in which causes are told
+abbrev pub closed_place : ClosedRefused → ℕ
+closed_place (HeadMissing p g) = 0
+closed_place (PairMissing u v) = 0
+closed_place (GoalBelow w) = 1
+closed_place (NotClosed head target sum) = 2
+
 abbrev pub place : CheckRefused → ℕ
 place (TermsDiffer shown asked) = 0
 place (StepNotInTable n) = 1
 place (NoMatch part) = 2
 place (WeightDiffers shown counted) = 3
 place WrongAnswer = 4
-place (HeadMissing p g) = 5
-place (PairMissing u v) = 5
-place (GoalBelow w) = 6
-place (NotClosed head target sum) = 7
-place Memory = 8
+place (Unbounded r) = 5 + closed_place r
+place (BadSplit n) = 5 + 3 * n
+place (Leaf n r) = 5 + 3 * n + closed_place r
+place Memory = 5
 
--- a certificate is refused for the first cause
-pub record IsRefusal (problem : Problem) (c : Certificate) (r : CheckRefused) : Type 0 where
-  pub cause : IsCause problem c r
-  pub first : (s : CheckRefused) → place s < place r → IsCause problem c s → ⊥
+-- of several causes the first is told
+pub record IsFirstCause (IsOne : CheckRefused → Type 0) (r : CheckRefused) : Type 0 where
+  pub cause : IsOne r
+  pub first : (s : CheckRefused) → place s < place r → IsOne s → ⊥
 
--- what is answered for a certificate that isn't accepted; want of memory may be, too
+-- what is answered where something speaks against it; want of memory may be, too
+abbrev pub IsToldFirst : (CheckRefused → Type 0) → CheckRefused → Type 0
+IsToldFirst IsOne Memory = Unit {0}
+IsToldFirst IsOne r = IsFirstCause IsOne r
+
+-- nothing speaks against it
+abbrev pub HasNone : (CheckRefused → Type 0) → Type 0
+HasNone IsOne = (r : CheckRefused) → IsOne r → ⊥
+
+-- a certificate is refused for the first cause, or there is none, and it is accepted
+abbrev pub IsRefusal : Problem → Certificate → CheckRefused → Type 0
+IsRefusal problem c r = IsFirstCause (IsCause problem c) r
+
 abbrev pub IsRefused : Problem → Certificate → CheckRefused → Type 0
-IsRefused problem c Memory = Unit {0}
-IsRefused problem c r = IsRefusal problem c r
+IsRefused problem c r = IsToldFirst (IsCause problem c) r
 
--- or there is no cause, and it is accepted
 abbrev pub IsAccepted : Problem → Certificate → Type 0
-IsAccepted problem c = (r : CheckRefused) → IsCause problem c r → ⊥
+IsAccepted problem c = HasNone (IsCause problem c)

@@ -3,3 +3,4 @@ pub mod Needs
 pub mod Demands
 pub mod Causes
 pub mod Makers
+pub mod Trees

@@ -9,6 +9,7 @@ use Rattle.wi_pds.specs.LeastClosed.{AreLeastClosed}
 use Rattle.wi_build.specs.Problems.{Problem}
 use Rattle.wi_build.specs.Systems.{scale, rules}
 use Rattle.wi_cert.specs.declared.certificate.Certificate.{Certificate}
+use Rattle.wi_cert.specs.declared.closed.Closed.{Closed}
 use Rattle.wi_cert.specs.Text.{IsWritable}
 use Rattle.wi_accept.specs.Answers.{answer_of}
 use Rattle.wi_accept.specs.Causes.{rows_of, bound_of}
@@ -19,11 +20,16 @@ pub record IsLeastWithin (problem : Problem) (heads : List (ℕ × ℕ)) (bound 
   pub least : Least scale components (rules problem) p g q w
   pub within : Within scale bound w
 
+-- heads and pairs are the least closed ones, and rows, whose weights have so many terms, just the least summaries of these heads
+-- below the bound
+pub record AreLeast (problem : Problem) (terms : ℕ) (bound : Option (List ℕ)) (c : Closed) : Type 0 where
+  pub closed : AreLeastClosed (rules problem) (0, 0) c.heads c.pairs
+  pub rows : (p g q : ℕ) (w : List ℕ) → Listed (rows_of terms c.rows) p g q w ↔ IsLeastWithin problem c.heads bound p g q w
+
 -- The certificate can be written, shows the answer with as many terms as are asked for, and has the least closed heads and pairs, and
 -- just the least summaries of these heads that weigh less than what is shown; of a no, all of them.
 pub record IsMaker (problem : Problem) (answer : Answer) (c : Certificate) : Type 0 where
   pub writable : IsWritable c
   pub terms : c.shown.terms ≡ length problem.vector
   pub shows : answer_of problem c.shown ≡ answer
-  pub closed : AreLeastClosed (rules problem) (0, 0) c.closed.heads c.closed.pairs
-  pub rows : (p g q : ℕ) (w : List ℕ) → Listed (rows_of c.shown.terms c.closed.rows) p g q w ↔ IsLeastWithin problem c.closed.heads (bound_of c.shown) p g q w
+  pub least : AreLeast problem c.shown.terms (bound_of c.shown) c.closed

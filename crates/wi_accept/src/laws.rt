@@ -20,6 +20,9 @@ ghost use Rattle.wi_cert.specs.Text.{IsWritable};
 ghost use Rattle.wi_accept.specs.Answers.{IsDecided, answer_of};
 ghost use Rattle.wi_accept.specs.Causes.{IsRefusal, IsAccepted};
 ghost use Rattle.wi_accept.specs.Makers.{IsMaker};
+ghost use Rattle.wi_accept.specs.Trees.{IsDecidedExactly, IsTreeAccepted, IsTreeMaker, IsTreeRefusal};
+ghost use Rattle.wi_cert.specs.declared.tree.TreeCertificate.{TreeCertificate};
+ghost use Rattle.wi_cert.specs.Trees.{IsTreeWritable};
 
 /// The answer of a certificate that nothing speaks against holds, whoever wrote it.
 pub fn an_accepted_answer_holds()
@@ -42,9 +45,29 @@ pub fn readings_accept_the_same()
     ensures { (net : Net) (text : List ℕ) (q r : Query) (vector : List (List Part)) (c : Certificate) → IsQuery net text q → IsQuery net text r → HasAutomata q → HasAutomata r → IsAccepted (problem_of net q vector) c → IsAccepted (problem_of net r vector) c }
 {}
 
+/// And so is a tree.
+pub fn readings_accept_the_same_trees()
+    ensures { (net : Net) (text : List ℕ) (q r : Query) (vector : List (List Part)) (t : TreeCertificate) → IsQuery net text q → IsQuery net text r → HasAutomata q → HasAutomata r → IsTreeAccepted (problem_of net q vector) t → IsTreeAccepted (problem_of net r vector) t }
+{}
+
 /// A certificate is refused for one cause: there are no two first ones.
 pub fn a_certificate_has_one_first_refusal()
     ensures { (problem : Problem) (c : Certificate) (r s : CheckRefused) → IsRefusal problem c r → IsRefusal problem c s → r ≡ s }
+{}
+
+/// The answer of a tree that nothing speaks against holds without doubt, whoever wrote it.
+pub fn an_accepted_trees_answer_holds()
+    ensures { (problem : Problem) (t : TreeCertificate) → IsProblem problem → IsTreeWritable t → IsTreeAccepted problem t → IsDecidedExactly problem (answer_of problem t.shown) }
+{}
+
+/// Nothing speaks against the tree that a maker writes for an answer that holds without doubt.
+pub fn makers_trees_are_accepted()
+    ensures { (problem : Problem) (answer : Answer) (t : TreeCertificate) → IsProblem problem → IsDecidedExactly problem answer → IsTreeMaker problem answer t → IsTreeAccepted problem t }
+{}
+
+/// A tree is refused for one cause, too.
+pub fn a_tree_has_one_first_refusal()
+    ensures { (problem : Problem) (t : TreeCertificate) (r s : CheckRefused) → IsTreeRefusal problem t r → IsTreeRefusal problem t s → r ≡ s }
 {}
 
 /// The terms that a vector hasn't are 0 in what every rule and every run weighs, so the other terms and the effort tell a weight.

@@ -23,7 +23,7 @@ use Rattle.wi_app.specs.Decided.{IsReported, status_for}
 use Rattle.wi_app.specs.Run.{MayEnd}
 
 -- a packet sets out on a link and with labels of the network
-start_known : (net : Net) (fails : List LinkId) (run : Run) → is_start net fails run.first run.header ≡ true → IsKnownRun net run
+pub start_known : (net : Net) (fails : List LinkId) (run : Run) → is_start net fails run.first run.header ≡ true → IsKnownRun net run
 start_known net fails run start = record { link = link; header = parts.1 }
   where
     parts : (is_link net run.first && not (has fails run.first) && is_valid_header run.header ≡ true) × (labels_known net run.header ≡ true)

@@ -1,5 +1,6 @@
 pub mod Answers
 pub mod Causes
+pub mod Exactly
 pub mod HexLemmas
 pub mod Outcomes
 pub mod Parts

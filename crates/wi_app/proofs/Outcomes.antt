@@ -35,24 +35,31 @@ use Rattle.wi_quantity.proofs.OneVector.{one_vector}
 use Rattle.wi_trace.specs.declared.answer.Answer.{Answer}
 use Rattle.wi_build.specs.Problems.{Problem, IsProblem, problem_of}
 use Rattle.wi_cert.specs.declared.certificate.Certificate.{Certificate}
+use Rattle.wi_cert.specs.Sheets.{certificates}
 use Rattle.wi_cert.specs.Text.{IsText, IsBadLine}
 use Rattle.wi_cert.proofs.TextLemmas.{one_text, text_is_decoded}
 use Rattle.wi_cert.proofs.TellingLemmas.{bad_line_told}
+use Rattle.wi_cert.proofs.TreeCompleteLemmas.{one_tree, tree_is_decoded}
+use Rattle.wi_cert.specs.declared.tree.TreeCertificate.{TreeCertificate}
+use Rattle.wi_cert.specs.Trees.{IsTreeText, trees}
 use Rattle.wi_accept.specs.Answers.{IsDecided, word_of}
 use Rattle.wi_accept.specs.Causes.{IsAccepted, IsCause}
-use Rattle.wi_accept.proofs.OneReading.{accept_the_same}
+use Rattle.wi_accept.specs.Trees.{IsTreeAccepted, IsTreeCause}
+use Rattle.wi_accept.proofs.OneReading.{accept_the_same, accept_trees_the_same}
+use Rattle.wi_branch.specs.declared.refused.ExactRefused.TheVariants as none
 use Rattle.wi_decide.specs.Refusals.{IsUnrefused}
 use Rattle.wi_gen.specs.Ring.{net_of, ring_of}
 use Rattle.wi_gen.specs.Texts.{query_text, weights_text}
 use Rattle.wi_report.specs.Reports.{accepted_text}
 use Rattle.wi_report.specs.Summaries.{summary_of}
-use Rattle.wi_words.specs.Commands.{Command, Verify, Check, Play, Gen, Packets, Stack, command_of}
+use Rattle.wi_words.specs.Commands.{Command, Verify, Check, Play, Gen, Exact, CheckExact, Packets, Stack, command_of}
 use Rattle.wi_app.specs.Texts.{text_of, status_of, IsPutTogether}
 use Rattle.wi_app.specs.Edges.{Says, SaysWhy, kept}
 use Rattle.wi_app.specs.Shelves.{AllStand, IsCalm, OthersStand}
 use Rattle.wi_app.specs.Asked.{AreBadTexts, ForAsked, IsAsked, IsBadQuery, IsBadWeights, WeighsBy}
 use Rattle.wi_app.specs.Certificates.{FromCertificate, FromStore, IsAcceptedText, IsCertificate, IsCertificateFile, IsStored}
 use Rattle.wi_app.specs.Decided.{FromDecision, FromTexts, IsAnswer, IsReported, packets_in, report_in, status_for}
+use Rattle.wi_app.specs.Exact.{FromSplitting, FromTree, FromTreeStore, IsAcceptedTree}
 use Rattle.wi_app.specs.Generated.{FromRing, IsSummary, IsSummed}
 use Rattle.wi_app.specs.OnWire.{FromHex, IsHex, IsRefusedStack, IsShownHex, IsShownStack, ShowsNoStack}
 use Rattle.wi_wire.specs.declared.refused.StackRefused.{StackRefused}
@@ -61,8 +68,9 @@ use Rattle.wi_app.specs.Run.{AreAnswered, IsAnswered, IsStatus, HoldsNetwork, Is
 use Rattle.wi_app.specs.private.Stages.{FromAnswering, FromBytes, FromChecking, FromDeciding, FromStack, IsBelieved, IsKept, IsNotBelieved, IsNotKept}
 use Rattle.wi_app.specs.declared.answer.Printed.{Printed}
 use Rattle.wi_app.specs.declared.refusal.Refusal.{Refusal}
-use Rattle.wi_app.specs.declared.refusal.Refusal.TheVariants.{CannotRead, CannotWrite, Network, Query as BadQuery, Weights as BadWeights, Overflow, TooLong, Script, LongScript, LargeCertificate, BadLine as BadCertificateLine, NotAccepted, NotWritten, NotHex, BadStack, Memory}
+use Rattle.wi_app.specs.declared.refusal.Refusal.TheVariants.{CannotRead, CannotWrite, Network, Query as BadQuery, Weights as BadWeights, Overflow, TooLong, Script, LongScript, LargeCertificate, BadLine as BadCertificateLine, NotAccepted, NotWritten, ManyNodes, TreeNotWritten, NotHex, BadStack, Memory}
 use Rattle.wi_app.proofs.Answers.{answer_ends}
+use Rattle.wi_app.proofs.Exactly.{exact_answer_ends}
 
 -- ---- from the parts of a command to the whole
 
@@ -399,6 +407,8 @@ words_memory held (Some (Verify name query weights file)) = inl refl
 words_memory held (Some (Check name query file weights)) = inl refl
 words_memory held (Some (Play name script k)) = inl refl
 words_memory held (Some (Gen seed size)) = (refl, tt)
+words_memory held (Some (Exact name query weights file)) = inl refl
+words_memory held (Some (CheckExact name query file weights)) = inl refl
 words_memory held (Some (Packets name query weights)) = inl refl
 words_memory held (Some (Stack hex)) = (refl, tt)
 
@@ -504,15 +514,39 @@ store_ends old new name text given file net query vector (CannotWrite named) hol
 store_ends old new name text given file net query vector Memory holds asked calm cause = (refl, inl refl)
 store_ends old new name text given file net query vector refusal holds asked calm cause = elim cause [ ]
 
+-- an exact answer that can't be shown ends with its refusal
+unsplit_ends : (held : ShelfSeen) (name text : List ℕ) (given file : Option (List ℕ)) (net : Net) (query : Query) (vector : List (List Part)) (refusal : Refusal) → HoldsNetwork (held.file name) net → IsAsked net text given query vector
+    → FromSplitting (problem_of net query vector) refusal → Ends held (Exact name text given file) refusal
+unsplit_ends held name text given file net query vector (Overflow w terms) holds asked cause =
+    (refl, inr (net, holds, (query, vector, asked, inr (inr (inl (none.Overflow cause.1.0 cause.1.1 cause.1.2 w, cause.1.3, refl))))))
+unsplit_ends held name text given file net query vector (TooLong effort) holds asked cause = (refl, inr (net, holds, (query, vector, asked, inr (inr (inl (none.TooLong cause.0 effort, cause.1, refl))))))
+unsplit_ends held name text given file net query vector ManyNodes holds asked cause = (refl, inr (net, holds, (query, vector, asked, inr (inr (inl (none.NodeLimit cause.0, cause.1, refl))))))
+unsplit_ends held name text given file net query vector Memory holds asked cause = (refl, inl refl)
+unsplit_ends held name text given file net query vector refusal holds asked cause = elim cause [ ]
+
+-- and so does one whose tree isn't stored
+tree_store_ends : (old new : ShelfSeen) (name text : List ℕ) (given file : Option (List ℕ)) (net : Net) (query : Query) (vector : List (List Part)) (refusal : Refusal) → HoldsNetwork (old.file name) net → IsAsked net text given query vector
+    → IsCalm old new → FromTreeStore old new (problem_of net query vector) file refusal → Ends old (Exact name text given file) refusal
+tree_store_ends old new name text given file net query vector TreeNotWritten holds asked calm cause = (refl, inr (net, holds, (query, vector, asked, inr (inr (inr (refl, cause.1, cause.2))))))
+tree_store_ends old new name text given file net query vector (CannotWrite named) holds asked calm cause = absurd (longer old.failed (Store, named.now) (sym cause.1 ∙ calm))
+tree_store_ends old new name text given file net query vector Memory holds asked calm cause = (refl, inl refl)
+tree_store_ends old new name text given file net query vector refusal holds asked calm cause = elim cause [ ]
+
+one_weighing : (given : Option (List ℕ)) (v u : List (List Part)) → WeighsBy given v → WeighsBy given u → v ≡ u
+one_weighing None v u first second = first ∙ sym second
+one_weighing (Some text) v u first second = one_vector text v u first second
+
 -- a certificate that is accepted isn't the cause
 believed_again : (net : Net) (text : List ℕ) (given : Option (List ℕ)) (q r : Query) (v u : List (List Part)) (c : Certificate) → IsAsked net text given q v → IsAsked net text given r u → IsProblem (problem_of net q v) → IsProblem (problem_of net r u)
     → IsAccepted (problem_of net q v) c → IsAccepted (problem_of net r u) c
 believed_again net text given q r v u c asked again is other accepted =
-    subst (λ w. IsAccepted (problem_of net r w) c) (one_vector_weighs given v u asked.weighs again.weighs) (accept_the_same net text q r v c asked.reads again.reads is.automata other.automata accepted)
-  where
-    one_vector_weighs : (given : Option (List ℕ)) (v u : List (List Part)) → WeighsBy given v → WeighsBy given u → v ≡ u
-    one_vector_weighs None v u first second = first ∙ sym second
-    one_vector_weighs (Some text) v u first second = one_vector text v u first second
+    subst (λ w. IsAccepted (problem_of net r w) c) (one_weighing given v u asked.weighs again.weighs) (accept_the_same net text q r v c asked.reads again.reads is.automata other.automata accepted)
+
+-- nor is a tree
+tree_believed_again : (net : Net) (text : List ℕ) (given : Option (List ℕ)) (q r : Query) (v u : List (List Part)) (t : TreeCertificate) → IsAsked net text given q v → IsAsked net text given r u → IsProblem (problem_of net q v) → IsProblem (problem_of net r u)
+    → IsTreeAccepted (problem_of net q v) t → IsTreeAccepted (problem_of net r u) t
+tree_believed_again net text given q r v u t asked again is other accepted =
+    subst (λ w. IsTreeAccepted (problem_of net r w) t) (one_weighing given v u asked.weighs again.weighs) (accept_trees_the_same net text q r v t asked.reads again.reads is.automata other.automata accepted)
 
 one_held : (file : Option (List ℕ)) (a b : List ℕ) → file ≡ Some a → file ≡ Some b → a ≡ b
 one_held file a b first second = let both : Some a ≡ Some b = sym first ∙ second in cc
@@ -525,10 +559,10 @@ certificate_wants old new net text file given query vector bytes c LargeCertific
     absurd (omega (arith, long, held.short))
 certificate_wants old new net text file given query vector bytes c (BadCertificateLine n) t calm held good asked cause =
     let same : cause.1.0 ≡ bytes = one_held (old.file file) cause.1.0 bytes (cause.1.1.held t) (held.held t) in
-    absurd (good_text c bytes n good.reads (subst (λ b. IsBadLine b n) same cause.1.2))
+    absurd (good_text c bytes n good.reads (subst (λ b. IsBadLine certificates b n) same cause.1.2))
   where
-    good_text : (c : Certificate) (bytes : List ℕ) (n : ℕ) → IsText c bytes → IsBadLine bytes n → ⊥
-    good_text c bytes n reads bad = let both : Ok c ≡ Err n = sym (text_is_decoded c bytes reads) ∙ bad_line_told bytes n bad in cc
+    good_text : (c : Certificate) (bytes : List ℕ) (n : ℕ) → IsText c bytes → IsBadLine certificates bytes n → ⊥
+    good_text c bytes n reads bad = let both : Ok c ≡ Err n = sym (text_is_decoded c bytes reads) ∙ bad_line_told certificates bytes n bad in cc
 certificate_wants old new net text file given query vector bytes c (NotAccepted fault terms) t calm held good asked cause =
     let said = cause.2 in
     let same : said.bytes ≡ bytes = one_held (old.file file) said.bytes bytes (said.held.held t) (held.held t) in
@@ -537,6 +571,27 @@ certificate_wants old new net text file given query vector bytes c (NotAccepted 
     absurd (accepted fault (subst (λ d. IsCause (problem_of net query vector) d fault) one said.refusal.cause))
 certificate_wants old new net text file given query vector bytes c Memory t calm held good asked cause = refl
 certificate_wants old new net text file given query vector bytes c refusal t calm held good asked cause = elim cause [ ]
+
+tree_wants : (old new : ShelfSeen) (net : Net) (text file : List ℕ) (given : Option (List ℕ)) (query : Query) (vector : List (List Part)) (bytes : List ℕ) (t : TreeCertificate) (refusal : Refusal) → old.told ≡ true → IsCalm old new
+    → IsCertificateFile old file bytes → IsAcceptedTree net text given bytes t → IsAsked net text given query vector → FromTree old new (problem_of net query vector) file refusal → status_of refusal ≡ 11
+tree_wants old new net text file given query vector bytes t (CannotRead named) told calm held good asked cause = absurd (longer old.failed (Fetch, file) (sym cause.1 ∙ calm))
+tree_wants old new net text file given query vector bytes t LargeCertificate told calm held good asked cause =
+    let long : 268435456 < length bytes = subst (λ f. IsLonger f 268435456) (held.held told) (cause.1 told) in
+    absurd (omega (arith, long, held.short))
+tree_wants old new net text file given query vector bytes t (BadCertificateLine n) told calm held good asked cause =
+    let same : cause.1.0 ≡ bytes = one_held (old.file file) cause.1.0 bytes (cause.1.1.held told) (held.held told) in
+    absurd (good_text t bytes n good.reads (subst (λ b. IsBadLine trees b n) same cause.1.2))
+  where
+    good_text : (t : TreeCertificate) (bytes : List ℕ) (n : ℕ) → IsTreeText t bytes → IsBadLine trees bytes n → ⊥
+    good_text t bytes n reads bad = let both : Ok t ≡ Err n = sym (tree_is_decoded t bytes reads) ∙ bad_line_told trees bytes n bad in cc
+tree_wants old new net text file given query vector bytes t (NotAccepted fault terms) told calm held good asked cause =
+    let said = cause.2 in
+    let same : said.bytes ≡ bytes = one_held (old.file file) said.bytes bytes (said.held.held told) (held.held told) in
+    let one : said.tree ≡ t = one_tree said.tree t bytes (subst (λ b. IsTreeText said.tree b) same said.reads) good.reads in
+    let accepted = tree_believed_again net text given good.query query good.vector vector t good.asked asked good.problem_is said.problem_is good.accepted in
+    absurd (accepted fault (subst (λ u. IsTreeCause (problem_of net query vector) u fault) one said.refusal.cause))
+tree_wants old new net text file given query vector bytes t Memory told calm held good asked cause = refl
+tree_wants old new net text file given query vector bytes t refusal told calm held good asked cause = elim cause [ ]
 
 -- a script that can be played has no fault
 good_script : (net : Net) (k : ℕ) (bytes text : List ℕ) (refused : ScriptRefused) → IsPlay net k bytes text → IsBadScript net k bytes refused → status_of (Script refused) ≡ 11
@@ -608,6 +663,25 @@ refused_ends old new (Play name script k) refusal t can calm (inr cause) =
     wanting old (Play name script k) refusal
     (script_wants old new can.0 script k can.2.0 can.2.1 refusal t can.2.2 can.2.3 calm (subst (λ net. FromScript old new net script k refusal) same cause.2))
 refused_ends old new (Gen seed size) refusal t can calm cause = ring_ends old seed size refusal cause.1
+refused_ends old new (Exact name text given file) refusal t can calm (inl network) = wanting old (Exact name text given file) refusal (network_wants old new name refusal can.0 t can.1 calm network)
+refused_ends old new (Exact name text given file) refusal t can calm (inr (inl cause)) =
+    let same : cause.0 ≡ can.0 = one_network (old.file name) cause.0 can.0 (cause.1 t) can.1 in
+    elim (subst (λ net. AreBadTexts net text given refusal ⊎ ForAsked net text given (λ problem. FromSplitting problem refusal)) same cause.2) [
+      | inl bad ↦ wanting old (Exact name text given file) refusal (texts_want can.0 text given can.2.0 can.2.1 refusal can.2.2 bad)
+      | inr unsplit ↦ unsplit_ends old name text given file can.0 unsplit.0 unsplit.1 refusal can.1 unsplit.2 unsplit.3
+    ]
+refused_ends old new (Exact name text given file) refusal t can calm (inr (inr cause)) =
+    let asked = cause.2 in
+    tree_store_ends old new name text given file cause.0 asked.0 asked.1 refusal (cause.1 t) asked.2 calm asked.3
+refused_ends old new (CheckExact name text file given) refusal t can calm (inl network) = wanting old (CheckExact name text file given) refusal (network_wants old new name refusal can.0 t can.1 calm network)
+refused_ends old new (CheckExact name text file given) refusal t can calm (inr (inl cause)) =
+    let same : cause.0 ≡ can.0 = one_network (old.file name) cause.0 can.0 (cause.1 t) can.1 in
+    let good = can.2.3 in
+    wanting old (CheckExact name text file given) refusal (texts_want can.0 text given good.query good.vector refusal good.asked (subst (λ net. AreBadTexts net text given refusal) same cause.2))
+refused_ends old new (CheckExact name text file given) refusal t can calm (inr (inr cause)) =
+    let same : cause.0 ≡ can.0 = one_network (old.file name) cause.0 can.0 (cause.1 t) can.1 in
+    let asked = subst (λ net. ForAsked net text given (λ problem. FromTree old new problem file refusal)) same cause.2 in
+    wanting old (CheckExact name text file given) refusal (tree_wants old new can.0 text file given asked.0 asked.1 can.2.0 can.2.1 refusal t calm can.2.2 can.2.3 asked.2 asked.3)
 refused_ends old new (Packets name text given) refusal t can calm (inl network) = wanting old (Packets name text given) refusal (network_wants old new name refusal can.0 t can.1 calm network)
 refused_ends old new (Packets name text given) refusal t can calm (inr cause) =
     let same : cause.0 ≡ can.0 = one_network (old.file name) cause.0 can.0 (cause.1 t) can.1 in
@@ -645,6 +719,10 @@ answered_ends old new (Verify name query given file) status text t answer =
 answered_ends old new (Check name query file given) status text t answer = answer.6
 answered_ends old new (Play name script k) status text t answer = answer.5
 answered_ends old new (Gen seed size) status text t answer = inl answer.1
+answered_ends old new (Exact name query given file) status text t answer =
+    let asked = answer.2 in
+    (answer.0, answer.1 t, (asked.0, asked.1, asked.2, exact_answer_ends (problem_of answer.0 asked.0 asked.1) file new status text asked.3))
+answered_ends old new (CheckExact name query file given) status text t answer = answer.6
 answered_ends old new (Packets name query given) status text t answer =
     (answer.0, answer.1 t, (answer.2.query, answer.2.vector, answer.2.asked, answer_ends packets_in (problem_of answer.0 answer.2.query answer.2.vector) None new status text answer.2.reported))
 answered_ends old new (Stack hex) status text t answer = inl answer.1

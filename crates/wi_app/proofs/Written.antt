@@ -1,4 +1,4 @@
--- What `verify` stored is a certificate that `check` accepts.
+-- What `verify` stored is a certificate that `check` accepts, and what `exact` stored a tree that `check-exact` accepts.
 use Rattle.std.proofs.Common.{◌≡◌, ◌≢◌, ◌⊎◌, inl, inr, ℕ, suc, ◌+◌, ◌<◌, ◌≤◌, Bool, true, false, if◌then◌else◌, nat_eq, List, [], ◌∷◌, length, length-append, drop, Option, Some, None, refl, sym, ap, subst, ◌∙◌, arith}
 use Rattle.std.specs.Prelude.{codes, max, option_and_then, option_map, IfSome, MatchBool}
 use Rattle.std.specs.Option.{option_map_or}
@@ -36,11 +36,14 @@ use Rattle.wi_cert.proofs.WritingLemmas.{text_parts}
 use Rattle.wi_accept.specs.Answers.{IsDecided, answer_of, labels_of, run_of, steps_of}
 use Rattle.wi_accept.proofs.AcceptedLemmas.{answer_holds}
 use Rattle.wi_decide.specs.Refusals.{IsUnrefused}
-use Rattle.wi_words.specs.Commands.{Verify, Check, command_of}
+use Rattle.wi_words.specs.Commands.{Command, Verify, Check, Exact, CheckExact, command_of}
+use Rattle.wi_accept.specs.Trees.{IsDecidedExactly}
+use Rattle.wi_app.specs.Asked.{ForAsked}
+use Rattle.wi_app.specs.Exact.{IsAcceptedTree, IsReportedExactly, IsTreeStored}
 use Rattle.wi_app.specs.Certificates.{IsAcceptedText, IsCertificateFile, IsStored}
 use Rattle.wi_app.specs.Decided.{IsAnswer, report_in}
 use Rattle.wi_app.specs.Edges.{Says, SaysWhy, kept}
-use Rattle.wi_app.specs.Run.{AreAnswered, CanBeAnswered, Completes, Does, IsAnswered, HoldsNetwork}
+use Rattle.wi_app.specs.Run.{AreAnswered, CanBeAnswered, Completes, Does, IsAnswered, IsStatus, HoldsNetwork}
 use Rattle.wi_app.specs.Shelves.{IsCalm, OthersStand}
 use Rattle.wi_app.specs.Texts.{status_of, text_of}
 use Rattle.wi_app.specs.declared.refusal.Refusal.{Refusal}
@@ -209,13 +212,63 @@ why_high refusal old new result s = elim s [
   | inr want ↦ says_high (codes "whatif: out of memory\n") (kept (status_of refusal)) old new result (kept_high (status_of refusal)) want.1
 ]
 
+-- where one command is answered, another that can be answered then ends as it may
+answered_then : (words later : List (List ℕ)) (command next : Command) (shelf between after : ShelfSeen) (out printed err said later_out later_printed later_err later_said : SinkSeen) (status result : ℕ)
+    → command_of words ≡ Some command → command_of later ≡ Some next → between.told ≡ true → ((status : ℕ) (text : List ℕ) → IsAnswered shelf between command status text → CanBeAnswered between next)
+    → Does words shelf between out printed err said status → status < 3 → Completes later between after later_out later_printed later_err later_said result → IsCalm between after → later_printed.faults ≡ later_out.faults → later_said.faults ≡ later_err.faults
+    → IsStatus between next result ⊎ (result ≡ 11)
+answered_then words later command next shelf between after out printed err said later_out later_printed later_err later_said status result asks checks told can does low completes calm no_fault silent = elim does [
+  | inl done ↦ (let answered = subst (λ c. AreAnswered shelf between c done.status done.text) asks done.answered in
+      completes next checks told (can done.status done.text answered) calm no_fault silent)
+  | inr refused ↦ (let high = why_high refused.refusal err said status refused.said in absurd (omega (arith, high, low)))
+]
+
 pub written_accepted : (verifying checking : List (List ℕ)) (name text file : List ℕ) (weights : Option (List ℕ)) (shelf between after : ShelfSeen) (out printed err said later_out later_printed later_err later_said : SinkSeen) (status result : ℕ)
     → command_of verifying ≡ Some (Verify name text weights (Some file)) → command_of checking ≡ Some (Check name text file weights) → name ≢ file
     → shelf.told ≡ true → between.told ≡ true → OthersStand (Some file) shelf between → Does verifying shelf between out printed err said status → status < 3
     → Completes checking between after later_out later_printed later_err later_said result → IsCalm between after → later_printed.faults ≡ later_out.faults → later_said.faults ≡ later_err.faults
     → (result ≡ 0) ⊎ (result ≡ 11)
-written_accepted verifying checking name text file weights shelf between after out printed err said later_out later_printed later_err later_said status result asks checks apart told still stand does low completes calm no_fault silent = elim does [
-  | inl done ↦ (let answered = subst (λ c. AreAnswered shelf between c done.status done.text) asks done.answered in
-      completes (Check name text file weights) checks still (can_check shelf between name text file weights done.status done.text apart told still stand answered) calm no_fault silent)
-  | inr refused ↦ (let high = why_high refused.refusal err said status refused.said in absurd (omega (arith, high, low)))
-]
+written_accepted verifying checking name text file weights shelf between after out printed err said later_out later_printed later_err later_said status result asks checks apart told still stand does low completes calm no_fault silent =
+    answered_then verifying checking (Verify name text weights (Some file)) (Check name text file weights) shelf between after out printed err said later_out later_printed later_err later_said status result asks checks still
+    (λ status report answer. can_check shelf between name text file weights status report apart told still stand answer) does low completes calm no_fault silent
+
+-- ---- the same of trees
+
+can_check_exactly : (old new : ShelfSeen) (name text file : List ℕ) (weights : Option (List ℕ)) (status : ℕ) (report : List ℕ) → name ≢ file → old.told ≡ true → OthersStand (Some file) old new
+    → IsAnswered old new (Exact name text weights (Some file)) status report → CanBeAnswered new (CheckExact name text file weights)
+can_check_exactly old new name text file weights status report apart told stand answer = (answer.0, subst (λ f. HoldsNetwork f answer.0) (sym (stand name other)) (answer.1 told), (stored.0, reported.tree, held, accepted))
+  where
+    asked : ForAsked answer.0 text weights (λ problem. IsReportedExactly problem (Some file) new status report)
+    asked = answer.2
+
+    reported : IsReportedExactly (problem_of answer.0 asked.0 asked.1) (Some file) new status report
+    reported = asked.3
+
+    stored : IsTreeStored (Some file) new reported.tree
+    stored = reported.stored
+
+    other : Some file ≢ Some name
+    other e = apart (sym (same_Some file name e))
+
+    held : IsCertificateFile new file stored.0
+    held = record { held = stored.3; short = stored.2 }
+
+    accepted : IsAcceptedTree answer.0 text weights stored.0 reported.tree
+    accepted = record {
+      query = asked.0;
+      vector = asked.1;
+      asked = asked.2;
+      problem_is = reported.is.problem_is;
+      reads = stored.1;
+      accepted = reported.is.accepted;
+      holds = subst (IsDecidedExactly (problem_of answer.0 asked.0 asked.1)) (sym reported.is.exact.made.shows) reported.is.exact.holds;
+    }
+
+pub tree_accepted : (asking checking : List (List ℕ)) (name text file : List ℕ) (weights : Option (List ℕ)) (shelf between after : ShelfSeen) (out printed err said later_out later_printed later_err later_said : SinkSeen) (status result : ℕ)
+    → command_of asking ≡ Some (Exact name text weights (Some file)) → command_of checking ≡ Some (CheckExact name text file weights) → name ≢ file
+    → shelf.told ≡ true → between.told ≡ true → OthersStand (Some file) shelf between → Does asking shelf between out printed err said status → status < 3
+    → Completes checking between after later_out later_printed later_err later_said result → IsCalm between after → later_printed.faults ≡ later_out.faults → later_said.faults ≡ later_err.faults
+    → (result ≡ 0) ⊎ (result ≡ 11)
+tree_accepted asking checking name text file weights shelf between after out printed err said later_out later_printed later_err later_said status result asks checks apart told still stand does low completes calm no_fault silent =
+    answered_then asking checking (Exact name text weights (Some file)) (CheckExact name text file weights) shelf between after out printed err said later_out later_printed later_err later_said status result asks checks still
+    (λ status report answer. can_check_exactly shelf between name text file weights status report apart told stand answer) does low completes calm no_fault silent

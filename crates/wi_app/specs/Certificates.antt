@@ -8,6 +8,7 @@ use Rattle.wi_trace.specs.declared.answer.Answer.{Answer}
 use Rattle.wi_build.specs.Problems.{Problem, IsProblem, problem_of}
 use Rattle.wi_cert.specs.declared.certificate.Certificate.{Certificate}
 use Rattle.wi_cert.specs.declared.check_refused.CheckRefused.{CheckRefused}
+use Rattle.wi_cert.specs.Sheets.{certificates}
 use Rattle.wi_cert.specs.Text.{IsText, IsBadLine, closed_text}
 use Rattle.wi_accept.specs.Answers.{IsDecided, answer_of}
 use Rattle.wi_accept.specs.Causes.{IsAccepted, IsRefusal}
@@ -80,11 +81,15 @@ pub record IsRefusedFile (shelf : ShelfSeen) (problem : Problem) (name : List �
   pub reads : IsText certificate bytes
   pub refusal : IsRefusal problem certificate fault
 
--- the certificate's file is the cause: it can't be read, is too large, has a bad line, or isn't believed
+-- a file is the cause: it can't be read, is too large, has a bad line, or isn't believed
+abbrev pub FromFile : (List ℕ → ℕ → Type 0) → (CheckRefused → Type 0) → ShelfSeen → ShelfSeen → Problem → List ℕ → Refusal → Type 0
+FromFile IsBad IsAgainst old new problem name (CannotRead named) = FetchFailed named.now name old new
+FromFile IsBad IsAgainst old new problem name LargeCertificate = IsCalm old new × (old.told ≡ true → IsLonger (old.file name) 268435456)
+FromFile IsBad IsAgainst old new problem name (BadLine n) = IsCalm old new × ((bytes : List ℕ) × IsCertificateFile old name bytes × IsBad bytes n)
+FromFile IsBad IsAgainst old new problem name (NotAccepted fault terms) = IsCalm old new × (terms ≡ length problem.vector) × IsAgainst fault
+FromFile IsBad IsAgainst old new problem name Memory = IsCalm old new
+FromFile IsBad IsAgainst old new problem name refusal = ⊥
+
+-- the certificate's file is
 abbrev pub FromCertificate : ShelfSeen → ShelfSeen → Problem → List ℕ → Refusal → Type 0
-FromCertificate old new problem name (CannotRead named) = FetchFailed named.now name old new
-FromCertificate old new problem name LargeCertificate = IsCalm old new × (old.told ≡ true → IsLonger (old.file name) 268435456)
-FromCertificate old new problem name (BadLine n) = IsCalm old new × ((bytes : List ℕ) × IsCertificateFile old name bytes × IsBadLine bytes n)
-FromCertificate old new problem name (NotAccepted fault terms) = IsCalm old new × (terms ≡ length problem.vector) × IsRefusedFile old problem name fault
-FromCertificate old new problem name Memory = IsCalm old new
-FromCertificate old new problem name refusal = ⊥
+FromCertificate old new problem name refusal = FromFile (IsBadLine certificates) (IsRefusedFile old problem name) old new problem name refusal

@@ -4,6 +4,7 @@ pub mod Shelves
 pub mod Asked
 pub mod Certificates
 pub mod Decided
+pub mod Exact
 pub mod Generated
 pub mod OnWire
 pub mod Run

@@ -16,13 +16,15 @@ use Rattle.wi_report.specs.States.{states_shown}
 use Rattle.wi_report.specs.Reports.{accepted_text}
 use Rattle.wi_accept.specs.Answers.{word_of}
 use Rattle.wi_cert.specs.declared.certificate.Certificate.{Certificate}
-use Rattle.wi_words.specs.Commands.{Command, Verify, Check, Play, Gen, Packets, Stack, command_of}
+use Rattle.wi_cert.specs.declared.tree.TreeCertificate.{TreeCertificate}
+use Rattle.wi_words.specs.Commands.{Command, Verify, Check, Play, Gen, Exact, CheckExact, Packets, Stack, command_of}
 use Rattle.wi_build.specs.Problems.{Problem}
 use Rattle.wi_query.specs.declared.query.Query.{Query}
 use Rattle.wi_quantity.specs.declared.vector.Part.{Part}
 use Rattle.wi_app.specs.Asked.{AreBadTexts, ForAsked, IsAsked}
 use Rattle.wi_app.specs.Certificates.{FromCertificate, FromStore, IsAcceptedText, IsCertificateFile, IsNamed, IsTooLargeToWrite}
 use Rattle.wi_app.specs.Decided.{EndsUndecided, FromTexts, IsAnswer, packets_in, report_in}
+use Rattle.wi_app.specs.Exact.{EndsUnsplit, FromSplitting, FromTree, FromTreeStore, IsAcceptedTree, IsReportedExactly, IsTreeTooLarge}
 use Rattle.wi_app.specs.Generated.{ForRing, FromRing, IsSummary}
 use Rattle.wi_app.specs.OnWire.{FromHex, IsShownHex, ShowsNoStack}
 use Rattle.wi_app.specs.Edges.{Untouched, PutAll, PutPart, PutNothing, SaysWhy}
@@ -58,6 +60,11 @@ IsAnswered old new (Play name script k) status text =
     (net : Net) × (bytes : List ℕ) × (old.told ≡ true → HoldsNetwork (old.file name) net) × (old.told ≡ true → old.file script ≡ Some bytes)
     × IsPlay net k bytes text × (status ≡ 0)
 IsAnswered old new (Gen seed size) status text = IsSummary seed size text × (status ≡ 0)
+IsAnswered old new (Exact name query weights file) status text =
+    (net : Net) × (old.told ≡ true → HoldsNetwork (old.file name) net) × ForAsked net query weights (λ problem. IsReportedExactly problem file new status text)
+IsAnswered old new (CheckExact name query file weights) status text =
+    (net : Net) × (bytes : List ℕ) × (t : TreeCertificate) × (old.told ≡ true → HoldsNetwork (old.file name) net) × IsCertificateFile old file bytes
+    × IsAcceptedTree net query weights bytes t × (status ≡ 0) × (text ≡ accepted_text (word_of t.shown.claim))
 IsAnswered old new (Packets name query weights) status text =
     (net : Net) × (old.told ≡ true → HoldsNetwork (old.file name) net) × IsAnswer packets_in net query weights None new status text
 IsAnswered old new (Stack hex) status text = IsShownHex hex text × (status ≡ 0)
@@ -70,6 +77,7 @@ AreAnswered old new (Some command) status text = IsAnswered old new command stat
 -- the name under which a command stores
 abbrev pub stored_by : Option Command → Option (List ℕ)
 stored_by (Some (Verify name query weights file)) = file
+stored_by (Some (Exact name query weights file)) = file
 stored_by _ = None
 
 -- ---- causes of refusals. Old and new are the shelf before and after; what it tells of a file is said where it tells
@@ -113,6 +121,14 @@ FromCommand old new (Play name script k) refusal =
     FromNetwork old new name refusal
     ⊎ ((net : Net) × (old.told ≡ true → HoldsNetwork (old.file name) net) × FromScript old new net script k refusal)
 FromCommand old new (Gen seed size) refusal = IsCalm old new × FromRing seed size refusal
+FromCommand old new (Exact name query weights file) refusal =
+    FromNetwork old new name refusal
+    ⊎ ((net : Net) × (old.told ≡ true → HoldsNetwork (old.file name) net) × (AreBadTexts net query weights refusal ⊎ ForAsked net query weights (λ problem. FromSplitting problem refusal)) × IsCalm old new)
+    ⊎ ((net : Net) × (old.told ≡ true → HoldsNetwork (old.file name) net) × ForAsked net query weights (λ problem. FromTreeStore old new problem file refusal))
+FromCommand old new (CheckExact name query file weights) refusal =
+    FromNetwork old new name refusal
+    ⊎ ((net : Net) × (old.told ≡ true → HoldsNetwork (old.file name) net) × AreBadTexts net query weights refusal × IsCalm old new)
+    ⊎ ((net : Net) × (old.told ≡ true → HoldsNetwork (old.file name) net) × ForAsked net query weights (λ problem. FromTree old new problem file refusal))
 FromCommand old new (Packets name query weights) refusal =
     FromNetwork old new name refusal
     ⊎ ((net : Net) × (old.told ≡ true → HoldsNetwork (old.file name) net) × FromTexts net query weights refusal × IsCalm old new)
@@ -170,6 +186,8 @@ CanBeAnswered shelf (Verify name text weights file) = CanBeAsked shelf name text
 CanBeAnswered shelf (Check name text file weights) = (net : Net) × HoldsNetwork (shelf.file name) net × ((bytes : List ℕ) × (c : Certificate) × IsCertificateFile shelf file bytes × IsAcceptedText net text weights bytes c)
 CanBeAnswered shelf (Play name script k) = (net : Net) × HoldsNetwork (shelf.file name) net × ((bytes text : List ℕ) × (shelf.file script ≡ Some bytes) × IsPlay net k bytes text)
 CanBeAnswered shelf (Gen seed size) = Unit {0}
+CanBeAnswered shelf (Exact name text weights file) = CanBeAsked shelf name text weights
+CanBeAnswered shelf (CheckExact name text file weights) = (net : Net) × HoldsNetwork (shelf.file name) net × ((bytes : List ℕ) × (t : TreeCertificate) × IsCertificateFile shelf file bytes × IsAcceptedTree net text weights bytes t)
 CanBeAnswered shelf (Packets name text weights) = CanBeAsked shelf name text weights
 CanBeAnswered shelf (Stack hex) = Unit {0}
 
@@ -182,6 +200,14 @@ MayEnd problem file status =
     ⊎ EndsUndecided problem status
     ⊎ ((status ≡ 14) × IsNamed file × IsTooLargeToWrite problem)
 
+-- how it may end where an exact answer is asked for: with yes or no, or with a refusal that is due
+abbrev pub MayEndExactly : Problem → Option (List ℕ) → ℕ → Type 0
+MayEndExactly problem file status =
+    (status ≡ 0)
+    ⊎ (status ≡ 1)
+    ⊎ EndsUnsplit problem status
+    ⊎ ((status ≡ 14) × IsNamed file × IsTreeTooLarge problem)
+
 -- the statuses with which texts may end that are asked of a network
 abbrev pub IsAskedStatus : ShelfSeen → List ℕ → List ℕ → Option (List ℕ) → Option (List ℕ) → ℕ → Type 0
 IsAskedStatus shelf name text weights file status = (net : Net) × HoldsNetwork (shelf.file name) net × ForAsked net text weights (λ problem. MayEnd problem file status)
@@ -192,6 +218,8 @@ IsStatus shelf (Verify name text weights file) status = IsAskedStatus shelf name
 IsStatus shelf (Check name text file weights) status = status ≡ 0
 IsStatus shelf (Play name script k) status = status ≡ 0
 IsStatus shelf (Gen seed size) status = (status ≡ 0) ⊎ ForRing seed size (λ problem. EndsUndecided problem status)
+IsStatus shelf (Exact name text weights file) status = (net : Net) × HoldsNetwork (shelf.file name) net × ForAsked net text weights (λ problem. MayEndExactly problem file status)
+IsStatus shelf (CheckExact name text file weights) status = status ≡ 0
 IsStatus shelf (Packets name text weights) status = IsAskedStatus shelf name text weights None status
 IsStatus shelf (Stack hex) status = (status ≡ 0) ⊎ ((status ≡ 16) × ShowsNoStack hex)
 

@@ -6,16 +6,16 @@ use Rattle.wi_report.specs.NetworkFaults.{fault_text}
 use Rattle.wi_quantity.specs.declared.fault.WeightFault.TheVariants as weights
 use Rattle.wi_report.specs.States.{script_fault_text}
 use Rattle.wi_report.specs.WeightFaults.{weight_fault_text}
-use Rattle.wi_report.specs.RefusedDecisions.{overflow_text, too_long_text}
+use Rattle.wi_report.specs.RefusedDecisions.{nodes_over_limit_text, overflow_text, too_long_text}
 use Rattle.wi_report.specs.CertificateFaults.{bad_line_text, certificate_fault_text}
 use Rattle.wi_report.specs.Stacks.{stack_refused_text}
 use Rattle.wi_wire.specs.declared.refused.StackRefused.TheVariants as stack
 use Rattle.wi_app.specs.declared.refusal.Refusal.{Refusal}
-use Rattle.wi_app.specs.declared.refusal.Refusal.TheVariants.{Usage, CannotRead, CannotWrite, Network, Query, Weights, Overflow, TooLong, Script, LongScript, LargeCertificate, BadLine, NotAccepted, NotWritten, NotHex, BadStack, CannotPrint, Memory}
+use Rattle.wi_app.specs.declared.refusal.Refusal.TheVariants.{Usage, CannotRead, CannotWrite, Network, Query, Weights, Overflow, TooLong, Script, LongScript, LargeCertificate, BadLine, NotAccepted, NotWritten, ManyNodes, TreeNotWritten, NotHex, BadStack, CannotPrint, Memory}
 
 -- what is said
 abbrev pub text_of : Refusal → List ℕ
-text_of Usage = codes "usage: whatif verify NETWORK QUERY [--weights W] [--certificate FILE]\n       whatif check NETWORK QUERY CERTIFICATE [--weights W]\n       whatif play NETWORK SCRIPT K\n       whatif gen SEED SIZE\n       whatif packets NETWORK QUERY [--weights W]\n       whatif stack HEX\n"
+text_of Usage = codes "usage: whatif verify NETWORK QUERY [--weights W] [--certificate FILE]\n       whatif check NETWORK QUERY CERTIFICATE [--weights W]\n       whatif play NETWORK SCRIPT K\n       whatif gen SEED SIZE\n       whatif exact NETWORK QUERY [--weights W] [--certificate FILE]\n       whatif check-exact NETWORK QUERY CERTIFICATE [--weights W]\n       whatif packets NETWORK QUERY [--weights W]\n       whatif stack HEX\n"
 text_of (CannotRead name) = codes "whatif: cannot read " ++ name.now ++ codes "\n"
 text_of (CannotWrite name) = codes "whatif: cannot write " ++ name.now ++ codes "\n"
 text_of (Network f) = fault_text f
@@ -29,6 +29,8 @@ text_of LargeCertificate = codes "certificate: over the limit 268435456\n"
 text_of (BadLine n) = bad_line_text n
 text_of (NotAccepted f terms) = certificate_fault_text terms f
 text_of NotWritten = codes "certificate: over the limit 268000000, not written\n"
+text_of ManyNodes = nodes_over_limit_text 10000
+text_of TreeNotWritten = codes "certificate: over the limit 268435456, not written\n"
 text_of NotHex = codes "wire: not hex\n"
 text_of (BadStack refused) = stack_refused_text refused
 text_of CannotPrint = codes "whatif: cannot print\n"
@@ -41,6 +43,7 @@ IsPutTogether (Query said) = ⊥
 IsPutTogether LongScript = ⊥
 IsPutTogether LargeCertificate = ⊥
 IsPutTogether NotWritten = ⊥
+IsPutTogether TreeNotWritten = ⊥
 IsPutTogether NotHex = ⊥
 IsPutTogether CannotPrint = ⊥
 IsPutTogether Memory = ⊥
@@ -65,6 +68,8 @@ status_of LargeCertificate = 8
 status_of (BadLine n) = 8
 status_of (NotAccepted f terms) = 8
 status_of NotWritten = 14
+status_of ManyNodes = 13
+status_of TreeNotWritten = 14
 status_of NotHex = 16
 status_of (BadStack stack.Memory) = 11
 status_of (BadStack refused) = 16

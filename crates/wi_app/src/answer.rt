@@ -7,6 +7,8 @@ ghost use Rattle.wi_app.specs.Run.{AreAnswered, FromCommand, FromWords, IsAnswer
 ghost use Rattle.wi_app.specs.Shelves.{IsCalm, OthersStand};
 
 use crate::check::check;
+use crate::check_exact::check_exact;
+use crate::exact::exact;
 use crate::packets::packets;
 use crate::play::play;
 use crate::refusal::Refusal;
@@ -73,6 +75,18 @@ fn answer_to<'a, S: Shelf>(
         } => check(alloc, network, query, certificate, weights, shelf),
         Command::Play { network, script, k } => play(alloc, network, script, k, shelf),
         Command::Gen { seed, size } => summary_of_ring(alloc, seed, size),
+        Command::Exact {
+            network,
+            query,
+            weights,
+            certificate,
+        } => exact(alloc, network, query, weights, certificate, shelf),
+        Command::CheckExact {
+            network,
+            query,
+            certificate,
+            weights,
+        } => check_exact(alloc, network, query, certificate, weights, shelf),
         Command::Packets {
             network,
             query,

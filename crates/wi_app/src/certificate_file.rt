@@ -3,6 +3,7 @@
 //! lines are, so after a bad line the rest is still asked for and counted.
 ghost use Rattle.std.specs.Prelude.{◌≡◌, ◌≤◌, ℕ, List, true, Some, IfOk, IfErr, OnOk, vec_len};
 ghost use Rattle.wi_cert.specs.Reading.{fed, unread};
+ghost use Rattle.wi_cert.specs.Sheets.{certificates};
 ghost use Rattle.wi_cert.specs.Text.{IsText, IsWritable};
 ghost use Rattle.wi_base.specs.Shelf.{IsPart};
 ghost use Rattle.wi_build.specs.Problems.{Problem};
@@ -19,8 +20,8 @@ use wi_cert::{Certificate, DecodeRefused, EncodeRefused, Feeder, encode_within};
 /// The most bytes that a certificate's lines from `heads` on have where it is written.
 const WRITTEN_LIMIT: usize = 268_000_000;
 
-/// The most bytes of a certificate that is read.
-const READ_LIMIT: u64 = 268_435_456;
+/// The most bytes of a certificate or a tree that is read.
+pub const READ_LIMIT: u64 = 268_435_456;
 
 /// How many bytes are asked for at once.
 const PART: u32 = 65_536;
@@ -84,11 +85,11 @@ fn feed_parts<'a, S: Shelf>(
     name: &'a str,
     shelf: &mut S,
 ) -> Result<(), Refusal<'a>>
-    requires { feeder.old ≡ unread }
+    requires { feeder.old ≡ unread certificates }
     ensures told { (S.seen shelf.new).told ≡ (S.seen shelf.old).told }
     ensures files { AllStand (S.seen shelf.old) (S.seen shelf.new) }
     ensures calm { OnOk result (IsCalm (S.seen shelf.old) (S.seen shelf.new)) }
-    ensures read { OnOk result ((bytes : List ℕ) × IsCertificateFile (S.seen shelf.old) name.now bytes × (feeder.new ≡ fed unread bytes)) }
+    ensures read { OnOk result ((bytes : List ℕ) × IsCertificateFile (S.seen shelf.old) name.now bytes × (feeder.new ≡ fed certificates (unread certificates) bytes)) }
     ensures refused { IfErr result (FromParts (S.seen shelf.old) (S.seen shelf.new) name.now) }
 {
     let mut at = 0;
@@ -105,8 +106,12 @@ fn feed_parts<'a, S: Shelf>(
     }
 }
 
-// The next bytes of a file.
-fn next_part<'a, S: Shelf>(name: &'a str, at: u64, shelf: &mut S) -> Result<Vec<u8>, Refusal<'a>>
+/// The next bytes of a file.
+pub fn next_part<'a, S: Shelf>(
+    name: &'a str,
+    at: u64,
+    shelf: &mut S,
+) -> Result<Vec<u8>, Refusal<'a>>
     ensures told { (S.seen shelf.new).told ≡ (S.seen shelf.old).told }
     ensures files { AllStand (S.seen shelf.old) (S.seen shelf.new) }
     ensures calm { IfOk result (λ _. IsCalm (S.seen shelf.old) (S.seen shelf.new)) }
@@ -123,7 +128,7 @@ fn next_part<'a, S: Shelf>(name: &'a str, at: u64, shelf: &mut S) -> Result<Vec<
 
 // Feeds a part. A bad line is kept by the feeder, and told at the end.
 fn take_part<'a>(feeder: &mut Feeder, part: &[u8]) -> Result<(), Refusal<'a>>
-    ensures fed { OnOk result (feeder.new ≡ fed feeder.old part.now) }
+    ensures fed { OnOk result (feeder.new ≡ fed certificates feeder.old part.now) }
     ensures refused { IfErr result (λ refusal. refusal ≡ Refusal.Memory) }
 {
     match feeder.feed(part) {

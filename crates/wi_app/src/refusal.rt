@@ -11,16 +11,19 @@ use wi_cert::CheckRefused;
 use wi_netjson::NetFault;
 use wi_quantity::{Weight, WeightFault};
 use wi_report::{
-    bad_line_text, certificate_fault_text, network_fault_text, overflow_text, script_fault_text,
-    stack_refused_text, too_long_text, weight_fault_text,
+    bad_line_text, certificate_fault_text, network_fault_text, nodes_over_limit_text,
+    overflow_text, script_fault_text, stack_refused_text, too_long_text, weight_fault_text,
 };
 use wi_script::ScriptRefused;
 use wi_text::Text;
 use wi_wire::StackRefused;
 
+/// The most nodes of the tree of an exact answer.
+pub const NODE_LIMIT: u32 = 10_000;
+
 // What is said where the words are no command.
 const USAGE: &[u8] =
-    b"usage: whatif verify NETWORK QUERY [--weights W] [--certificate FILE]\n       whatif check NETWORK QUERY CERTIFICATE [--weights W]\n       whatif play NETWORK SCRIPT K\n       whatif gen SEED SIZE\n       whatif packets NETWORK QUERY [--weights W]\n       whatif stack HEX\n";
+    b"usage: whatif verify NETWORK QUERY [--weights W] [--certificate FILE]\n       whatif check NETWORK QUERY CERTIFICATE [--weights W]\n       whatif play NETWORK SCRIPT K\n       whatif gen SEED SIZE\n       whatif exact NETWORK QUERY [--weights W] [--certificate FILE]\n       whatif check-exact NETWORK QUERY CERTIFICATE [--weights W]\n       whatif packets NETWORK QUERY [--weights W]\n       whatif stack HEX\n";
 
 // What is said where memory ran out.
 const NO_MEMORY: &[u8] = b"whatif: out of memory\n";
@@ -56,6 +59,10 @@ pub enum Refusal<'a> {
     NotAccepted(CheckRefused, usize),
     /// The certificate would be too long, so it isn't written.
     NotWritten,
+    /// An exact answer would take more nodes than the limit.
+    ManyNodes,
+    /// The tree would be too large, so it isn't written.
+    TreeNotWritten,
     /// The text isn't bytes in hexadecimal.
     NotHex,
     /// The bytes begin with no label stack.
@@ -100,6 +107,8 @@ pub fn status_of(refusal: &Refusal<'_>) -> u8
         Refusal::BadLine(_) => 8,
         Refusal::NotAccepted(_, _) => 8,
         Refusal::NotWritten => 14,
+        Refusal::ManyNodes => 13,
+        Refusal::TreeNotWritten => 14,
         Refusal::NotHex => 16,
         Refusal::BadStack(StackRefused::Memory) => 11,
         Refusal::BadStack(_) => 16,
@@ -141,6 +150,14 @@ pub fn say<E: Sink>(alloc: Global, refusal: Refusal<'_>, err: &mut E) -> u8
         Refusal::NotWritten => {
             put(
                 b"certificate: over the limit 268000000, not written\n",
+                status,
+                err,
+            )
+        }
+        Refusal::ManyNodes => put_made(nodes_over_limit_text(alloc, NODE_LIMIT), status, err),
+        Refusal::TreeNotWritten => {
+            put(
+                b"certificate: over the limit 268435456, not written\n",
                 status,
                 err,
             )

@@ -163,8 +163,8 @@ fn stored<'a, S: Shelf>(
     Ok(Printed { status, text })
 }
 
-// The exit status of an answer.
-fn status_for(word: Word) -> u8
+/// The exit status of an answer.
+pub fn status_for(word: Word) -> u8
     ensures { result ≡ status_for word }
 {
     match word {

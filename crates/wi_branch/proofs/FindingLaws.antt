@@ -1,5 +1,6 @@
 -- What a search at a branch makes of its node.
-use Rattle.std.proofs.Common.{ℕ, List, Option, Some, sym, subst}
+use Rattle.wi_weight.specs.Weights.{EachBelow}
+use Rattle.std.proofs.Common.{ℕ, ◌^◌, List, Option, Some, sym, subst}
 use Rattle.wi_quantity.specs.Weighing.{components}
 use Rattle.wi_cert.specs.declared.closed.Closed.{Closed as Leaf}
 use Rattle.wi_build.specs.Problems.{Problem}
@@ -10,7 +11,7 @@ use Rattle.wi_branch.specs.declared.finding.Told.TheVariants.{Nothing, Fitting, 
 use Rattle.wi_branch.specs.Walks.{IsNode}
 use Rattle.wi_branch.specs.private.Courses.{node_of, IsBest, IsJudged, IsToldWell, KeepsLeaf}
 
-module _ (problem : Problem) (cut : Option (List ℕ)) (fits : AllFitBelow problem cut) (found : LeastRun) (closed : Leaf) (is : IsFound problem cut (Some found)) (down : IsWrittenDown problem (Some (components found.weight)) closed) where
+module _ (problem : Problem) (cut : Option (List ℕ)) (fits : AllFitBelow problem cut) (found : LeastRun) (closed : Leaf) (small : EachBelow (2 ^ 64) (components found.weight)) (is : IsFound problem cut (Some found)) (down : IsWrittenDown problem (Some (components found.weight)) closed) where
   pub judged_node : (told : Told) → IsJudged problem.net problem.bounds found told → KeepsLeaf closed told → IsNode problem cut (node_of told)
   judged_node (Nothing leaf) h keeps = absurd h
   judged_node (Fitting shown leaf) h keeps = (
@@ -23,5 +24,5 @@ module _ (problem : Problem) (cut : Option (List ℕ)) (fits : AllFitBelow probl
   pub judged_well : (told : Told) → IsJudged problem.net problem.bounds found told → IsToldWell problem told
   judged_well (Nothing leaf) h = absurd h
   judged_well (Fitting shown leaf) h =
-      subst (λ (s : LeastRun). IsBest problem s) (sym h.0) (record { answers = is.0.answers; fitting = h.1 })
+      subst (λ (s : LeastRun). IsBest problem s) (sym h.0) (record { answers = is.0.answers; small = small; fitting = h.1 })
   judged_well (Splitting e) h = h.2

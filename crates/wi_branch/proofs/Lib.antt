@@ -1,3 +1,5 @@
 pub mod WalkLaws
+pub mod LeafLaws
+pub mod TreeMaking
 pub mod ExactLaws
 pub mod FindingLaws

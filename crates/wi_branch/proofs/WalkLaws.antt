@@ -13,7 +13,6 @@ use Rattle.wi_world.specs.declared.answer.Verdict.TheVariants as verdicts
 use Rattle.wi_world.specs.Moves.{AreBounds}
 use Rattle.wi_world.specs.Moving.{IsMovingRun}
 use Rattle.wi_world.specs.Runs.{is_less, needs, verdict_of}
-use Rattle.wi_world.specs.Holds.{Matches}
 use Rattle.wi_trees.specs.Branches.{fits_branch, CanSplit, with_down, with_up, split_of}
 use Rattle.wi_trees.specs.Trees.{IsBelow, NoRunBelow}
 use Rattle.wi_trees.specs.Nodes.{AreNodes}
@@ -27,7 +26,9 @@ use Rattle.wi_branch.specs.declared.refused.ExactRefused.{ExactRefused}
 use Rattle.wi_branch.specs.declared.refused.ExactRefused.TheVariants.{Overflow, TooLong, NodeLimit, Memory}
 use Rattle.wi_branch.specs.declared.finding.Told.{Told}
 use Rattle.wi_branch.specs.declared.finding.Told.TheVariants.{Nothing, Fitting, Splitting}
-use Rattle.wi_branch.specs.Walks.{within, is_fitting, IsNode, cut_after, left_after, IsWalk}
+use Rattle.wi_accept.specs.Trees.{within}
+use Rattle.wi_accept.proofs.Visits.{matches_within}
+use Rattle.wi_branch.specs.Walks.{is_fitting, IsNode, cut_after, left_after, IsWalk}
 use Rattle.wi_branch.specs.Exactly.{IsInexact}
 use Rattle.wi_branch.specs.private.Courses.{node_of, IsToldWell, Opening, cut_of, after_told, AreBranches, IsOpening, IsOpenedAt, IsStoppedAt}
 
@@ -75,7 +76,7 @@ unfit_splits net branch run k kb moving unfit =
     false_from_ne_true (fits_branch net branch branch run) (λ f. true≢false (sym (ap is_fitting (fits_verdict net run branch branch b f)) ∙ unfit)) in
     split_there net run branch branch b k moving none
 
-can_split : (net : Net) (branch : Bounds) (run : Run) (e : LinkId) → IsNetwork net → AreBounds net branch → IsMovingRun net branch run → is_fitting (verdict_of net branch run) ≡ false
+pub can_split : (net : Net) (branch : Bounds) (run : Run) (e : LinkId) → IsNetwork net → AreBounds net branch → IsMovingRun net branch run → is_fitting (verdict_of net branch run) ≡ false
     → split_of net branch run ≡ Some e → CanSplit net branch e
 can_split net branch run e k kb moving unfit is =
     let s = unfit_splits net branch run k kb moving unfit in
@@ -89,13 +90,6 @@ abbrev pub split_in : Opened → Option LinkId
 split_in (opened.Closed leaf) = None
 split_in (opened.Fits w leaf) = None
 split_in (opened.Split e) = Some e
-
--- what matches matches within a branch too, and the other way round
-pub matches_within : (problem : Problem) (branch : Bounds) (run : Run) → Matches problem.net (asks problem) run → Matches problem.net (asks (within problem branch)) run
-matches_within problem branch run m = record { first = m.first; path = m.path; last = m.last }
-
-pub matches_whole : (problem : Problem) (branch : Bounds) (run : Run) → Matches problem.net (asks (within problem branch)) run → Matches problem.net (asks problem) run
-matches_whole problem branch run m = record { first = m.first; path = m.path; last = m.last }
 
 module _ (problem : Problem) where
   -- one node more

@@ -1,21 +1,35 @@
 -- Exact answers, and why there is none.
-use Rattle.std.specs.Prelude.{◌≡◌, ℕ, ◌<◌, ◌≤◌, List, [], ◌∷◌, length, Option, None, option_map}
+use Rattle.std.specs.Prelude.{◌≡◌, ℕ, ◌<◌, ◌≤◌, List, [], ◌∷◌, map, length, Option, None, option_map}
 use Rattle.wi_net.specs.declared.bounds.Bounds.{Bounds}
 use Rattle.wi_quantity.specs.Weighing.{components}
-use Rattle.wi_trees.specs.Trees.{HoldsExactly}
-use Rattle.wi_build.specs.Problems.{Problem, asks, weighs}
-use Rattle.wi_decide.specs.Searches.{IsOverflowingBelow, IsTooLongBelow}
+use Rattle.wi_trace.specs.declared.answer.Answer.{Answer}
+use Rattle.wi_cert.specs.declared.shown.Shown.{Shown}
+use Rattle.wi_cert.specs.declared.tree.Node.{Node}
+use Rattle.wi_cert.specs.declared.tree.Node.TheVariants as nodes
+use Rattle.wi_cert.specs.declared.tree.TreeCertificate.{TreeCertificate}
+use Rattle.wi_build.specs.Problems.{Problem}
+use Rattle.wi_accept.specs.Trees.{within, IsDecidedExactly, IsTreeMaker}
+use Rattle.wi_decide.specs.Searches.{IsOverflowingBelow, IsTooLongBelow, lowered}
 use Rattle.wi_branch.specs.declared.opened.Opened.{Opened}
+use Rattle.wi_branch.specs.declared.opened.Opened.TheVariants.{Closed, Fits, Split}
 use Rattle.wi_branch.specs.declared.refused.ExactRefused.{ExactRefused}
 use Rattle.wi_branch.specs.declared.refused.ExactRefused.TheVariants.{Overflow, TooLong, NodeLimit, Memory}
-use Rattle.wi_branch.specs.declared.answers.ExactAnswer.{ExactAnswer}
-use Rattle.wi_branch.specs.Walks.{within, IsWalk}
+use Rattle.wi_branch.specs.Walks.{IsWalk}
 
--- an answer to a problem holds exactly, and its nodes are a whole tree, of at most so many
-pub record IsExact (problem : Problem) (limit : ℕ) (exact : ExactAnswer) : Type 0 where
-  pub holds : HoldsExactly problem.net (asks problem) (weighs problem) exact.answer.word (option_map components exact.answer.weight) exact.answer.run exact.answer.verdict
-  pub walk : IsWalk problem None exact.opened (problem.bounds ∷ []) (option_map components exact.answer.weight) []
-  pub few : length exact.opened ≤ limit
+-- what was opened as a node of a tree: of a leaf the rows that weigh less than what is shown
+abbrev pub node_under : Shown → Opened → Node
+node_under s (Closed leaf) = nodes.Closed (lowered s leaf)
+node_under s (Fits w leaf) = nodes.Closed (lowered s leaf)
+node_under s (Split e) = nodes.Split e.0
+
+-- an answer to a problem holds exactly; its tree is one that a maker writes, and it has the nodes of a whole walk, of at most so many
+pub record IsExact (problem : Problem) (limit : ℕ) (answer : Answer) (t : TreeCertificate) : Type 0 where
+  pub holds : IsDecidedExactly problem answer
+  pub made : IsTreeMaker problem answer t
+  pub opened : List Opened
+  pub walk : IsWalk problem None opened (problem.bounds ∷ []) (option_map components answer.weight) []
+  pub nodes : t.nodes ≡ map (node_under t.shown) opened
+  pub few : length opened ≤ limit
 
 -- nodes were opened from the problem's bounds on, and there is a branch that is next
 pub record IsNext (problem : Problem) (opened : List Opened) : Type 0 where

@@ -5,7 +5,6 @@ ghost use Rattle.wi_quantity.specs.Weighing.{components};
 ghost use Rattle.wi_world.specs.Moves.{AreBounds};
 ghost use Rattle.wi_branch.specs.private.Courses.{MaySplit, after_told, cut_of};
 
-use crate::branches::{with_down, with_up};
 use crate::finding::Told;
 use crate::opened::Opened;
 use std::alloc::Global;
@@ -15,6 +14,7 @@ use wi_cert::Closed;
 use wi_decide::LeastRun;
 use wi_net::{Bounds, LinkId, Network};
 use wi_quantity::Weight;
+use wi_trees::{with_down, with_up};
 
 /// The best run that fitted so far, the nodes in preorder, and the branches that are left.
 #[derive(Drop)]
@@ -118,8 +118,8 @@ impl Course {
     }
 }
 
-// Puts one more at the end.
-fn put<T: Drop>(items: &mut Vec<T>, item: T) -> Result<(), NoMemory>
+/// Puts one more at the end.
+pub(crate) fn put<T: Drop>(items: &mut Vec<T>, item: T) -> Result<(), NoMemory>
     ensures { OnOk result (items.new.items ≡ items.old.items ++ item ∷ []) }
 {
     match items.push(item) {

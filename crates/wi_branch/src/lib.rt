@@ -8,7 +8,8 @@ mod course;
 mod finding;
 mod opened;
 mod refused;
+mod tree;
 
-pub use answers::{ExactAnswer, exact};
+pub use answers::exact;
 pub use opened::Opened;
 pub use refused::ExactRefused;

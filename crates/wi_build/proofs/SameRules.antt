@@ -91,7 +91,7 @@ module _ (e f : Compiled) (k : HasAutomaton e) (l : HasAutomaton f) (h : Alike e
 
 -- and the rules are made of the same
 module _ (net : Net) (text : List ℕ) (q r : Query) (vector : List (List Part)) (first : IsQuery net text q) (other : IsQuery net text r) (k : HasAutomata q) (l : HasAutomata r) where
-  one_encoding : encoding_of (problem_of net q vector) ≡ encoding_of (problem_of net r vector)
+  pub one_encoding : encoding_of (problem_of net q vector) ≡ encoding_of (problem_of net r vector)
   one_encoding = λ i. record {
     net = net;
     bounds = same_bounds net text q r first other i;

@@ -1,8 +1,8 @@
 -- How long the lines before `heads` can be.
-use Rattle.std.specs.Prelude.{◌≡◌, ℕ, suc, ◌+◌, ◌*◌, ◌<◌, ◌≤◌, ◌^◌, Bool, true, false, if◌then◌else◌, List, [], ◌∷◌, ◌++◌, length, map, codes, MatchBool, refl}
+use Rattle.std.specs.Prelude.{◌≡◌, ℕ, suc, ◌+◌, ◌*◌, ◌<◌, ◌≤◌, ◌^◌, Bool, true, false, if◌then◌else◌, List, [], ◌∷◌, ◌++◌, length, map, codes, refl}
 use Rattle.std.specs.List.{All, flat_map}
 use Rattle.std.specs.Fmt.{decimal}
-use Rattle.std.proofs.Common.{arith, length-append, sym, ap, subst, ◌∙◌}
+use Rattle.std.proofs.Common.{arith, length-append}
 use Rattle.std.proofs.lemmas.Fmt.{length-decimal-le}
 use Rattle.wi_weight.specs.Weights.{EachBelow}
 use Rattle.wi_cert.specs.declared.certificate.Certificate.{Certificate}
@@ -10,7 +10,7 @@ use Rattle.wi_cert.specs.declared.shown.Shown.{Shown}
 use Rattle.wi_cert.specs.declared.shown.Claim.{Claim}
 use Rattle.wi_cert.specs.declared.shown.Claim.TheVariants.{Yes, No, Inconclusive}
 use Rattle.wi_cert.specs.Numbers.{spaced, printed, count_line}
-use Rattle.wi_cert.specs.Shown.{answer_line, weight_line, first_line, pair_line, shown_lines, is_no, IsShown, HasShownRanges}
+use Rattle.wi_cert.specs.Shown.{answer_line, weight_line, first_line, pair_line, is_no, IsShown, HasShownRanges}
 use Rattle.wi_cert.specs.Text.{ended}
 use Rattle.wi_cert.specs.private.Fronts.{front_text}
 

@@ -3,6 +3,7 @@ pub mod LineLemmas
 pub mod NumberLemmas
 pub mod EndLemmas
 pub mod MarkLemmas
+pub mod TreeMarkLemmas
 pub mod ReadingLemmas
 pub mod TellingLemmas
 pub mod FormLemmas
@@ -15,3 +16,7 @@ pub mod TextLemmas
 pub mod DecodeLemmas
 pub mod WritingLemmas
 pub mod FrontLengths
+pub mod TreeLemmas
+pub mod TreeSoundLemmas
+pub mod TreeCompleteLemmas
+pub mod TreeWritingLemmas

@@ -7,6 +7,7 @@ use Rattle.std.proofs.lemmas.List.{take-append-le, take_all}
 use Rattle.wi_cert.specs.declared.certificate.Certificate.{Certificate}
 use Rattle.wi_cert.specs.declared.certificate.Place.{Place}
 use Rattle.wi_cert.specs.declared.certificate.Place.TheVariants as places
+use Rattle.wi_cert.specs.declared.draft.Mark.{Mark}
 use Rattle.wi_cert.specs.declared.row.Row.{Row}
 use Rattle.wi_cert.specs.declared.shown.Shown.{Shown}
 use Rattle.wi_cert.specs.declared.shown.ShownPlace.{ShownPlace}
@@ -19,7 +20,8 @@ use Rattle.wi_cert.specs.Order.{pair_below, row_below, is_next}
 use Rattle.wi_cert.specs.Shown.{is_no, asked_shown, steps_left, step_of, claim_of, weight_of, first_of}
 use Rattle.wi_cert.specs.Closed.{asked_closed, heads_left, pairs_left, rows_left, heads_after, pairs_after, rows_after, head_of, pair_of, row_of, with_next, is_lighter}
 use Rattle.wi_cert.specs.Sheets.{Sheet, sheet, asked}
-use Rattle.wi_cert.specs.private.Marks.{shown_rank, closed_rank, rank, line_count, mark_of, back, IsFront, FollowsShown, FollowsClosed, Follows, IsUnreadShown, IsUnread}
+use Rattle.wi_cert.specs.Reading.{Fed}
+use Rattle.wi_cert.specs.private.Marks.{shown_rank, closed_rank, rank, line_count, fed_so_far, mark_of, back, IsFront, FollowsShown, FollowsClosed, Follows, IsUnreadShown, IsUnread}
 use Rattle.wi_cert.proofs.Cases.{by_test, bind_some, map_some, if_some, unless_some, nothing}
 
 pub front_same : {A : Type 0} (xs : List A) → IsFront xs xs
@@ -46,6 +48,9 @@ shown_same s = record { weight = front_same s.weight; first = front_same s.first
 closed_same : (c : Closed) → FollowsClosed c c
 closed_same c = record { heads = front_same c.heads; pairs = front_same c.pairs; rows = front_same c.rows }
 
+pub follows_same : (s : Sheet) → Follows s s
+follows_same s = record { shown = shown_same s.certificate.shown; closed = closed_same s.certificate.closed }
+
 pub follows_trans : (s t u : Sheet) → Follows s t → Follows t u → Follows s u
 follows_trans s t u a b = record {
   shown = record { weight = front_trans a.shown.weight b.shown.weight; first = front_trans a.shown.first b.shown.first; steps = front_trans a.shown.steps b.shown.steps };
@@ -66,16 +71,16 @@ same_lists s a b c d e g = rw (a, b, c, d, e, g) refl
 pub back_at : (s t : Sheet) → Follows s t → back (mark_of s) t ≡ s
 back_at s t h = same_lists s (front_taken h.shown.weight) (front_taken h.shown.first) (front_taken h.shown.steps) (front_taken h.closed.heads) (front_taken h.closed.pairs) (front_taken h.closed.rows)
 
-abbrev after_shown : Option ShownPlace → Place
+abbrev pub after_shown : Option ShownPlace → Place
 after_shown next = option_map_or places.Shown next (places.Closed closed_places.HeadCount)
 
-abbrev after_closed : Option ClosedPlace → Place
+abbrev pub after_closed : Option ClosedPlace → Place
 after_closed next = option_map_or places.Closed next places.End
 
-record ShownGoes (p : ShownPlace) (s : Shown) (x : Option ShownPlace × Shown) : Type 0 where
-  unread : IsUnreadShown p s → IsUnread (after_shown x.0) x.1
-  follows : IsUnreadShown p s → FollowsShown s x.1
-  count : rank (after_shown x.0) + length x.1.steps ≡ shown_rank p + length s.steps + 1
+pub record ShownGoes (p : ShownPlace) (s : Shown) (x : Option ShownPlace × Shown) : Type 0 where
+  pub unread : IsUnreadShown p s → IsUnread (after_shown x.0) x.1
+  pub follows : IsUnreadShown p s → FollowsShown s x.1
+  pub count : rank (after_shown x.0) + length x.1.steps ≡ shown_rank p + length s.steps + 1
 
 steps_rank : (n : ℕ) → rank (after_shown (steps_left n)) ≡ 6
 steps_rank n = by_test (n == 0) (λ (e : (n == 0) ≡ true). rw e refl) (λ (e : (n == 0) ≡ false). rw e refl)
@@ -83,7 +88,7 @@ steps_rank n = by_test (n == 0) (λ (e : (n == 0) ≡ true). rw e refl) (λ (e :
 steps_unread : (n : ℕ) (s : Shown) → IsUnread (after_shown (steps_left n)) s
 steps_unread n s = by_test (n == 0) (λ (e : (n == 0) ≡ true). rw e tt) (λ (e : (n == 0) ≡ false). rw e tt)
 
-shown_goes : (p : ShownPlace) (s : Shown) (line : List ℕ) (x : Option ShownPlace × Shown) → asked_shown p s line ≡ Some x → ShownGoes p s x
+pub shown_goes : (p : ShownPlace) (s : Shown) (line : List ℕ) (x : Option ShownPlace × Shown) → asked_shown p s line ≡ Some x → ShownGoes p s x
 shown_goes Terms s line x h =
     let r = bind_some (λ n. if nat_le n 5 then Some (Some Answer, record s { terms = n }) else None) (count_after (codes "terms ") line) x h in
     let k = if_some (nat_le r.0 5) (Some Answer, record s { terms = r.0 }) x r.2 in
@@ -109,9 +114,9 @@ shown_goes (Step n) s line x h =
       count = omega (arith, steps_rank (n - 1), length-append s.steps (r.0 ∷ []));
     })
 
-record ClosedGoes (p : ClosedPlace) (c : Closed) (x : Option ClosedPlace × Closed) : Type 0 where
-  follows : FollowsClosed c x.1
-  count : rank (after_closed x.0) + length x.1.heads + length x.1.pairs + length x.1.rows ≡ closed_rank p + length c.heads + length c.pairs + length c.rows + 1
+pub record ClosedGoes (p : ClosedPlace) (c : Closed) (x : Option ClosedPlace × Closed) : Type 0 where
+  pub follows : FollowsClosed c x.1
+  pub count : rank (after_closed x.0) + length x.1.heads + length x.1.pairs + length x.1.rows ≡ closed_rank p + length c.heads + length c.pairs + length c.rows + 1
 
 heads_rank : (n : ℕ) → rank (after_closed (Some (heads_left n))) ≡ 7
 heads_rank n = by_test (n == 0) (λ (e : (n == 0) ≡ true). rw e refl) (λ (e : (n == 0) ≡ false). rw e refl)
@@ -127,7 +132,7 @@ pub next_is : {A : Type 0} (may_follow : List A → A → Bool) (xs : List A) (o
 next_is may_follow xs None ys h = nothing ys h
 next_is may_follow xs (Some x) ys h = let r = if_some (may_follow xs x) (xs ++ x ∷ []) ys h in (x, refl, r.0, r.1)
 
-closed_goes : (s : Shown) (p : ClosedPlace) (c : Closed) (line : List ℕ) (x : Option ClosedPlace × Closed) → asked_closed s p c line ≡ Some x → ClosedGoes p c x
+pub closed_goes : (s : Shown) (p : ClosedPlace) (c : Closed) (line : List ℕ) (x : Option ClosedPlace × Closed) → asked_closed s p c line ≡ Some x → ClosedGoes p c x
 closed_goes s closed_places.HeadCount c line x h =
     let r = map_some (λ n. (Some (heads_left n), c)) (count_after (codes "heads ") line) x h in
     subst (ClosedGoes closed_places.HeadCount c) r.2 (record { follows = closed_same c; count = omega (arith, heads_rank r.0) })
@@ -183,3 +188,10 @@ goes places.Done c line t h = nothing t h
 -- the same, as the code finds the place of the next line
 pub place_goes : (p : Place) (c d : Certificate) (line : List ℕ) (found : Option Place) (next : Place) → option_map (λ n. sheet n d) found ≡ asked p c line → found ≡ Some next → Goes p c (sheet next d)
 place_goes p c d line found next h e = goes p c line (sheet next d) (sym h ∙ ap (option_map (λ n. sheet n d)) e)
+
+-- a piece that was undone
+pub undone : (bad : Option ℕ) (held grown cut : List ℕ) (s t u : Sheet) (m : Mark) (n : ℕ) (f : Fed Sheet) → fed_so_far line_count bad held s ≡ f → m ≡ mark_of s → Follows s t → u ≡ back m t → n ≡ length held → IsFront held grown → cut ≡ take n grown → fed_so_far line_count bad cut u ≡ f
+undone bad held grown cut s t u m n f h mark follows at long front is =
+    ap (λ x. fed_so_far line_count bad cut x) (at ∙ ap (λ x. back x t) mark ∙ back_at s t follows)
+    ∙ ap (λ x. fed_so_far line_count bad x s) (is ∙ ap (λ x. take x grown) long ∙ front_taken front)
+    ∙ h

@@ -1,5 +1,5 @@
 -- Lines that are taken are those of a certificate.
-use Rattle.std.specs.Prelude.{◌≡◌, ℕ, List, [], ◌∷◌, ◌++◌, Option, Some, None, Ok, refl, codes}
+use Rattle.std.specs.Prelude.{◌≡◌, ℕ, List, [], ◌∷◌, ◌++◌, Option, Some, None, Ok, refl, codes, if◌then◌else◌}
 use Rattle.std.specs.List.{flat_map}
 use Rattle.std.specs.Option.{option_map_or}
 use Rattle.std.specs.Str.{bytes_eq}
@@ -15,8 +15,8 @@ use Rattle.wi_cert.specs.declared.closed.ClosedPlace.{ClosedPlace}
 use Rattle.wi_cert.specs.declared.closed.ClosedPlace.TheVariants.{HeadCount}
 use Rattle.wi_cert.specs.Shown.{shown_lines, asked_shown}
 use Rattle.wi_cert.specs.Closed.{closed_lines, asked_closed}
-use Rattle.wi_cert.specs.Sheets.{Sheet, sheet, blank, asked, filled}
-use Rattle.wi_cert.specs.Reading.{decoded}
+use Rattle.wi_cert.specs.Sheets.{Sheet, sheet, blank, asked, is_done, certificates}
+use Rattle.wi_cert.specs.Reading.{decoded, filled}
 use Rattle.wi_cert.specs.Text.{ended, lines_of, IsText}
 use Rattle.wi_cert.proofs.Cases.{nothing, some_same, bind_some, map_some, if_some}
 use Rattle.wi_cert.proofs.FormLemmas.{same_bytes}
@@ -67,17 +67,25 @@ stands_on lines places.End c line t h e =
     subst (StandsAt (lines ++ line ∷ [])) r.1 (ap (λ x. x ++ line ∷ []) h.0 ∙ ap (λ l. title ∷ (shown_lines c.shown ++ closed_lines c.closed) ++ l ∷ []) (same_bytes line (codes "end") r.0) ∙ ap (λ x. title ∷ x) (append_assoc (shown_lines c.shown) (closed_lines c.closed) (codes "end" ∷ [])), h.1, h.2)
 stands_on lines places.Done c line t h e = nothing t e
 
-stands_filled : (more before : List (List ℕ)) (s t : Sheet) → StandsAt before s → filled s more ≡ Some t → StandsAt (before ++ more) t
+stands_filled : (more before : List (List ℕ)) (s t : Sheet) → StandsAt before s → filled certificates s more ≡ Some t → StandsAt (before ++ more) t
 stands_filled [] before s t h e = subst (λ x. StandsAt x t) (sym (append-nil before)) (subst (StandsAt before) (some_same s t e) h)
 stands_filled (line ∷ more) before s t h e =
-    let r = bind_some (λ u. filled u more) (asked s.place s.certificate line) t e in
+    let r = bind_some (λ u. filled certificates u more) (asked s.place s.certificate line) t e in
     subst (λ x. StandsAt x t) (append_assoc before (line ∷ []) more) (stands_filled more (before ++ line ∷ []) r.0 t (stands_on before s.place s.certificate line r.0 h r.1) r.2)
 
+-- a certificate is made where no line is to come
+done_is : (p : Place) (c d : Certificate) → (if is_done p then Some c else None) ≡ Some d → sheet p c ≡ sheet places.Done d
+done_is places.Done c d h = ap (sheet places.Done) (some_same c d h)
+done_is places.Title c d h = nothing d h
+done_is (places.Shown p) c d h = nothing d h
+done_is (places.Closed p) c d h = nothing d h
+done_is places.End c d h = nothing d h
+
 -- What is decoded has the bytes as its text.
-pub decoded_is_text : (c : Certificate) (bytes : List ℕ) → decoded bytes ≡ Ok c → IsText c bytes
+pub decoded_is_text : (c : Certificate) (bytes : List ℕ) → decoded certificates bytes ≡ Ok c → IsText c bytes
 decoded_is_text c bytes h =
-    let w = whole_lines bytes c h in
-    let s = stands_filled w.lines [] blank (sheet places.Done c) (refl, refl, (refl, refl, refl)) w.good in
+    let w = whole_lines certificates bytes c h in
+    let s = subst (StandsAt w.lines) (done_is w.sheet.place w.sheet.certificate c w.made) (stands_filled w.lines [] blank w.sheet (refl, refl, (refl, refl, refl)) w.good) in
     record {
       writable = record { shown = s.1.shown; closed = s.2.closed };
       ranges = record { shown = s.1.ranges; closed = s.2.ranges };

@@ -23,7 +23,7 @@ pub each_below : (bound : ℕ) (ns : List ℕ) → ((i : ℕ) → get_or ns i 0 
 each_below bound [] h = tt
 each_below bound (n ∷ ns) h = (h 0, each_below bound ns (λ i. h (suc i)))
 
-item_first : {A : Type 0} (xs : List A) (i : ℕ) (d : A) → i < length xs → drop i xs ≡ get_or xs i d ∷ drop (i + 1) xs
+pub item_first : {A : Type 0} (xs : List A) (i : ℕ) (d : A) → i < length xs → drop i xs ≡ get_or xs i d ∷ drop (i + 1) xs
 item_first xs i d h = rw (add-one, drop-cons xs i d) refl
 
 -- one line more

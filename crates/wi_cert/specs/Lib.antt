@@ -2,7 +2,8 @@ pub mod Numbers
 pub mod Order
 pub mod Shown
 pub mod Closed
-pub mod Sheets
 pub mod Reading
+pub mod Sheets
 pub mod Text
+pub mod Trees
 pub mod private

@@ -1,5 +1,5 @@
 -- A certificate line by line: what each line of the form asked in its place adds.
-use Rattle.std.specs.Prelude.{ℕ, if◌then◌else◌, List, Option, Some, None, codes, option_map, option_and_then, [], ◌∷◌}
+use Rattle.std.specs.Prelude.{ℕ, Bool, true, false, if◌then◌else◌, List, Option, Some, None, codes, option_map}
 use Rattle.std.specs.Option.{option_map_or}
 use Rattle.std.specs.Str.{bytes_eq}
 use Rattle.wi_cert.specs.declared.certificate.Certificate.{Certificate}
@@ -9,6 +9,7 @@ use Rattle.wi_cert.specs.declared.shown.ShownPlace.TheVariants.{Terms}
 use Rattle.wi_cert.specs.declared.closed.ClosedPlace.TheVariants.{HeadCount}
 use Rattle.wi_cert.specs.Shown.{asked_shown, blank_shown}
 use Rattle.wi_cert.specs.Closed.{asked_closed, blank_closed}
+use Rattle.wi_cert.specs.Reading.{Form}
 
 -- what the lines so far leave: the place of the next line, and the certificate so far
 pub record Sheet : Type 0 where
@@ -30,7 +31,10 @@ asked (places.Closed place) c line = option_map (λ s. sheet (option_map_or plac
 asked places.End c line = if bytes_eq line (codes "end") then Some (sheet places.Done c) else None
 asked places.Done c line = None
 
--- the sheet after lines that are each of the form asked in its place
-abbrev pub filled : Sheet → List (List ℕ) → Option Sheet
-filled s [] = Some s
-filled s (line ∷ lines) = option_and_then (λ next. filled next lines) (asked s.place s.certificate line)
+abbrev pub is_done : Place → Bool
+is_done places.Done = true
+is_done place = false
+
+-- how a certificate is read
+abbrev pub certificates : Form Sheet Certificate
+certificates = record { blank = blank; asked = λ s line. asked s.place s.certificate line; made = λ s. if is_done s.place then Some s.certificate else None }

@@ -1,11 +1,10 @@
--- The text of a certificate, and its first bad line.
-use Rattle.std.specs.Prelude.{◌≡◌, ℕ, ◌+◌, true, List, [], ◌∷◌, ◌++◌, length, codes, Some, None, Contains}
+-- The text of a certificate, and the first bad line of a text of any form.
+use Rattle.std.specs.Prelude.{◌≡◌, ℕ, ◌+◌, List, [], ◌∷◌, ◌++◌, length, codes, Some, None, Contains}
 use Rattle.std.specs.List.{flat_map}
 use Rattle.wi_cert.specs.declared.certificate.Certificate.{Certificate}
 use Rattle.wi_cert.specs.Shown.{shown_lines, IsShown, HasShownRanges}
 use Rattle.wi_cert.specs.Closed.{closed_lines, IsClosed, HasClosedRanges}
-use Rattle.wi_cert.specs.Sheets.{Sheet, blank, asked, filled}
-use Rattle.wi_cert.specs.Reading.{is_done}
+use Rattle.wi_cert.specs.Reading.{Form, filled}
 
 abbrev pub ended : List ℕ → List ℕ
 ended line = line ++ 10 ∷ []
@@ -38,18 +37,18 @@ pub record IsText (c : Certificate) (bytes : List ℕ) : Type 0 where
   pub is : bytes ≡ text c
 
 -- what follows whole lines begins with no line that is asked: its first line isn't of that form, or has no end
-abbrev pub BeginsBadly : Sheet → List ℕ → Type 0
-BeginsBadly s rest = (line after : List ℕ) → rest ≡ ended line ++ after → (Contains line 10 → ⊥) → asked s.place s.certificate line ≡ None
+abbrev pub BeginsBadly : {S C : Type 0} → Form S C → S → List ℕ → Type 0
+BeginsBadly form s rest = (line after : List ℕ) → rest ≡ ended line ++ after → (Contains line 10 → ⊥) → form.asked s line ≡ None
 
 -- Line n of the bytes is the first that isn't of the form asked in its place, judged by it and the lines before it. A line that
 -- is missing counts, and so does one without its end.
-pub record IsBadLine (bytes : List ℕ) (n : ℕ) : Type 0 where
+pub record IsBadLine {S C : Type 0} (form : Form S C) (bytes : List ℕ) (n : ℕ) : Type 0 where
   pub lines : List (List ℕ)
   pub rest : List ℕ
-  pub sheet : Sheet
+  pub sheet : S
   pub is : bytes ≡ flat_map ended lines ++ rest
   pub whole : (line : List ℕ) → Contains lines line → Contains line 10 → ⊥
   pub number : n ≡ length lines + 1
-  pub good : filled blank lines ≡ Some sheet
-  pub bad : BeginsBadly sheet rest
-  pub unfinished : is_done sheet.place ≡ true → rest ≡ [] → ⊥
+  pub good : filled form form.blank lines ≡ Some sheet
+  pub bad : BeginsBadly form sheet rest
+  pub unfinished : (c : C) → form.made sheet ≡ Some c → rest ≡ [] → ⊥

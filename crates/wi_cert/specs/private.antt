@@ -2,3 +2,4 @@
 pub mod Ends
 pub mod Marks
 pub mod Fronts
+pub mod TreeMarks

@@ -17,26 +17,10 @@ pub enum Part {
     Last,
 }
 
-/// Why a certificate with a text isn't believed. Where several causes stand together, the first in this order is told, but a head
-/// and a pair that are missing stand in one place of the order.
+/// Why heads, pairs and rows don't bound every run. Where several causes stand together, the first in this order is told, but a
+/// head and a pair that are missing stand in one place of the order.
 #[derive(Clone, Copy, Debug, PartialEq, Eq)]
-pub enum CheckRefused {
-    /// The certificate has so many terms, and so many were asked for.
-    TermsDiffer {
-        shown: u32,
-        asked: u32,
-    },
-    /// The first step, from 1, that can't be taken as it is written, at the query's number of failures; 0 is the start.
-    StepNotInTable(u64),
-    /// This part of the run that is shown, the first of them, isn't in its expression of the query.
-    NoMatch(Part),
-    /// The run that is shown doesn't weigh what the certificate says.
-    WeightDiffers {
-        shown: Weight,
-        counted: Weight,
-    },
-    /// The answer is yes and the run that is shown doesn't fit the query's bounds, or inconclusive and it does.
-    WrongAnswer,
+pub enum ClosedRefused {
     /// The heads aren't closed: they lack this spot with this symbol. The start is asked for first, and then what the rules of the
     /// listed heads lead to, by head, by rule, and by lower symbol.
     HeadMissing(u64, u32),
@@ -51,6 +35,29 @@ pub enum CheckRefused {
         target: u64,
         sum: Weight,
     },
+}
+
+/// Why a certificate with a text, or a tree with one, isn't believed. Where several causes stand together, the first in this order
+/// is told, those of a tree's nodes node by node.
+#[derive(Clone, Copy, Debug, PartialEq, Eq)]
+pub enum CheckRefused {
+    /// The certificate has so many terms, and so many were asked for.
+    TermsDiffer { shown: u32, asked: u32 },
+    /// The first step, from 1, that can't be taken as it is written, at the query's number of failures; 0 is the start.
+    StepNotInTable(u64),
+    /// This part of the run that is shown, the first of them, isn't in its expression of the query.
+    NoMatch(Part),
+    /// The run that is shown doesn't weigh what the certificate says.
+    WeightDiffers { shown: Weight, counted: Weight },
+    /// The answer is yes and the run that is shown doesn't fit the query's bounds, or inconclusive and it does.
+    WrongAnswer,
+    /// What a certificate lists doesn't bound every run.
+    Unbounded(ClosedRefused),
+    /// This node of a tree, from 1, splits its branch by a link that the network hasn't, or whose risk group is down or up in the
+    /// branch, or though no more may fail there.
+    BadSplit(u32),
+    /// What this node of a tree lists, from 1, doesn't bound every run of its branch.
+    Leaf(u32, ClosedRefused),
     /// Memory ran out.
     Memory,
 }

@@ -13,6 +13,7 @@ use crate::row::{Numbers, Row};
 use crate::shown::ShownDraft;
 use std::alloc::Global;
 use std::marker::Model;
+use std::mem::replace;
 use wi_base::{Listed, NoMemory};
 
 /// Heads, pairs and rows, each list strictly rising.
@@ -122,6 +123,15 @@ impl ClosedDraft {
             pairs: Listed::of(pairs),
             rows: Listed::of(rows),
         }
+    }
+
+    // The lists; they are blank again. It takes no memory.
+    pub(crate) fn take(&mut self) -> Closed
+        ensures lists { result ≡ self.old }
+        ensures blank { self.new ≡ blank_closed }
+    {
+        let alloc = *self.heads.allocator();
+        replace(self, ClosedDraft::new(alloc)).finish()
     }
 
     // Takes a line of the form asked, under what is shown. It gives the place of the next line, or that this was the last of these

@@ -1,7 +1,7 @@
-//! Why a text gives no certificate.
+//! Why a text gives no certificate, or no tree certificate.
 use wi_base::NoMemory;
 
-/// Why there is no certificate.
+/// Why a text gives none.
 #[derive(Clone, Copy, Debug, PartialEq, Eq)]
 pub enum DecodeRefused {
     /// The first line, from 1, that isn't of the form asked in its place. A line that is missing counts, and so does one that

@@ -2,14 +2,14 @@
 //! lists only grow, and are cut to the lengths that they had there.
 ghost use Rattle.std.specs.Prelude.{◌≡◌, ◌+◌, ◌^◌, ◌<◌, ◌≤◌, false, Some, None, IfOk, option_map, if◌then◌else◌};
 ghost use Rattle.std.specs.Option.{option_map_or};
-ghost use Rattle.wi_cert.specs.Sheets.{sheet, blank, asked};
-ghost use Rattle.wi_cert.specs.Reading.{is_done};
+ghost use Rattle.wi_cert.specs.Sheets.{Sheet, sheet, blank, asked, is_done, certificates};
 ghost use Rattle.wi_cert.specs.private.Marks.{rank, shown_rank, closed_rank, line_count, mark_of, back, IsUnread, Follows, Keeps};
 
 use crate::certificate::{Certificate, Place};
 use crate::closed::{ClosedDraft, ClosedMark, ClosedPlace};
 use crate::line::is_line;
 use crate::shown::{ShownDraft, ShownMark, ShownPlace};
+use crate::take_lines::TakeLines;
 use std::alloc::Global;
 use std::marker::Model;
 use wi_base::NoMemory;
@@ -57,18 +57,6 @@ impl Draft {
         }
     }
 
-    // How many lines were taken.
-    pub(crate) fn line_count(&self) -> u128
-        ensures count { result ≡ line_count self.now }
-        ensures small { result < 2 ^ 70 }
-    {
-        let steps = self.shown.step_count() as u128;
-        let heads = self.closed.head_count() as u128;
-        let pairs = self.closed.pair_count() as u128;
-        let rows = self.closed.row_count() as u128;
-        u128::from(rank(self.place)) + steps + heads + pairs + rows
-    }
-
     pub(crate) fn is_done(&self) -> bool
         ensures { result ≡ is_done self.now.place }
     {
@@ -114,13 +102,26 @@ impl Draft {
             closed: closed.finish(),
         }
     }
+}
 
-    // Takes a line of the form asked. It tells whether the line is of that form.
-    pub(crate) fn take_line(&mut self, line: &[u8]) -> Result<bool, NoMemory>
-        ensures ok { IfOk result (λ taken. (if taken then Some self.new else None) ≡ asked self.old.place self.old.certificate line.now) }
-        ensures kept { IfOk result (λ taken. taken ≡ false → self.new ≡ self.old) }
-        ensures follows { Follows self.old self.new }
-    {
+impl TakeLines for Draft {
+    type Made = Certificate;
+
+    ghost form = { certificates };
+
+    ghost count = { line_count };
+
+    ghost Follows = { Follows };
+
+    fn line_count(&self) -> u128 {
+        let steps = self.shown.step_count() as u128;
+        let heads = self.closed.head_count() as u128;
+        let pairs = self.closed.pair_count() as u128;
+        let rows = self.closed.row_count() as u128;
+        u128::from(rank(self.place)) + steps + heads + pairs + rows
+    }
+
+    fn take_line(&mut self, line: &[u8]) -> Result<bool, NoMemory> {
         let Some(next) = next_place(
             self.place,
             &mut self.shown,
@@ -150,7 +151,7 @@ fn rank(place: Place) -> u64
     }
 }
 
-fn shown_rank(place: ShownPlace) -> u64
+pub(crate) fn shown_rank(place: ShownPlace) -> u64
     ensures rank { result ≡ shown_rank place }
     ensures small { result ≤ 10 }
 {
@@ -164,7 +165,7 @@ fn shown_rank(place: ShownPlace) -> u64
     }
 }
 
-fn closed_rank(place: ClosedPlace) -> u64
+pub(crate) fn closed_rank(place: ClosedPlace) -> u64
     ensures rank { result ≡ closed_rank place }
     ensures small { result ≤ 10 }
 {

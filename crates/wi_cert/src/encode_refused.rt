@@ -1,10 +1,10 @@
-//! Why a certificate isn't written.
+//! Why a certificate or a tree certificate isn't written.
 use wi_base::NoMemory;
 
 /// Why there is no text.
 #[derive(Clone, Copy, Debug, PartialEq, Eq)]
 pub enum EncodeRefused {
-    /// The lines from `heads` on have more bytes than the limit.
+    /// The lines of a certificate from `heads` on have more bytes than the limit, or the text of a tree certificate has.
     TooLong,
     /// Memory ran out.
     Memory,

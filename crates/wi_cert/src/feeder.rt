@@ -1,14 +1,17 @@
-//! Certificates read in pieces. A line that lies whole within a piece is judged where it is; only one that a piece's end cuts is
-//! kept. Reading takes the time of its bytes, and a line takes no memory but for what it adds to the lists.
+//! Certificates read in pieces, and the loops that read a text of any form. A line that lies whole within a piece is judged where
+//! it is; only one that a piece's end cuts is kept. Reading takes the time of its bytes, and a line takes no memory but for what it
+//! adds to the lists.
 ghost use Rattle.std.specs.Prelude.{◌≡◌, ℕ, ◌+◌, [], Ok, Err, IfOk, OnOk, OnErr, if◌then◌else◌};
+ghost use Rattle.wi_cert.specs.Sheets.{certificates};
 ghost use Rattle.wi_cert.specs.Reading.{unread, fed, Feeds, Finishes};
 ghost use Rattle.wi_cert.specs.Text.{IsText, IsBadLine};
-ghost use Rattle.wi_cert.specs.private.Marks.{line_count, reading, Follows, IsFront};
+ghost use Rattle.wi_cert.specs.private.Marks.{reading, IsFront};
 
 use crate::certificate::Certificate;
 use crate::decode_refused::DecodeRefused;
 use crate::draft::Draft;
 use crate::line::split_line;
+use crate::take_lines::TakeLines;
 use std::alloc::Global;
 use std::marker::Model;
 use wi_base::NoMemory;
@@ -25,18 +28,19 @@ pub struct Feeder {
 
 impl Model for Feeder {
     ghost use Rattle.wi_cert.specs.Reading.{Fed};
+    ghost use Rattle.wi_cert.specs.Sheets.{Sheet};
 
-    ghost Value = { Fed };
+    ghost Value = { Fed Sheet };
 
-    ghost use Rattle.wi_cert.specs.private.Marks.{fed_so_far};
+    ghost use Rattle.wi_cert.specs.private.Marks.{line_count, fed_so_far};
 
-    ghost view = { λ f. fed_so_far f.bad f.held.items f.draft };
+    ghost view = { λ f. fed_so_far line_count f.bad f.held.items f.draft };
 }
 
 impl Feeder {
     /// Nothing is read.
     pub fn new(alloc: Global) -> Feeder
-        ensures { result ≡ unread }
+        ensures { result ≡ unread certificates }
     {
         Feeder {
             bad: None,
@@ -48,7 +52,7 @@ impl Feeder {
     /// Takes more bytes. After a bad line it answers the same from then on. Where memory runs out it stands as before the piece,
     /// which can be fed again.
     pub fn feed(&mut self, piece: &[u8]) -> Result<(), DecodeRefused>
-        ensures { Feeds self.old piece.now self.new result }
+        ensures { Feeds certificates self.old piece.now self.new result }
     {
         if let Some(line) = self.bad {
             return Err(DecodeRefused::BadLine(line));
@@ -72,7 +76,7 @@ impl Feeder {
 
     /// The certificate, where the text ends here. It takes no memory.
     pub fn finish(self) -> Result<Certificate, DecodeRefused>
-        ensures { Finishes self result }
+        ensures { Finishes certificates self result }
     {
         let Feeder { bad, held, draft } = self;
         let is_whole = held.is_empty() && draft.is_done();
@@ -92,9 +96,13 @@ impl Feeder {
 
 // Takes the bytes of a piece. It tells whether each line that ends in it is of the form asked. Where memory runs out, the lists
 // and what is held have only grown.
-fn take_piece(held: &mut Vec<u8>, draft: &mut Draft, piece: &[u8]) -> Result<bool, NoMemory>
-    ensures ok { IfOk result (λ good. fed (Ok (reading held.old.items draft.old)) piece.now ≡ (if good then Ok (reading held.new.items draft.new) else Err (line_count draft.new + 1))) }
-    ensures draft { Follows draft.old draft.new }
+pub(crate) fn take_piece<D: TakeLines>(
+    held: &mut Vec<u8>,
+    draft: &mut D,
+    piece: &[u8],
+) -> Result<bool, NoMemory>
+    ensures ok { IfOk result (λ good. fed D.form (Ok (reading D.count held.old.items draft.old)) piece.now ≡ (if good then Ok (reading D.count held.new.items draft.new) else Err (D.count draft.new + 1))) }
+    ensures draft { (mark : D) → D.Follows mark draft.old → D.Follows mark draft.new }
     ensures held { OnErr result (IsFront held.old.items held.new.items) }
 {
     if held.is_empty() {
@@ -113,9 +121,13 @@ fn take_piece(held: &mut Vec<u8>, draft: &mut Draft, piece: &[u8]) -> Result<boo
 }
 
 // Takes the lines of a piece that begins with a line, and holds what is left in the place of what was held.
-fn take_lines(held: &mut Vec<u8>, draft: &mut Draft, piece: &[u8]) -> Result<bool, NoMemory>
-    ensures ok { IfOk result (λ good. fed (Ok (reading [] draft.old)) piece.now ≡ (if good then Ok (reading held.new.items draft.new) else Err (line_count draft.new + 1))) }
-    ensures draft { Follows draft.old draft.new }
+fn take_lines<D: TakeLines>(
+    held: &mut Vec<u8>,
+    draft: &mut D,
+    piece: &[u8],
+) -> Result<bool, NoMemory>
+    ensures ok { IfOk result (λ good. fed D.form (Ok (reading D.count [] draft.old)) piece.now ≡ (if good then Ok (reading D.count held.new.items draft.new) else Err (D.count draft.new + 1))) }
+    ensures draft { (mark : D) → D.Follows mark draft.old → D.Follows mark draft.new }
     ensures held { OnErr result (held.new.items ≡ held.old.items) }
 {
     let mut rest = piece;
@@ -143,7 +155,7 @@ fn hold(held: &mut Vec<u8>, bytes: &[u8]) -> Result<(), NoMemory>
 /// The certificate that the bytes spell.
 pub fn decode(alloc: Global, bytes: &[u8]) -> Result<Certificate, DecodeRefused>
     ensures found { IfOk result (λ certificate. IsText certificate bytes.now) }
-    ensures bad { (n : ℕ) → result ≡ Err (DecodeRefused.BadLine n) → IsBadLine bytes.now n }
+    ensures bad { (n : ℕ) → result ≡ Err (DecodeRefused.BadLine n) → IsBadLine certificates bytes.now n }
 {
     let mut feeder = Feeder::new(alloc);
     match feeder.feed(bytes) {

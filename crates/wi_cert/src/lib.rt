@@ -1,4 +1,5 @@
-//! Certificates as text: what a checker needs to believe an answer of the search, written down number by number.
+//! Certificates and tree certificates as text: what a checker needs to believe an answer of the search, written down number by
+//! number.
 #![tactic(auto)]
 
 mod certificate;
@@ -12,17 +13,28 @@ mod laws;
 mod line;
 mod row;
 mod shown;
+mod take_lines;
+mod tree;
+mod tree_draft;
+mod tree_feeder;
+mod tree_writer;
 mod writer;
 
 pub use certificate::Certificate;
-pub use check_refused::{CheckRefused, Part, Weight};
+pub use check_refused::{CheckRefused, ClosedRefused, Part, Weight};
 pub use closed::Closed;
 pub use decode_refused::DecodeRefused;
 pub use encode_refused::EncodeRefused;
 pub use feeder::{Feeder, decode};
-pub use laws::{a_text_has_one_certificate, bad_lines_are_told, pieces_are_bytes, texts_are_read};
+pub use laws::{
+    a_text_has_one_certificate, a_text_has_one_tree, bad_lines_are_told, nodes_can_make_trees,
+    pieces_are_bytes, texts_are_read, trees_are_read,
+};
 pub use row::{Numbers, Row};
 pub use shown::{Claim, Shown};
+pub use tree::{Node, TreeCertificate};
+pub use tree_feeder::{TreeFeeder, decode_tree};
+pub use tree_writer::{encode_tree, encode_tree_within};
 pub use writer::{encode, encode_within};
 
 #[cfg(test)]

@@ -1,6 +1,7 @@
-//! Texts of certificates by example, and texts that give none.
+//! Texts of certificates and of tree certificates by example, and texts that give none.
 use crate::{
-    Claim, Closed, DecodeRefused, EncodeRefused, Feeder, Row, Shown, decode, encode, encode_within,
+    Claim, Closed, DecodeRefused, EncodeRefused, Feeder, Node, Row, Shown, TreeCertificate,
+    TreeFeeder, decode, decode_tree, encode, encode_tree, encode_tree_within, encode_within,
 };
 use std::alloc::Global;
 use std::process::Abort;
@@ -184,6 +185,7 @@ fn texts_come_back_byte_for_byte(rt: HostRuntime) -> Result<(), Fail> {
 const BAD: &[(&[&str], Edits, u128)] = &[
     (&[], &[], 1),
     (YES, &[(1, "mpls-whatif-certificate 2\n")], 1),
+    (YES, &[(1, "mpls-whatif-tree 1\n")], 1),
     (YES, &[(1, "mpls-whatif-certificate 1\r\n")], 1),
     (YES, &[(2, "terms 6\n")], 2),
     (YES, &[(2, "terms 00\n")], 2),
@@ -394,4 +396,255 @@ fn after_a_bad_line(alloc: Global) -> (bool, usize, Option<u128>) {
 #[test]
 fn a_bad_line_is_told_from_its_end_on(rt: HostRuntime) {
     assert_eq!(rt; after_a_bad_line(rt.alloc()), (true, 3, Some(4)));
+}
+
+// The lines of a tree that is one leaf.
+const LEAF: &[&str] = &[
+    "mpls-whatif-tree 1",
+    "terms 0",
+    "answer no",
+    "weight none",
+    "first none",
+    "steps 0",
+    "nodes 1",
+    "closed",
+    "heads 3",
+    "0 0",
+    "3 3",
+    "4 0",
+    "pairs 1",
+    "3 0",
+    "rows 0",
+    "end",
+];
+
+// The lines of a tree that is split once.
+const SPLIT: &[&str] = &[
+    "mpls-whatif-tree 1",
+    "terms 0",
+    "answer no",
+    "weight none",
+    "first none",
+    "steps 0",
+    "nodes 3",
+    "split 1",
+    "closed",
+    "heads 3",
+    "0 0",
+    "3 3",
+    "4 0",
+    "pairs 1",
+    "3 0",
+    "rows 0",
+    "closed",
+    "heads 3",
+    "0 0",
+    "3 3",
+    "4 0",
+    "pairs 1",
+    "3 0",
+    "rows 0",
+    "end",
+];
+
+// Texts that give a tree certificate.
+const GOOD_TREES: &[(&[&str], Edits)] = &[
+    (LEAF, &[]),
+    (SPLIT, &[]),
+    (SPLIT, &[(8, "split 4294967295\n")]),
+    (
+        SPLIT,
+        &[
+            (7, "nodes 5\n"),
+            (8, "split 2\nsplit 1\nclosed\nheads 0\npairs 0\nrows 0\n"),
+        ],
+    ),
+    (
+        SPLIT,
+        &[
+            (16, "rows 1\n4 0 1 18446744073709551615\n"),
+            (24, "rows 1\n2 2 6 3\n"),
+        ],
+    ),
+    (
+        SPLIT,
+        &[
+            (3, "answer yes\n"),
+            (4, "weight 8\n"),
+            (5, "first 1 1 2\n"),
+            (24, "rows 1\n2 2 6 7\n"),
+        ],
+    ),
+];
+
+// The text of the tree certificate that the text gives.
+fn tree_again(alloc: Global, text: &[u8]) -> Result<Vec<u8>, DecodeRefused> {
+    let tree = decode_tree(alloc, text)?;
+    let written = encode_tree(alloc, &tree);
+    drop(tree);
+    Ok(written?)
+}
+
+fn tree_comes_back(
+    rt: &impl Abort,
+    alloc: Global,
+    lines: &[&str],
+    edits: Edits,
+) -> Result<(), Fail> {
+    let text = edited(alloc, lines, edits)?;
+    assert_eq!(rt; tree_again(alloc, &text)?.as_slice(), text.as_slice());
+    Ok(())
+}
+
+#[test]
+fn trees_come_back_byte_for_byte(rt: HostRuntime) -> Result<(), Fail> {
+    for (lines, edits) in GOOD_TREES {
+        tree_comes_back(&rt, rt.alloc(), lines, edits)?;
+    }
+    Ok(())
+}
+
+// Texts that give none, and their first bad lines.
+const BAD_TREES: &[(&[&str], Edits, u128)] = &[
+    (&[], &[], 1),
+    (LEAF, &[(1, "mpls-whatif-certificate 1\n")], 1),
+    (LEAF, &[(3, "answer inconclusive\n")], 3),
+    (LEAF, &[(7, "nodes 2\n")], 7),
+    (LEAF, &[(7, "nodes 0\n")], 7),
+    (LEAF, &[(7, "nodes 10001\n")], 7),
+    (LEAF, &[(7, "nodes 01\n")], 7),
+    (LEAF, &[(7, "heads 3\n")], 7),
+    (LEAF, &[(7, "nodes 9999\n")], 8),
+    (LEAF, &[(8, "closed \n")], 8),
+    (LEAF, &[(8, "split 1\n")], 8),
+    (LEAF, &[(8, "heads 3\n")], 8),
+    (LEAF, &[(16, "closed\n")], 16),
+    (LEAF, &[(16, "split 1\n")], 16),
+    (LEAF, &[(16, "end")], 16),
+    (LEAF, &[(16, "")], 16),
+    (LEAF, &[(16, "end\n\n")], 17),
+    (LEAF, &[(15, "rows 1\n4 0 1 7\n4 0 1 8\n")], 17),
+    (
+        LEAF,
+        &[
+            (3, "answer yes\n"),
+            (4, "weight 8\n"),
+            (5, "first 1 1 2\n"),
+            (15, "rows 1\n2 2 6 8\n"),
+        ],
+        16,
+    ),
+    (SPLIT, &[(8, "closed\n")], 8),
+    (SPLIT, &[(8, "split 4294967296\n")], 8),
+    (SPLIT, &[(8, "split 01\n")], 8),
+    (SPLIT, &[(8, "split\n")], 8),
+    (SPLIT, &[(9, "split 2\n")], 9),
+    (SPLIT, &[(17, "end\n")], 17),
+    (SPLIT, &[(17, "split 2\n")], 17),
+    (SPLIT, &[(17, "")], 17),
+    (SPLIT, &[(21, "3 3\n")], 21),
+    (SPLIT, &[(25, "closed\n")], 25),
+];
+
+fn tree_is_refused(
+    rt: &impl Abort,
+    alloc: Global,
+    lines: &[&str],
+    edits: Edits,
+    line: u128,
+) -> Result<(), Fail> {
+    let text = edited(alloc, lines, edits)?;
+    assert_eq!(rt; line_of(tree_again(alloc, &text).err()), Some(line));
+    Ok(())
+}
+
+#[test]
+fn other_texts_of_trees_have_a_first_bad_line(rt: HostRuntime) -> Result<(), Fail> {
+    for (lines, edits, line) in BAD_TREES {
+        tree_is_refused(&rt, rt.alloc(), lines, edits, *line)?;
+    }
+    Ok(())
+}
+
+fn bounds_the_no(leaf: &Closed) -> bool {
+    leaf.heads.as_slice() == [(0, 0), (3, 3), (4, 0)].as_slice()
+        && leaf.pairs.as_slice() == [(3, 0)].as_slice()
+        && leaf.rows.as_slice().is_empty()
+}
+
+fn is_the_split(tree: &TreeCertificate) -> bool {
+    match tree.nodes.as_slice() {
+        [Node::Split(link), Node::Closed(first), Node::Closed(second)] => {
+            *link == 1 && bounds_the_no(first) && bounds_the_no(second)
+        }
+        _ => false,
+    }
+}
+
+fn feed_tree(alloc: Global, text: &[u8], size: usize) -> Result<TreeFeeder, NoMemory> {
+    let mut feeder = TreeFeeder::new(alloc);
+    for piece in text.chunks(size.max(1)) {
+        feeder = feeder.feed(piece)?;
+    }
+    Ok(feeder)
+}
+
+// Read in pieces of that size, the text gives the tree that is split once, or a first bad line.
+fn gives_the_split(
+    alloc: Global,
+    edits: Edits,
+    size: usize,
+) -> Result<Result<bool, DecodeRefused>, Fail> {
+    let text = edited(alloc, SPLIT, edits)?;
+    let feeder = feed_tree(alloc, &text, size)?;
+    match feeder.finish() {
+        Ok(tree) => {
+            let is = is_the_split(&tree);
+            drop(tree);
+            Ok(Ok(is))
+        }
+        Err(refused) => Ok(Err(refused)),
+    }
+}
+
+#[test]
+fn pieces_of_a_tree_give_what_the_whole_gives(rt: HostRuntime) -> Result<(), Fail> {
+    for size in [1, 7, 1000] {
+        let good = gives_the_split(rt.alloc(), &[], size)?;
+        let bad = gives_the_split(rt.alloc(), &[(21, "3 3\n")], size)?;
+        assert_eq!(rt; (good, bad), (Ok(true), Err(DecodeRefused::BadLine(21))));
+    }
+    Ok(())
+}
+
+// Whether the tree certificate of the lines may be written within a limit.
+fn tree_within(
+    alloc: Global,
+    lines: &[&str],
+    limit: usize,
+) -> Result<Result<usize, EncodeRefused>, Fail> {
+    let text = edited(alloc, lines, &[])?;
+    let tree = decode_tree(alloc, text.as_slice())?;
+    let written = encode_tree_within(alloc, &tree, limit);
+    drop(tree);
+    match written {
+        Ok(again) => Ok(Ok(again.len())),
+        Err(refused) => Ok(Err(refused)),
+    }
+}
+
+#[test]
+fn trees_are_written_within_a_limit(rt: HostRuntime) -> Result<(), Fail> {
+    // The text has 180 bytes, of which the last line has 4 and each leaf 46.
+    let (at_limit, over) = (
+        tree_within(rt.alloc(), SPLIT, 180)?,
+        tree_within(rt.alloc(), SPLIT, 179)?,
+    );
+    let far_over = tree_within(rt.alloc(), SPLIT, 0)?;
+    assert_eq!(rt; at_limit, Ok(180));
+    assert_eq!(rt;
+        (over, far_over),
+        (Err(EncodeRefused::TooLong), Err(EncodeRefused::TooLong))
+    );
+    Ok(())
 }

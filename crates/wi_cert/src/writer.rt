@@ -62,7 +62,7 @@ fn encode_front(alloc: Global, certificate: &Certificate) -> Result<Vec<u8>, NoM
 }
 
 // Writes the bytes at the end.
-fn put(out: &mut Vec<u8>, bytes: &[u8]) -> Result<(), NoMemory>
+pub(crate) fn put(out: &mut Vec<u8>, bytes: &[u8]) -> Result<(), NoMemory>
     ensures { OnOk result (out.new.items ≡ out.old.items ++ bytes.now) }
 {
     out.extend_from_slice(bytes)?;
@@ -101,7 +101,7 @@ fn put_spaced_short(out: &mut Vec<u8>, numbers: &[u32]) -> Result<(), NoMemory>
 }
 
 // Writes the line of a number after its front.
-fn put_count(out: &mut Vec<u8>, front: &[u8], number: u64) -> Result<(), NoMemory>
+pub(crate) fn put_count(out: &mut Vec<u8>, front: &[u8], number: u64) -> Result<(), NoMemory>
     ensures { OnOk result (out.new.items ≡ out.old.items ++ ended (count_line front.now number)) }
 {
     put(out, front)?;
@@ -221,7 +221,7 @@ fn put_first(out: &mut Vec<u8>, shown: &Shown) -> Result<(), NoMemory>
 }
 
 // Writes the lines that show the answer.
-fn put_shown(out: &mut Vec<u8>, shown: &Shown) -> Result<(), NoMemory>
+pub(crate) fn put_shown(out: &mut Vec<u8>, shown: &Shown) -> Result<(), NoMemory>
     requires { IsShown shown.now }
     ensures text { OnOk result (out.new.items ≡ out.old.items ++ flat_map ended (shown_lines shown.now)) }
     ensures ranges { OnOk result (HasShownRanges shown.now) }
@@ -236,7 +236,7 @@ fn put_shown(out: &mut Vec<u8>, shown: &Shown) -> Result<(), NoMemory>
 }
 
 // Writes the lines that bound every run.
-fn put_closed(out: &mut Vec<u8>, closed: &Closed) -> Result<(), NoMemory>
+pub(crate) fn put_closed(out: &mut Vec<u8>, closed: &Closed) -> Result<(), NoMemory>
     ensures text { OnOk result (out.new.items ≡ out.old.items ++ flat_map ended (closed_lines closed.now)) }
     ensures ranges { OnOk result (HasClosedRanges closed.now) }
 {

@@ -8,3 +8,4 @@ pub mod Segments
 pub mod Parts
 pub mod RowLemmas
 pub mod StageLemmas
+pub mod TreeLemmas

@@ -4,11 +4,12 @@ use Rattle.std.specs.List.{All}
 use Rattle.std.specs.Option.{option_map_or}
 use Rattle.std.proofs.Common.{sym, ap, ◌∙◌, subst, arith}
 use Rattle.std.proofs.lemmas.Option.{same_Some}
-use Rattle.wi_cert.specs.declared.certificate.Certificate.{Certificate}
+use Rattle.wi_cert.specs.declared.shown.Shown.{Shown}
+use Rattle.wi_cert.specs.declared.closed.Closed.{Closed}
 use Rattle.wi_cert.specs.declared.row.Row.{Row}
 use Rattle.wi_cert.specs.Order.{pair_below, row_below, last_of, is_next, EachAdded}
-use Rattle.wi_cert.specs.Closed.{IsRow}
-use Rattle.wi_cert.specs.Text.{IsWritable}
+use Rattle.wi_cert.specs.Shown.{IsShown}
+use Rattle.wi_cert.specs.Closed.{IsRow, IsClosed}
 use Rattle.wi_accept.proofs.RisingRows.{last_added, pair_below_trans, row_below_trans}
 use Rattle.wi_check.specs.declared.rows.Rows.{Rows}
 use Rattle.wi_check.specs.private.Lists.{Rises}
@@ -42,17 +43,17 @@ each_has MayFollow P has before (x ∷ xs) each (suc k) d within = each_has MayF
 added_pairs : (xs : List (ℕ × ℕ)) → EachAdded (λ before x. is_next pair_below before x ≡ true) [] xs → Rises pair_below xs
 added_pairs xs each = rises pair_below (λ before x. is_next pair_below before x ≡ true) pair_below_trans (λ before x h. h) [] xs each
 
--- heads, pairs and rows of a certificate that has a text
-pub heads_rise : (c : Certificate) (heads : List (ℕ × ℕ)) → IsWritable c → heads ≡ c.closed.heads → Rises pair_below heads
-heads_rise c heads is same = subst (Rises pair_below) (sym same) (added_pairs c.closed.heads is.closed.heads)
+-- heads, pairs and rows that have a text under what is shown
+pub heads_rise : (s : Shown) (c : Closed) (heads : List (ℕ × ℕ)) → IsClosed s c → heads ≡ c.heads → Rises pair_below heads
+heads_rise s c heads is same = subst (Rises pair_below) (sym same) (added_pairs c.heads is.heads)
 
-pub pairs_rise : (c : Certificate) (pairs : List (ℕ × ℕ)) → IsWritable c → pairs ≡ c.closed.pairs → Rises pair_below pairs
-pairs_rise c pairs is same = subst (Rises pair_below) (sym same) (added_pairs c.closed.pairs is.closed.pairs)
+pub pairs_rise : (s : Shown) (c : Closed) (pairs : List (ℕ × ℕ)) → IsClosed s c → pairs ≡ c.pairs → Rises pair_below pairs
+pairs_rise s c pairs is same = subst (Rises pair_below) (sym same) (added_pairs c.pairs is.pairs)
 
-pub rows_are : (c : Certificate) (rows : Rows) → IsWritable c → rows.terms ≡ c.shown.terms → rows.rows.now ≡ c.closed.rows → AreRows rows
-rows_are c rows is terms same = record {
-  few = subst (λ n. n ≤ 5) (sym terms) is.shown.terms;
-  terms = subst (λ n. HaveTerms n rows.rows.now) (sym terms) (subst (HaveTerms c.shown.terms) (sym same)
-      (each_has (IsRow c.shown) (λ (r : Row). length r.weight ≡ c.shown.terms + 1) (λ before r may. may.weight) [] c.closed.rows is.closed.rows));
-  rise = subst (Rises row_below) (sym same) (rises row_below (IsRow c.shown) row_below_trans (λ before r may. may.next) [] c.closed.rows is.closed.rows);
+pub rows_are : (s : Shown) (c : Closed) (rows : Rows) → IsShown s → IsClosed s c → rows.terms ≡ s.terms → rows.rows.now ≡ c.rows → AreRows rows
+rows_are s c rows shown is terms same = record {
+  few = subst (λ n. n ≤ 5) (sym terms) shown.terms;
+  terms = subst (λ n. HaveTerms n rows.rows.now) (sym terms) (subst (HaveTerms s.terms) (sym same)
+      (each_has (IsRow s) (λ (r : Row). length r.weight ≡ s.terms + 1) (λ before r may. may.weight) [] c.rows is.rows));
+  rise = subst (Rises row_below) (sym same) (rises row_below (IsRow s) row_below_trans (λ before r may. may.next) [] c.rows is.rows);
 }

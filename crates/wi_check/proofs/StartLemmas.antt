@@ -9,17 +9,17 @@ use Rattle.wi_world.specs.declared.run.Run.{Run}
 use Rattle.wi_world.specs.Moves.{is_start}
 use Rattle.wi_trace.specs.declared.cause.Cause.TheVariants.{BadStart}
 use Rattle.wi_build.specs.Problems.{Problem}
-use Rattle.wi_cert.specs.declared.certificate.Certificate.{Certificate}
+use Rattle.wi_cert.specs.declared.shown.Shown.{Shown}
 use Rattle.wi_cert.specs.declared.check_refused.CheckRefused.TheVariants.{StepNotInTable}
 use Rattle.wi_accept.specs.Answers.{run_of}
 use Rattle.wi_accept.specs.Causes.{ShowsRun}
-use Rattle.wi_check.specs.private.Stages.{NoneBefore}
+use Rattle.wi_check.specs.private.Stages.{NoneShown}
 
-pub begins : (problem : Problem) (c : Certificate) (n : ℕ) → 1 < n → NoneBefore problem c n → ShowsRun c.shown → (run_of problem.net c.shown).first.0 < length problem.net.links
-begins problem c n past none shows = go (is_start problem.net problem.bounds.down run.first run.header) refl
+pub begins : (problem : Problem) (s : Shown) (n : ℕ) → 1 < n → NoneShown problem s n → ShowsRun s → (run_of problem.net s).first.0 < length problem.net.links
+begins problem s n past none shows = go (is_start problem.net problem.bounds.down run.first run.header) refl
   where
     run : Run
-    run = run_of problem.net c.shown
+    run = run_of problem.net s
 
     go : (b : Bool) → is_start problem.net problem.bounds.down run.first run.header ≡ b → run.first.0 < length problem.net.links
     go false off = absurd (none (StepNotInTable 0) past (shows, BadStart, (rw off refl)))

@@ -1,50 +1,69 @@
 //! What bounds every run is judged without a run: the heads and pairs lead nowhere else, no row is for the goal, and the rows leave
-//! out nothing that weighs less than the run that is shown.
+//! out nothing that weighs less than the run that is shown. A certificate has this once, and a tree for each of its leaves.
 ghost use Rattle.std.specs.Prelude.{◌≡◌, IfErr, OnOk, option_map};
 ghost use Rattle.wi_quantity.specs.Weighing.{components};
 ghost use Rattle.wi_cert.specs.Shown.{IsShown};
-ghost use Rattle.wi_cert.specs.Text.{IsWritable};
-ghost use Rattle.wi_accept.specs.Causes.{IsRefused, bound_of};
-ghost use Rattle.wi_check.specs.private.Stages.{IsAsked, NoneBefore};
+ghost use Rattle.wi_cert.specs.Closed.{IsClosed};
+ghost use Rattle.wi_accept.specs.Causes.{bound_of};
+ghost use Rattle.wi_check.specs.private.Stages.{IsAsked, IsGap, NoneClosed};
 
 use crate::heads::first_missing;
 use crate::rows::{Rows, first_open, weight_to};
 use crate::weights::weight_of;
 use std::alloc::Global;
 use wi_accept::Need;
+use wi_base::NoMemory;
 use wi_build::LazySystem;
-use wi_cert::{Certificate, CheckRefused, Claim, Shown};
+use wi_cert::{Claim, Closed, ClosedRefused, Shown};
 use wi_quantity::Weight;
 
+/// What speaks first against heads, pairs and rows, or that memory ran out before that was known.
+#[derive(Clone, Copy)]
+pub(crate) enum Gap {
+    Closed(ClosedRefused),
+    Memory,
+}
+
+impl From<NoMemory> for Gap {
+    ghost use Rattle.std.specs.Prelude.{◌≡◌};
+    ghost use Rattle.wi_check.specs.declared.bounded.Gap.{Gap};
+
+    ghost from_gives = { λ _ r. r ≡ Gap.Memory };
+
+    fn from(_error: NoMemory) -> Self {
+        Gap::Memory
+    }
+}
+
 /// Checks heads and pairs, then the goal, and then rows.
-pub(crate) fn check_bound(
+pub(crate) fn check_closed(
     alloc: Global,
     system: &LazySystem<'_>,
-    certificate: &Certificate,
-) -> Result<(), CheckRefused>
+    shown: &Shown,
+    closed: &Closed,
+) -> Result<(), Gap>
     requires asked { IsAsked system.now }
-    requires text { IsWritable certificate.now }
-    requires before { NoneBefore system.now certificate.now 5 }
-    ensures passed { OnOk result (NoneBefore system.now certificate.now 8) }
-    ensures refused { IfErr result (IsRefused system.now certificate.now) }
+    requires shown { IsShown shown.now }
+    requires closed { IsClosed shown.now closed.now }
+    ensures passed { OnOk result (NoneClosed system.now shown.now closed.now 3) }
+    ensures refused { IfErr result (IsGap system.now shown.now closed.now) }
 {
-    check_heads(alloc, system, certificate)?;
-    check_goal(system, certificate)?;
-    check_rows(alloc, system, certificate)
+    check_heads(alloc, system, shown, closed)?;
+    check_goal(system, shown, closed)?;
+    check_rows(alloc, system, shown, closed)
 }
 
 // Checks that heads and pairs are closed.
 fn check_heads(
     alloc: Global,
     system: &LazySystem<'_>,
-    certificate: &Certificate,
-) -> Result<(), CheckRefused>
-    requires text { IsWritable certificate.now }
-    requires before { NoneBefore system.now certificate.now 5 }
-    ensures passed { OnOk result (NoneBefore system.now certificate.now 6) }
-    ensures refused { IfErr result (IsRefused system.now certificate.now) }
+    shown: &Shown,
+    closed: &Closed,
+) -> Result<(), Gap>
+    requires closed { IsClosed shown.now closed.now }
+    ensures passed { OnOk result (NoneClosed system.now shown.now closed.now 1) }
+    ensures refused { IfErr result (IsGap system.now shown.now closed.now) }
 {
-    let closed = &certificate.closed;
     match first_missing(
         alloc,
         system,
@@ -52,21 +71,22 @@ fn check_heads(
         closed.pairs.as_slice(),
     )? {
         None => Ok(()),
-        Some(Need::Head(p, g)) => Err(CheckRefused::HeadMissing(p, g)),
-        Some(Need::Pair(u, v)) => Err(CheckRefused::PairMissing(u, v)),
+        Some(Need::Head(p, g)) => Err(Gap::Closed(ClosedRefused::HeadMissing(p, g))),
+        Some(Need::Pair(u, v)) => Err(Gap::Closed(ClosedRefused::PairMissing(u, v))),
     }
 }
 
 // Checks that no row is for the goal.
-fn check_goal(system: &LazySystem<'_>, certificate: &Certificate) -> Result<(), CheckRefused>
-    requires text { IsWritable certificate.now }
-    requires before { NoneBefore system.now certificate.now 6 }
-    ensures passed { OnOk result (NoneBefore system.now certificate.now 7) }
-    ensures refused { IfErr result (IsRefused system.now certificate.now) }
+fn check_goal(system: &LazySystem<'_>, shown: &Shown, closed: &Closed) -> Result<(), Gap>
+    requires shown { IsShown shown.now }
+    requires closed { IsClosed shown.now closed.now }
+    requires before { NoneClosed system.now shown.now closed.now 1 }
+    ensures passed { OnOk result (NoneClosed system.now shown.now closed.now 2) }
+    ensures refused { IfErr result (IsGap system.now shown.now closed.now) }
 {
-    match weight_to(rows_of(certificate), (0, 0), 1) {
+    match weight_to(rows_of(shown, closed), (0, 0), 1) {
         None => Ok(()),
-        Some(weight) => Err(CheckRefused::GoalBelow(weight)),
+        Some(weight) => Err(Gap::Closed(ClosedRefused::GoalBelow(weight))),
     }
 }
 
@@ -74,34 +94,36 @@ fn check_goal(system: &LazySystem<'_>, certificate: &Certificate) -> Result<(), 
 fn check_rows(
     alloc: Global,
     system: &LazySystem<'_>,
-    certificate: &Certificate,
-) -> Result<(), CheckRefused>
+    shown: &Shown,
+    closed: &Closed,
+) -> Result<(), Gap>
     requires asked { IsAsked system.now }
-    requires text { IsWritable certificate.now }
-    requires before { NoneBefore system.now certificate.now 7 }
-    ensures passed { OnOk result (NoneBefore system.now certificate.now 8) }
-    ensures refused { IfErr result (IsRefused system.now certificate.now) }
+    requires shown { IsShown shown.now }
+    requires closed { IsClosed shown.now closed.now }
+    requires before { NoneClosed system.now shown.now closed.now 2 }
+    ensures passed { OnOk result (NoneClosed system.now shown.now closed.now 3) }
+    ensures refused { IfErr result (IsGap system.now shown.now closed.now) }
 {
-    let heads = certificate.closed.heads.as_slice();
-    let bound = bound_of(&certificate.shown);
-    match first_open(alloc, system, heads, rows_of(certificate), bound)? {
+    let heads = closed.heads.as_slice();
+    let bound = bound_of(shown);
+    match first_open(alloc, system, heads, rows_of(shown, closed), bound)? {
         None => Ok(()),
-        Some(demand) => Err(CheckRefused::NotClosed {
+        Some(demand) => Err(Gap::Closed(ClosedRefused::NotClosed {
             head: demand.head,
             target: demand.target,
             sum: demand.weight,
-        }),
+        })),
     }
 }
 
-// The rows of a certificate, with how many terms their weights have.
-fn rows_of(certificate: &Certificate) -> Rows<'_>
-    ensures terms { result.terms ≡ certificate.now.shown.terms }
-    ensures rows { result.rows.now ≡ certificate.now.closed.rows }
+// The rows, with how many terms their weights have.
+fn rows_of<'a>(shown: &Shown, closed: &'a Closed) -> Rows<'a>
+    ensures terms { result.terms ≡ shown.now.terms }
+    ensures rows { result.rows.now ≡ closed.now.rows }
 {
     Rows {
-        terms: certificate.shown.terms,
-        rows: certificate.closed.rows.as_slice(),
+        terms: shown.terms,
+        rows: closed.rows.as_slice(),
     }
 }
 

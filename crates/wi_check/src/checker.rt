@@ -12,9 +12,8 @@ ghost use Rattle.wi_build.specs.Problems.{IsProblem};
 ghost use Rattle.wi_cert.specs.Text.{IsWritable};
 ghost use Rattle.wi_accept.specs.Answers.{IsDecided, answer_of, word_of};
 ghost use Rattle.wi_accept.specs.Causes.{IsAccepted, IsRefused};
-ghost use Rattle.wi_check.specs.private.Stages.{problem_in, NoneBefore};
 
-use crate::bounded::check_bound;
+use crate::bounded::{Gap, check_closed};
 use crate::shown::check_shown;
 use std::alloc::Global;
 use wi_build::LazySystem;
@@ -67,16 +66,19 @@ pub fn check(
         vector,
         bounds,
     };
-    check_shown(alloc, asked, certificate)?;
+    check_shown(alloc, asked, &certificate.shown)?;
     let system = LazySystem::new(alloc, net, query, vector, bounds)?;
-    check_bound(alloc, &system, certificate)?;
-    Ok(Accepted {
-        word: word_of(certificate.shown.claim),
-    })
+    match check_closed(alloc, &system, &certificate.shown, &certificate.closed) {
+        Ok(()) => Ok(Accepted {
+            word: word_of(certificate.shown.claim),
+        }),
+        Err(Gap::Closed(refused)) => Err(CheckRefused::Unbounded(refused)),
+        Err(Gap::Memory) => Err(CheckRefused::Memory),
+    }
 }
 
-// The word of a claim.
-fn word_of(claim: Claim) -> Word
+/// The word of a claim.
+pub(crate) fn word_of(claim: Claim) -> Word
     ensures { result ≡ word_of claim }
 {
     match claim {

@@ -1,10 +1,10 @@
-//! The run that is shown is judged as anybody would judge it who has the tables and the query, by walking along it. Of a no, no run
-//! is shown, and nothing here speaks against it.
+//! The run that a certificate or a tree shows is judged as anybody would judge it who has the tables and the query, by walking
+//! along it. Of a no, no run is shown, and nothing here speaks against it.
 ghost use Rattle.std.specs.Prelude.{◌≡◌, ◌<◌, true, false, length, IfErr, OnOk};
-ghost use Rattle.wi_cert.specs.Text.{IsWritable};
+ghost use Rattle.wi_cert.specs.Shown.{IsShown};
 ghost use Rattle.wi_accept.specs.Answers.{run_of};
-ghost use Rattle.wi_accept.specs.Causes.{IsRefused, is_wrong, ShowsRun};
-ghost use Rattle.wi_check.specs.private.Stages.{problem_in, IsAsked, NoneBefore};
+ghost use Rattle.wi_accept.specs.Causes.{is_wrong, ShowsRun};
+ghost use Rattle.wi_check.specs.private.Stages.{problem_in, IsAsked, IsShownRefused, NoneShown};
 
 use crate::checker::Asked;
 use crate::matched::{labels_of, matches, travelled};
@@ -12,44 +12,43 @@ use crate::run::{first_fault, run_of};
 use crate::weighed::weighed;
 use crate::weights::weight_of;
 use std::alloc::Global;
-use wi_cert::{Certificate, CheckRefused, Claim, Part};
+use wi_cert::{CheckRefused, Claim, Part, Shown};
 use wi_trace::{Run, Verdict, verdict};
 
 /// Checks what is shown: the number of terms, and the run if there is one.
 pub(crate) fn check_shown(
     alloc: Global,
     asked: Asked<'_>,
-    certificate: &Certificate,
+    shown: &Shown,
 ) -> Result<(), CheckRefused>
     requires asked { IsAsked (problem_in asked) }
-    requires text { IsWritable certificate.now }
-    ensures passed { OnOk result (NoneBefore (problem_in asked.entry) certificate.now 5) }
-    ensures refused { IfErr result (IsRefused (problem_in asked.entry) certificate.now) }
+    requires text { IsShown shown.now }
+    ensures passed { OnOk result (NoneShown (problem_in asked.entry) shown.now 5) }
+    ensures refused { IfErr result (IsShownRefused (problem_in asked.entry) shown.now) }
 {
-    check_terms(asked, certificate)?;
-    if certificate.shown.claim == Claim::No {
+    check_terms(asked, shown)?;
+    if shown.claim == Claim::No {
         return Ok(());
     }
-    let run = run_of(alloc, asked.net, &certificate.shown)?;
-    check_steps(alloc, asked, certificate, &run)?;
-    check_match(alloc, asked, certificate, &run)?;
-    check_weight(alloc, asked, certificate, &run)?;
-    check_verdict(alloc, asked, certificate, &run)
+    let run = run_of(alloc, asked.net, shown)?;
+    check_steps(alloc, asked, shown, &run)?;
+    check_match(alloc, asked, shown, &run)?;
+    check_weight(alloc, asked, shown, &run)?;
+    check_verdict(alloc, asked, shown, &run)
 }
 
 // Checks that there are as many terms as are asked for.
-fn check_terms(asked: Asked<'_>, certificate: &Certificate) -> Result<(), CheckRefused>
+fn check_terms(asked: Asked<'_>, shown: &Shown) -> Result<(), CheckRefused>
     requires asked { IsAsked (problem_in asked) }
-    ensures passed { OnOk result (NoneBefore (problem_in asked.entry) certificate.now 1) }
-    ensures refused { IfErr result (IsRefused (problem_in asked.entry) certificate.now) }
+    ensures passed { OnOk result (NoneShown (problem_in asked.entry) shown.now 1) }
+    ensures refused { IfErr result (IsShownRefused (problem_in asked.entry) shown.now) }
 {
-    let shown = certificate.shown.terms;
     let count = asked.vector.len() as u32;
-    if shown == count {
+    if shown.terms == count {
         Ok(())
     } else {
         Err(CheckRefused::TermsDiffer {
-            shown,
+            shown: shown.terms,
             asked: count,
         })
     }
@@ -59,14 +58,14 @@ fn check_terms(asked: Asked<'_>, certificate: &Certificate) -> Result<(), CheckR
 fn check_steps(
     alloc: Global,
     asked: Asked<'_>,
-    certificate: &Certificate,
+    shown: &Shown,
     run: &Run,
 ) -> Result<(), CheckRefused>
-    requires run { run.now ≡ run_of asked.net.now certificate.now.shown }
-    requires shows { ShowsRun certificate.now.shown }
-    requires before { NoneBefore (problem_in asked) certificate.now 1 }
-    ensures passed { OnOk result (NoneBefore (problem_in asked.entry) certificate.now 2) }
-    ensures refused { IfErr result (IsRefused (problem_in asked.entry) certificate.now) }
+    requires run { run.now ≡ run_of asked.net.now shown.now }
+    requires shows { ShowsRun shown.now }
+    requires before { NoneShown (problem_in asked) shown.now 1 }
+    ensures passed { OnOk result (NoneShown (problem_in asked.entry) shown.now 2) }
+    ensures refused { IfErr result (IsShownRefused (problem_in asked.entry) shown.now) }
 {
     match first_fault(alloc, asked.net, asked.bounds, run)? {
         None => Ok(()),
@@ -78,14 +77,14 @@ fn check_steps(
 fn check_match(
     alloc: Global,
     asked: Asked<'_>,
-    certificate: &Certificate,
+    shown: &Shown,
     run: &Run,
 ) -> Result<(), CheckRefused>
-    requires run { run.now ≡ run_of asked.net.now certificate.now.shown }
-    requires shows { ShowsRun certificate.now.shown }
-    requires before { NoneBefore (problem_in asked) certificate.now 2 }
-    ensures passed { OnOk result (NoneBefore (problem_in asked.entry) certificate.now 3) }
-    ensures refused { IfErr result (IsRefused (problem_in asked.entry) certificate.now) }
+    requires run { run.now ≡ run_of asked.net.now shown.now }
+    requires shows { ShowsRun shown.now }
+    requires before { NoneShown (problem_in asked) shown.now 2 }
+    ensures passed { OnOk result (NoneShown (problem_in asked.entry) shown.now 3) }
+    ensures refused { IfErr result (IsShownRefused (problem_in asked.entry) shown.now) }
 {
     let first = labels_of(alloc, &run.header)?;
     if !matches(alloc, &asked.query.first, first.as_slice())? {
@@ -106,23 +105,26 @@ fn check_match(
 fn check_weight(
     alloc: Global,
     asked: Asked<'_>,
-    certificate: &Certificate,
+    shown: &Shown,
     run: &Run,
 ) -> Result<(), CheckRefused>
     requires asked { IsAsked (problem_in asked) }
-    requires text { IsWritable certificate.now }
-    requires run { run.now ≡ run_of asked.net.now certificate.now.shown }
-    requires shows { ShowsRun certificate.now.shown }
-    requires before { NoneBefore (problem_in asked) certificate.now 3 }
-    ensures passed { OnOk result (NoneBefore (problem_in asked.entry) certificate.now 4) }
-    ensures refused { IfErr result (IsRefused (problem_in asked.entry) certificate.now) }
+    requires text { IsShown shown.now }
+    requires run { run.now ≡ run_of asked.net.now shown.now }
+    requires shows { ShowsRun shown.now }
+    requires before { NoneShown (problem_in asked) shown.now 3 }
+    ensures passed { OnOk result (NoneShown (problem_in asked.entry) shown.now 4) }
+    ensures refused { IfErr result (IsShownRefused (problem_in asked.entry) shown.now) }
 {
-    let shown = weight_of(certificate.shown.terms, certificate.shown.weight.as_slice());
+    let said = weight_of(shown.terms, shown.weight.as_slice());
     let counted = weighed(alloc, asked.net, asked.vector, run)?;
-    if shown == counted {
+    if said == counted {
         Ok(())
     } else {
-        Err(CheckRefused::WeightDiffers { shown, counted })
+        Err(CheckRefused::WeightDiffers {
+            shown: said,
+            counted,
+        })
     }
 }
 
@@ -130,17 +132,17 @@ fn check_weight(
 fn check_verdict(
     alloc: Global,
     asked: Asked<'_>,
-    certificate: &Certificate,
+    shown: &Shown,
     run: &Run,
 ) -> Result<(), CheckRefused>
     requires asked { IsAsked (problem_in asked) }
-    requires run { run.now ≡ run_of asked.net.now certificate.now.shown }
-    requires before { NoneBefore (problem_in asked) certificate.now 4 }
-    ensures passed { OnOk result (NoneBefore (problem_in asked.entry) certificate.now 5) }
-    ensures refused { IfErr result (IsRefused (problem_in asked.entry) certificate.now) }
+    requires run { run.now ≡ run_of asked.net.now shown.now }
+    requires before { NoneShown (problem_in asked) shown.now 4 }
+    ensures passed { OnOk result (NoneShown (problem_in asked.entry) shown.now 5) }
+    ensures refused { IfErr result (IsShownRefused (problem_in asked.entry) shown.now) }
 {
     let verdict = verdict(alloc, asked.net, run, asked.bounds)?;
-    if is_wrong(certificate.shown.claim, &verdict) {
+    if is_wrong(shown.claim, &verdict) {
         Err(CheckRefused::WrongAnswer)
     } else {
         Ok(())

@@ -6,7 +6,7 @@ use crate::asked::{Change, certificate_of, query_of, text_of, vector_of};
 use std::alloc::Global;
 use std::process::Abort;
 use std::test::Fail;
-use wi_cert::{Certificate, CheckRefused, Part, Weight};
+use wi_cert::{Certificate, CheckRefused, ClosedRefused, Part, Weight};
 use wi_check::{Accepted, check};
 use wi_net::Network;
 use wi_query::Query;
@@ -82,14 +82,18 @@ fn answer_to(expected: Expected) -> Result<Word, CheckRefused> {
             counted: effort(counted),
         },
         Expected::WrongAnswer => CheckRefused::WrongAnswer,
-        Expected::HeadMissing(p, g) => CheckRefused::HeadMissing(p, g),
-        Expected::PairMissing(u, v) => CheckRefused::PairMissing(u, v),
-        Expected::GoalBelow(weight) => CheckRefused::GoalBelow(effort(weight)),
-        Expected::NotClosed(head, target, sum) => CheckRefused::NotClosed {
-            head,
-            target,
-            sum: effort(sum),
-        },
+        Expected::HeadMissing(p, g) => CheckRefused::Unbounded(ClosedRefused::HeadMissing(p, g)),
+        Expected::PairMissing(u, v) => CheckRefused::Unbounded(ClosedRefused::PairMissing(u, v)),
+        Expected::GoalBelow(weight) => {
+            CheckRefused::Unbounded(ClosedRefused::GoalBelow(effort(weight)))
+        }
+        Expected::NotClosed(head, target, sum) => {
+            CheckRefused::Unbounded(ClosedRefused::NotClosed {
+                head,
+                target,
+                sum: effort(sum),
+            })
+        }
     })
 }
 

@@ -1,11 +1,10 @@
 -- What a table of least summaries below a cut says of the runs of the network.
-use Rattle.std.proofs.Common.{◌≡◌, ℕ, ◌<◌, ◌≤◌, ◌^◌, true, false, inl, inr, List, [], ◌∷◌, ◌++◌, Option, Some, None, length, slice_get, slice_index_or, refl, arith, ap, sym, ◌∙◌, subst}
+use Rattle.std.proofs.Common.{◌≡◌, ℕ, ◌<◌, ◌≤◌, ◌^◌, List, [], ◌∷◌, ◌++◌, Option, Some, None, length, slice_get, slice_index_or, refl, arith, ap, sym, ◌∙◌, subst}
 use Rattle.std.specs.Prelude.{IfSome, IsSome, MatchOption, option_map}
 use Rattle.wi_weight.specs.declared.kinds.Pair.{Pair}
 use Rattle.wi_weight.specs.declared.kinds.Terms.{Terms}
 use Rattle.wi_weight.specs.declared.kinds.Effort.{Effort}
-use Rattle.wi_weight.specs.Weights.{EachBelow}
-use Rattle.wi_weight.specs.lemmas.Order.{below_or_at_most}
+use Rattle.wi_weight.specs.Weights.{EachBelow, IsWeight}
 use Rattle.wi_net.specs.Net.{Net}
 use Rattle.wi_world.specs.declared.run.Run.{Run}
 use Rattle.wi_world.specs.Moving.{IsMovingRun}
@@ -26,15 +25,15 @@ use Rattle.wi_rules.specs.Numbers.{Layout, layout_of}
 use Rattle.wi_build.specs.Problems.{IsAnswering, Problem, IsProblem, asks, problem_in, weighs}
 use Rattle.wi_build.specs.Encodings.{encoding_of}
 use Rattle.wi_build.specs.Systems.{rules, rules_by, scale}
-use Rattle.wi_trees.specs.Trees.{IsBelow, NoRunBelow}
+use Rattle.wi_trees.specs.Trees.{NoRunBelow}
 use Rattle.wi_decide.specs.Spelled.{AreRulesFor}
 use Rattle.wi_decide.specs.declared.refused.SearchRefused.{SearchRefused}
 use Rattle.wi_decide.specs.declared.refused.SearchRefused.TheVariants.{Overflow, TooLong, Memory}
 use Rattle.wi_decide.specs.private.Tables.{HasTable, IsNoTable, IsNotShown, IsTable}
 use Rattle.wi_decide.specs.Searches.{AllFitBelow, IsLeastBelow, IsTooLongBelow, IsUnsearched}
-use Rattle.wi_accept.proofs.OrderLemmas.{below_less, not_less}
+use Rattle.wi_accept.proofs.OrderLemmas.{below_within, not_less, within_below}
 use Rattle.wi_accept.proofs.RuleLemmas.{answers_pop, pops_answer}
-use Rattle.wi_accept.proofs.WeightLemmas.{scale_laws, six_components, effort_at}
+use Rattle.wi_accept.proofs.WeightLemmas.{six_components, effort_at}
 
 -- a layout of a problem's network and query numbers its spots
 pub rules_for : (problem : Problem) (net : Net) (query : Query) (layout : Layout) → IsProblem problem → problem.net ≡ net → problem.query ≡ query
@@ -48,17 +47,10 @@ rules_for problem net query layout k net_is query_is layout_is = record {
   rules_are = refl;
 }
 
--- below a cut, in the order of runs and in that of weights
-below_within : (cut : Option (Pair Terms Effort)) (w : List ℕ) → length w ≡ 6 → IsBelow (option_map components cut) w → Within scale (option_map components cut) w
-below_within None w six below = tt
-below_within (Some c) w six below = elim (below_or_at_most scale_laws w (components c) six refl) [
-  | inl less ↦ less
-  | inr most ↦ (let more : true ≡ false = sym below ∙ not_less (components c) w (sym six) most in cc)
-]
-
-within_below : (cut : Option (Pair Terms Effort)) (w : List ℕ) → length w ≡ 6 → Within scale (option_map components cut) w → IsBelow (option_map components cut) w
-within_below None w six within = tt
-within_below (Some c) w six within = below_less w (components c) six within
+-- a cut is a weight, if there is one
+cut_weight : (cut : Option (Pair Terms Effort)) → IfSome (option_map components cut) (λ b. IsWeight scale b)
+cut_weight None = tt
+cut_weight (Some c) = refl
 
 module _ (problem : Problem) (k : IsProblem problem) where
   -- a moving run that matches is that of a goal run of its weight
@@ -89,7 +81,7 @@ module _ (problem : Problem) (k : IsProblem problem) where
     pub none_below : table.best ≡ None → NoRunBelow problem.net (asks problem) (weighs problem) (option_map components cut) problem.bounds
     none_below none run moving matches below =
         let P : Option (Pair Terms Effort) → Type 0 = λ b. MatchOption (option_map components b) ((x : List ℕ) → Pops scale components (rules_by (encoding_of problem)) 0 0 1 x → Within scale (option_map components cut) x → ⊥) (λ x. Unit {0}) in
-        subst P none has.least.none (weighs problem run) (run_pops run moving matches) (below_within cut (weighs problem run) (six_components problem.net problem.vector run) below)
+        subst P none has.least.none (weighs problem run) (run_pops run moving matches) (below_within (option_map components cut) (cut_weight cut) (weighs problem run) (six_components problem.net problem.vector run) below)
 
     module _ (b : Pair Terms Effort) (some : table.best ≡ Some b) where
       goal_found : Least scale components (rules_by (encoding_of problem)) 0 0 1 (components b) × Within scale (option_map components cut) (components b)
@@ -99,7 +91,7 @@ module _ (problem : Problem) (k : IsProblem problem) where
 
       -- a run that answers by the goal's weight is least
       pub is_least : (run : Run) → IsAnswering problem (components b) run → IsLeastBelow problem (option_map components cut) (components b) run
-      is_least run a = record { answers = a; least = none_less (components b) refl goal_found.0; below = within_below cut (components b) refl goal_found.1 }
+      is_least run a = record { answers = a; least = none_less (components b) refl goal_found.0; below = within_below (option_map components cut) (cut_weight cut) (components b) refl goal_found.1 }
 
       -- and has the goal's effort
       effort_is : (run : Run) → IsAnswering problem (components b) run → effort_of problem.net run ≡ b.second.count

@@ -1,5 +1,5 @@
 -- What a search writes down, and that it is the certificate that a maker writes for the answer.
-use Rattle.std.proofs.Common.{◌≡◌, ◌↔◌, ℕ, ◌+◌, ◌≤◌, ◌^◌, Bool, true, false, ◌||◌, nat_le, List, [], length, Option, Some, None, refl, sym, ap, ◌∙◌, subst, arith}
+use Rattle.std.proofs.Common.{◌≡◌, ℕ, ◌+◌, ◌≤◌, ◌^◌, Bool, true, false, ◌||◌, nat_le, List, [], filter, length, Option, Some, None, refl, sym, ap, ◌∙◌, subst, arith}
 use Rattle.std.specs.Prelude.{option_map, IfSome}
 use Rattle.std.specs.List.{All, list_all}
 use Rattle.std.specs.List.Sorted.{IsPermutation, IsSortedBy, IsStrictlySortedBy}
@@ -11,7 +11,7 @@ use Rattle.wi_quantity.specs.declared.vector.Part.{Part}
 use Rattle.wi_quantity.specs.Vectors.{is_term, is_vector}
 use Rattle.wi_quantity.specs.Weighing.{components}
 use Rattle.wi_trace.specs.declared.answer.Answer.{Answer}
-use Rattle.wi_pds.specs.Closed.{Listed, Within}
+use Rattle.wi_pds.specs.Closed.{Within}
 use Rattle.wi_pds.specs.LeastClosed.{AreLeastClosed}
 use Rattle.wi_pds.specs.Pairs.{pair_cmp}
 use Rattle.wi_saturate.specs.Rows.{TableView}
@@ -24,14 +24,16 @@ use Rattle.wi_cert.specs.Order.{pair_below, row_below, is_next, EachAdded}
 use Rattle.wi_cert.specs.Shown.{IsShown, is_no}
 use Rattle.wi_cert.specs.Closed.{IsClosed, IsRow, is_less, is_lighter}
 use Rattle.wi_accept.specs.Answers.{IsDecided, padded}
-use Rattle.wi_accept.specs.Causes.{rows_of, bound_of}
-use Rattle.wi_accept.specs.Makers.{IsLeastWithin, IsMaker}
+use Rattle.wi_accept.specs.Causes.{bound_of}
+use Rattle.wi_accept.specs.Makers.{AreLeast, IsMaker}
+use Rattle.wi_accept.proofs.RisingRows.{row_below_trans}
 use Rattle.wi_decide.specs.declared.searching.LeastRun.{LeastRun}
-use Rattle.wi_decide.specs.Searches.{IsWrittenDown, bound_with}
-use Rattle.wi_decide.specs.private.Certificates.{Weight, shown_by, row_by, rows_below, written}
+use Rattle.wi_decide.specs.Searches.{IsWrittenDown, bound_with, lowered}
+use Rattle.wi_decide.specs.Showing.{Weight, shown_by, written}
+use Rattle.wi_decide.specs.private.Certificates.{row_by, rows_below}
 use Rattle.wi_decide.specs.private.Tables.{IsTable}
 use Rattle.wi_decide.proofs.AnswerLemmas.{goal_fits}
-use Rattle.wi_decide.proofs.RisingLemmas.{added, pairs_rise, rows_rise}
+use Rattle.wi_decide.proofs.RisingLemmas.{added, all_filter, filter_rises, pairs_rise, rows_rise}
 use Rattle.wi_decide.proofs.RowLemmas.{each_row, row_bound, row_terms, rows_distinct, rows_listed}
 use Rattle.wi_decide.proofs.ShowingLemmas.{Shows, shows}
 use Rattle.wi_decide.proofs.WrittenLemmas.{HasTerms, written_length, written_less}
@@ -76,28 +78,50 @@ pub record IsListed (problem : Problem) (cut : Option Weight) (table : TableView
   pub rows : IsPermutation (rows_below (length problem.vector) table) closed.rows
   pub sorted : IsSortedBy row_below closed.rows
 
+-- a row has the terms of the weight that is shown, and is lighter
+abbrev HasCount : Shown → Row → Type 0
+HasCount s r = length r.weight ≡ s.terms + 1
+
+abbrev IsRight : Shown → Row → Type 0
+IsRight s r = HasCount s r × (is_lighter s r ≡ true)
+
 module _ (problem : Problem) (k : IsProblem problem) (few : length problem.vector ≤ 5) (cut : Option Weight) (table : TableView Weight) (closed : Closed) (l : IsListed problem cut table closed) where
   -- they can be written under whatever shows their bound
   writable : (s : Shown) → IsShown s → s.terms ≡ length problem.vector → bound_of s ≡ option_map components (row_bound table.best cut) → IsClosed s closed
   writable s shown terms bound = record {
     heads = pairs_added closed.heads l.heads;
     pairs = pairs_added closed.pairs l.pairs;
-    rows = added row_below IsRight (IsRow s) (λ before x next f. record { weight = f.0; next = next; lighter = f.1 }) closed.rows
+    rows = added row_below (IsRight s) (IsRow s) (λ before x next f. record { weight = f.0; next = next; lighter = f.1 }) closed.rows
         (rows_rise closed.rows l.sorted (rows_distinct problem closed.heads cut table l.table_is (length problem.vector) closed.rows l.rows)) fine;
   }
     where
-      -- a row has the terms of the weight that is shown, and is lighter
-      IsRight : Row → Type 0
-      IsRight r = (length r.weight ≡ s.terms + 1) × (is_lighter s r ≡ true)
-
-      fine : All IsRight closed.rows
-      fine = each_row problem closed.heads cut table l.table_is (length problem.vector) closed.rows l.rows IsRight (λ t there within. (
+      fine : All (IsRight s) closed.rows
+      fine = each_row problem closed.heads cut table l.table_is (length problem.vector) closed.rows l.rows (IsRight s) (λ t there within. (
         written_length (length problem.vector) t.weight few ∙ ap (λ m. m + 1) (sym terms),
         lighter (length problem.vector) s (row_bound table.best cut) (row_by (length problem.vector) t) t.weight few shown terms bound (row_terms problem closed.heads cut table l.table_is k few t there) refl within,
       ))
 
+  -- and the lighter rows under whatever is shown
+  lower_writable : (s : Shown) → IsShown s → s.terms ≡ length problem.vector → IsClosed s (lowered s closed)
+  lower_writable s shown terms = record {
+    heads = pairs_added closed.heads l.heads;
+    pairs = pairs_added closed.pairs l.pairs;
+    rows = added row_below (IsRight s) (IsRow s) (λ before x next f. record { weight = f.0; next = next; lighter = f.1 }) (filter (is_lighter s) closed.rows)
+        (filter_rises row_below row_below_trans (is_lighter s) closed.rows
+        (rows_rise closed.rows l.sorted (rows_distinct problem closed.heads cut table l.table_is (length problem.vector) closed.rows l.rows)))
+        (all_filter (HasCount s) (IsRight s) (is_lighter s) (λ r count light. (count, light)) closed.rows counted);
+  }
+    where
+      counted : All (HasCount s) closed.rows
+      counted = each_row problem closed.heads cut table l.table_is (length problem.vector) closed.rows l.rows (HasCount s)
+          (λ t there within. written_length (length problem.vector) t.weight few ∙ ap (λ m. m + 1) (sym terms))
+
   written_down : IsWrittenDown problem (option_map components (row_bound table.best cut)) closed
-  written_down = record { closed = l.least; rows = rows_listed problem closed.heads cut table l.table_is k few closed.rows l.rows; writable = writable }
+  written_down = record {
+    least = record { closed = l.least; rows = rows_listed problem closed.heads cut table l.table_is k few closed.rows l.rows };
+    writable = writable;
+    lowered = lower_writable;
+  }
 
 bound_is : (cut : Option Weight) (found : Option LeastRun) → option_map components (row_bound (option_map (λ f. f.weight) found) cut) ≡ bound_with (option_map components cut) found
 bound_is cut None = refl
@@ -130,8 +154,7 @@ made problem a closed k few w decided = record {
   writable = record { shown = seen.shown; closed = w.writable (shown_by (length problem.vector) a) seen.shown refl seen.bound };
   terms = refl;
   shows = seen.back;
-  closed = w.closed;
-  rows = subst (λ (bound : Option (List ℕ)). (p g q : ℕ) (x : List ℕ) → Listed (rows_of (length problem.vector) closed.rows) p g q x ↔ IsLeastWithin problem closed.heads bound p g q x) (sym seen.bound) w.rows;
+  least = subst (λ (bound : Option (List ℕ)). AreLeast problem (length problem.vector) bound closed) (sym seen.bound) w.least;
 }
   where
     seen : Shows problem (length problem.vector) a

@@ -1,5 +1,5 @@
 -- Heads, pairs and rows that rise, as a certificate has them: each may follow those before it.
-use Rattle.std.proofs.Common.{◌≡◌, ℕ, zero, suc, ◌+◌, ◌-◌, Bool, true, false, ◌&&◌, ◌||◌, nat_lt, nat_eq, List, [], ◌∷◌, ◌++◌, length, get_or, slice_get, Option, Some, refl, sym, ap, ◌∙◌, arith, length-append}
+use Rattle.std.proofs.Common.{◌≡◌, ℕ, zero, suc, ◌+◌, ◌-◌, Bool, true, false, ◌&&◌, ◌||◌, nat_lt, nat_eq, List, [], ◌∷◌, ◌++◌, length, get_or, slice_get, filter, Option, Some, refl, sym, ap, ◌∙◌, arith, length-append}
 use Rattle.std.specs.Fn.{Called, ComputesKey}
 use Rattle.std.specs.List.{All, AllByRecursion, IsDistinct}
 use Rattle.std.specs.List.Sorted.{IsSortedBy, IsSortedByKey, IsStrictlySortedBy}
@@ -8,7 +8,7 @@ use Rattle.std.specs.Ordering.{is_lt, nat_cmp, ordering_then}
 use Rattle.std.specs.declared.cmp.Ordering.{Ordering}
 use Rattle.std.proofs.lemmas.Bool.Decides.{nat_tests}
 use Rattle.std.proofs.lemmas.Fn.{always_returns_same}
-use Rattle.std.proofs.lemmas.List.Elements.{recursion_from_All}
+use Rattle.std.proofs.lemmas.List.Elements.{recursion_from_All, All-nil, All-cons, All-head, All-tail}
 use Rattle.std.proofs.lemmas.Map.Keys.{sorted_head, sorted_tail, IsDistinct-head, IsDistinct-tail}
 use Rattle.wi_pds.specs.Pairs.{pair_cmp}
 use Rattle.wi_saturate.proofs.Elements.{get_last}
@@ -47,6 +47,41 @@ module _ {A : Type 0} (below : A → A → Bool) (P : A → Type 0) (May : List 
   -- items that rise are each added
   pub added : (xs : List A) → Rises below xs → All P xs → EachAdded May [] xs
   added xs h p = added_first xs h (recursion_from_All P xs p)
+
+-- some of the items that rise rise, too
+module _ {A : Type 0} (below : A → A → Bool) (trans : (a b c : A) → below a b ≡ true → below b c ≡ true → below a c ≡ true) (p : A → Bool) where
+  from_lower : (x y : A) (xs : List A) → below x y ≡ true → RisesFrom below y xs → RisesFrom below x xs
+  from_lower x y [] low h = tt
+  from_lower x y (z ∷ xs) low h = (trans x y z low h.0, h.1)
+
+  filter_from : (x : A) (xs : List A) → RisesFrom below x xs → RisesFrom below x (filter p xs)
+  filter_from x [] h = tt
+  filter_from x (y ∷ ys) h = go (p y) refl (filter_from y ys h.1) (filter_from x ys (from_lower x y ys h.0 h.1))
+    where
+      go : (b : Bool) → p y ≡ b → RisesFrom below y (filter p ys) → RisesFrom below x (filter p ys) → RisesFrom below x (filter p (y ∷ ys))
+      go true e kept left = rw e (h.0, kept)
+      go false e kept left = rw e left
+
+  later : (x : A) (xs : List A) → RisesFrom below x xs → Rises below xs
+  later x [] h = tt
+  later x (y ∷ ys) h = h.1
+
+  pub filter_rises : (xs : List A) → Rises below xs → Rises below (filter p xs)
+  filter_rises [] h = tt
+  filter_rises (x ∷ xs) h = go (p x) refl (filter_from x xs h) (filter_rises xs (later x xs h))
+    where
+      go : (b : Bool) → p x ≡ b → RisesFrom below x (filter p xs) → Rises below (filter p xs) → Rises below (filter p (x ∷ xs))
+      go true e kept left = rw e kept
+      go false e kept left = rw e left
+
+-- what holds of all items, and the test, holds of those that are kept
+pub all_filter : {A : Type 0} (P Q : A → Type 0) (p : A → Bool) → ((x : A) → P x → p x ≡ true → Q x) → (xs : List A) → All P xs → All Q (filter p xs)
+all_filter P Q p both [] h = All-nil Q
+all_filter P Q p both (x ∷ xs) h = go (p x) refl (all_filter P Q p both xs (All-tail P x xs h))
+  where
+    go : (b : Bool) → p x ≡ b → All Q (filter p xs) → All Q (filter p (x ∷ xs))
+    go true e rest = rw e (All-cons Q x (filter p xs) (both x (All-head P x xs h) e) rest)
+    go false e rest = rw e rest
 
 nat_less : (a b : ℕ) → is_lt (nat_cmp a b) ≡ nat_lt a b
 nat_less a b = grind (arith, nat_tests)

@@ -30,7 +30,8 @@ use Rattle.wi_accept.specs.Demands.{row}
 use Rattle.wi_accept.specs.Makers.{IsLeastWithin}
 use Rattle.wi_accept.proofs.UnusedTerms.{pops_at, take_at}
 use Rattle.wi_accept.proofs.WeightLemmas.{pops_weight, scale_laws}
-use Rattle.wi_decide.specs.private.Certificates.{Weight, written, row_by, rows_below, is_below, IsFitting}
+use Rattle.wi_decide.specs.Showing.{Weight, written}
+use Rattle.wi_decide.specs.private.Certificates.{row_by, rows_below, is_below, IsFitting}
 use Rattle.wi_decide.specs.private.Tables.{IsTable}
 use Rattle.wi_decide.proofs.WrittenLemmas.{HasTerms, padded_written}
 use Rattle.wi_decide.proofs.RisingLemmas.{is_same, same_turned}

@@ -37,7 +37,7 @@ use Rattle.wi_cert.specs.Shown.{is_no, IsShown}
 use Rattle.wi_accept.specs.Answers.{IsDecided, word_of, padded, labels_of, steps_of, run_of, answer_of}
 use Rattle.wi_accept.specs.Causes.{bound_of}
 use Rattle.wi_accept.proofs.UnusedTerms.{run_weighs, take_at}
-use Rattle.wi_decide.specs.private.Certificates.{Weight, claim_for, written, first_numbers, step_numbers, shown_by, IsSmallStep}
+use Rattle.wi_decide.specs.Showing.{Weight, claim_for, written, first_numbers, step_numbers, shown_by, IsSmallStep}
 use Rattle.wi_decide.proofs.SpellingLemmas.{classed_is, known_there}
 use Rattle.wi_decide.proofs.WrittenLemmas.{HasTerms, padded_written, written_length}
 
@@ -136,12 +136,15 @@ module _ (problem : Problem) (k : IsProblem problem) where
   pub either : (a : Answer) → IsDecided problem a → (nothing ≡ a) ⊎ ShowsRun problem a
   either a h = by_word a.word a.weight a.run a.verdict h
 
-  -- so its steps are small
-  pub small_answer : (a : Answer) → IsDecided problem a → IfSome a.run (λ r. All IsSmallStep r.steps)
-  small_answer a h = elim (either a h) [
+  -- and the steps of its run are small
+  pub small_either : (a : Answer) → (nothing ≡ a) ⊎ ShowsRun problem a → IfSome a.run (λ r. All IsSmallStep r.steps)
+  small_either a h = elim h [
     | inl e ↦ subst (λ (x : Answer). IfSome x.run (λ r. All IsSmallStep r.steps)) e tt
     | inr f ↦ subst (λ (x : Answer). IfSome x.run (λ r. All IsSmallStep r.steps)) f.is (small_run problem k f.r f.moving)
   ]
+
+  pub small_answer : (a : Answer) → IsDecided problem a → IfSome a.run (λ r. All IsSmallStep r.steps)
+  small_answer a h = small_either a (either a h)
 
 -- numbers are read back as what they were written for
 labels_back : (net : Net) (h : List Entry) → labels_known net h ≡ true → labels_of net (map (λ (l : Entry). l.0.0) h) ≡ h
@@ -251,9 +254,13 @@ module _ (problem : Problem) (k : IsProblem problem) (few : length problem.vecto
           ∙ ap (λ x. make word x written_run) (padded_written (length problem.vector) w few terms)
           ∙ ap (λ y. make word (components w) y) (run_back word w r kept)
 
-  -- an answer that holds is shown
-  pub shows : (a : Answer) → IsDecided problem a → Shows problem (length problem.vector) a
-  shows a h = elim (either problem k a h) [
+  -- an answer that shows nothing is shown, and one that shows a run
+  pub shows_either : (a : Answer) → (nothing ≡ a) ⊎ ShowsRun problem a → Shows problem (length problem.vector) a
+  shows_either a h = elim h [
     | inl e ↦ subst (λ (x : Answer). Shows problem (length problem.vector) x) e (shows_nothing problem (length problem.vector) few)
     | inr f ↦ subst (λ (x : Answer). Shows problem (length problem.vector) x) f.is (shows_run f.word f.w f.r f.shows f.moving f.weight)
   ]
+
+  -- so one that holds is
+  pub shows : (a : Answer) → IsDecided problem a → Shows problem (length problem.vector) a
+  shows a h = shows_either a (either problem k a h)

@@ -9,7 +9,7 @@ use Rattle.wi_weight.specs.Weights.{Below}
 use Rattle.wi_quantity.specs.Weighing.{components}
 use Rattle.wi_build.specs.Systems.{scale}
 use Rattle.wi_accept.specs.Answers.{padded}
-use Rattle.wi_decide.specs.private.Certificates.{Weight, written}
+use Rattle.wi_decide.specs.Showing.{Weight, written}
 use Rattle.wi_accept.proofs.OrderLemmas.{below_before}
 
 -- numbers from a place on are 0
@@ -46,7 +46,7 @@ zeros_compared : (k : ℕ) (xs ys : List ℕ) → slice_cmp nat_cmp (replicate k
 zeros_compared zero xs ys = refl
 zeros_compared (suc k) xs ys = zeros_compared k xs ys
 
-padded_compared : (k n : ℕ) (xs ys : List ℕ) → length xs ≡ length ys
+pub padded_compared : (k n : ℕ) (xs ys : List ℕ) → length xs ≡ length ys
     → slice_cmp nat_cmp (take n xs ++ (replicate k 0 ++ drop n xs)) (take n ys ++ (replicate k 0 ++ drop n ys)) ≡ slice_cmp nat_cmp xs ys
 padded_compared k zero xs ys same = zeros_compared k xs ys
 padded_compared k (suc n) [] [] same = zeros_compared k [] []

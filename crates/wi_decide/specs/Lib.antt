@@ -1,4 +1,5 @@
 pub mod Spelled
+pub mod Showing
 pub mod Searches
 pub mod Refusals
 pub mod private

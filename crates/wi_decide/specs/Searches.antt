@@ -1,11 +1,10 @@
 -- What is found for a problem below a cut: a least matching moving run, or that there is none; what shows that nothing is lighter;
 -- and why it isn't known.
-use Rattle.std.specs.Prelude.{◌≡◌, ◌↔◌, ℕ, ◌<◌, ◌≤◌, List, length, Option, Some, None}
+use Rattle.std.specs.Prelude.{◌≡◌, ℕ, ◌<◌, ◌≤◌, List, filter, length, Option, Some, None}
 use Rattle.wi_world.specs.declared.run.Run.{Run}
 use Rattle.wi_world.specs.Runs.{effort_of}
 use Rattle.wi_world.specs.Holds.{NoneMovingLess}
 use Rattle.wi_quantity.specs.Weighing.{components}
-use Rattle.wi_pds.specs.Closed.{Listed}
 use Rattle.wi_pds.specs.LeastClosed.{AreLeastClosed}
 use Rattle.wi_saturate.specs.LeastTables.{IsOverflow}
 use Rattle.wi_build.specs.Problems.{Problem, IsAnswering, asks, weighs}
@@ -13,9 +12,9 @@ use Rattle.wi_build.specs.Systems.{scale, rules}
 use Rattle.wi_cert.specs.declared.shown.Shown.{Shown}
 use Rattle.wi_cert.specs.declared.closed.Closed.{Closed}
 use Rattle.wi_cert.specs.Shown.{IsShown}
-use Rattle.wi_cert.specs.Closed.{IsClosed}
-use Rattle.wi_accept.specs.Causes.{rows_of, bound_of}
-use Rattle.wi_accept.specs.Makers.{IsLeastWithin}
+use Rattle.wi_cert.specs.Closed.{IsClosed, is_lighter}
+use Rattle.wi_accept.specs.Causes.{bound_of}
+use Rattle.wi_accept.specs.Makers.{AreLeast}
 use Rattle.wi_trees.specs.Trees.{IsBelow, NoRunBelow}
 use Rattle.wi_decide.specs.declared.searching.LeastRun.{LeastRun}
 use Rattle.wi_decide.specs.declared.refused.SearchRefused.{SearchRefused}
@@ -64,9 +63,13 @@ abbrev pub bound_with : Option (List ℕ) → Option LeastRun → Option (List �
 bound_with cut None = cut
 bound_with cut (Some found) = Some (components found.weight)
 
+-- with those rows alone that weigh less than what is shown
+abbrev pub lowered : Shown → Closed → Closed
+lowered s c = record c { rows = filter (is_lighter s) c.rows }
+
 -- heads and pairs are the least closed ones, rows just the least summaries of these heads below the bound, and they can be written
--- under whatever shows the bound
+-- under whatever shows the bound; with the lighter rows alone, under whatever is shown
 pub record IsWrittenDown (problem : Problem) (bound : Option (List ℕ)) (c : Closed) : Type 0 where
-  pub closed : AreLeastClosed (rules problem) (0, 0) c.heads c.pairs
-  pub rows : (p g q : ℕ) (w : List ℕ) → Listed (rows_of (length problem.vector) c.rows) p g q w ↔ IsLeastWithin problem c.heads bound p g q w
+  pub least : AreLeast problem (length problem.vector) bound c
   pub writable : (s : Shown) → IsShown s → s.terms ≡ length problem.vector → bound_of s ≡ bound → IsClosed s c
+  pub lowered : (s : Shown) → IsShown s → s.terms ≡ length problem.vector → IsClosed s (lowered s c)

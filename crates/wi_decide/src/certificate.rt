@@ -8,7 +8,8 @@ ghost use Rattle.wi_weight.specs.Weights.{EachBelow};
 ghost use Rattle.wi_quantity.specs.Weighing.{components};
 ghost use Rattle.wi_pds.specs.Pairs.{pair_cmp};
 ghost use Rattle.wi_cert.specs.Order.{row_below};
-ghost use Rattle.wi_decide.specs.private.Certificates.{written, claim_for, first_numbers, step_numbers, shown_by, row_by, is_below, rows_below, IsSmallStep, IsFitting};
+ghost use Rattle.wi_decide.specs.Showing.{written, claim_for, first_numbers, step_numbers, shown_by, IsSmallStep};
+ghost use Rattle.wi_decide.specs.private.Certificates.{row_by, is_below, rows_below, IsFitting};
 
 use std::alloc::Global;
 use wi_base::{Listed, NoMemory};
@@ -22,8 +23,8 @@ use wi_trace::Answer;
 use wi_weight::Domain;
 use wi_world::{Run, Step, Word};
 
-/// The answer as a certificate shows it, with so many terms in its weight.
-pub(crate) fn shown_of(alloc: Global, terms: u32, answer: &Answer) -> Result<Shown, NoMemory>
+/// The answer as a certificate shows it, with so many terms in its weight, whose components are at most 2^64 - 1.
+pub fn shown_of(alloc: Global, terms: u32, answer: &Answer) -> Result<Shown, NoMemory>
     requires few { terms ≤ 5 }
     requires fits { IfSome answer.now.weight (λ w. EachBelow (2 ^ 64) (components w)) }
     requires steps { IfSome answer.now.run (λ run. All IsSmallStep run.steps) }

@@ -9,6 +9,7 @@ mod refused;
 mod searching;
 mod spelling;
 
+pub use certificate::shown_of;
 pub use decision::decide;
 pub use laws::overflows_show;
 pub use refused::{DecideRefused, SearchRefused};

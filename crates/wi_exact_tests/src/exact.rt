@@ -5,7 +5,8 @@ ghost use Rattle.wi_world.specs.Moves.{AreBounds};
 use std::alloc::Global;
 use std::process::Abort;
 use std::test::Fail;
-use wi_branch::{ExactAnswer, ExactRefused, Opened, exact};
+use wi_branch::{ExactRefused, Opened, exact};
+use wi_cert::Node as TreeNode;
 use wi_net::{FailSet, LinkId, Network};
 use wi_quantity::Vector;
 use wi_query::{Query, read_query};
@@ -13,18 +14,17 @@ use wi_samples::{N1, N1_FIBER, N2, N3, Sample, network};
 use wi_trace::Answer;
 use wi_world::{Verdict, Word};
 
-// What a node is to be: nothing is below the cut, a run of this effort fits, or the branch is split by this link.
+// What a node is to be: a leaf, or a branch that is split by this link.
 #[derive(Clone, Copy)]
 enum Node {
-    Closed,
-    Fits(u128),
+    Leaf,
     Split(u32),
 }
 
-// What the outcome is to be: a yes under these failures, a no, or that there would be more nodes than the limit.
+// What the outcome is to be: a yes under these failures, with this effort; a no; or that there would be more nodes than the limit.
 #[derive(Clone, Copy)]
 enum Outcome<'a> {
-    Yes(&'a [u32]),
+    Yes(&'a [u32], u128),
     No,
     OverLimit,
 }
@@ -55,26 +55,48 @@ fn set_is(rt: &impl Abort, set: &FailSet, links: &[u32]) {
     }
 }
 
-fn node_is(node: &Opened, expected: Node) -> bool {
+fn opened_is(node: &Opened, expected: Node) -> bool {
     match (node, expected) {
-        (Opened::Closed(_), Node::Closed) => true,
-        (Opened::Fits(weight, _), Node::Fits(effort)) => weight.second.count == effort,
+        (Opened::Closed(_) | Opened::Fits(_, _), Node::Leaf) => true,
         (Opened::Split(link), Node::Split(number)) => *link == LinkId(number),
         _ => false,
     }
 }
 
-fn nodes_are(rt: &impl Abort, opened: &[Opened], expected: &[Node]) {
+fn opened_are(rt: &impl Abort, opened: &[Opened], expected: &[Node]) {
     assert_eq!(rt; opened.len(), expected.len());
     for (node, wanted) in opened.iter().zip(expected) {
+        assert!(rt; opened_is(node, *wanted));
+    }
+}
+
+fn node_is(node: &TreeNode, expected: Node) -> bool {
+    match (node, expected) {
+        (TreeNode::Closed(_), Node::Leaf) => true,
+        (TreeNode::Split(link), Node::Split(number)) => *link == number,
+        _ => false,
+    }
+}
+
+fn nodes_are(rt: &impl Abort, nodes: &[TreeNode], expected: &[Node]) {
+    assert_eq!(rt; nodes.len(), expected.len());
+    for (node, wanted) in nodes.iter().zip(expected) {
         assert!(rt; node_is(node, *wanted));
+    }
+}
+
+fn effort_is(answer: &Answer, effort: u128) -> bool {
+    match &answer.weight {
+        Some(weight) => weight.second.count == effort,
+        None => false,
     }
 }
 
 fn answer_is(rt: &impl Abort, answer: &Answer, outcome: Outcome) {
     match (&answer.verdict, outcome) {
-        (Some(Verdict::Fits(set)), Outcome::Yes(links)) => {
+        (Some(Verdict::Fits(set)), Outcome::Yes(links, effort)) => {
             assert!(rt; answer.word == Word::Yes);
+            assert!(rt; effort_is(answer, effort));
             set_is(rt, set, links);
         }
         (None, Outcome::No) => assert!(rt; answer.word == Word::No),
@@ -82,16 +104,11 @@ fn answer_is(rt: &impl Abort, answer: &Answer, outcome: Outcome) {
     }
 }
 
-fn exact_is(rt: &impl Abort, exact: &ExactAnswer, case: &Case) {
-    answer_is(rt, &exact.answer, case.outcome);
-    nodes_are(rt, exact.opened.as_slice(), case.nodes);
-}
-
 fn refused_is(rt: &impl Abort, refused: &ExactRefused, case: &Case) {
     match (refused, case.outcome) {
         (ExactRefused::NodeLimit { opened }, Outcome::OverLimit) => {
             assert_eq!(rt; opened.as_slice().len(), case.limit as usize);
-            nodes_are(rt, opened.as_slice(), case.nodes);
+            opened_are(rt, opened.as_slice(), case.nodes);
         }
         _ => assert!(rt; false),
     }
@@ -107,10 +124,12 @@ fn answers(
 )
     requires { AreBounds net.now query.now.bounds }
 {
-    match exact(alloc, net, query, case.k, vector, case.limit) {
-        Ok(exact) => {
-            exact_is(rt, &exact, case);
-            drop(exact);
+    match exact(alloc, net, query, case.k, vector, case.limit.min(LIMIT)) {
+        Ok((answer, tree)) => {
+            answer_is(rt, &answer, case.outcome);
+            nodes_are(rt, tree.nodes.as_slice(), case.nodes);
+            drop(answer);
+            drop(tree);
         }
         Err(refused) => {
             refused_is(rt, &refused, case);
@@ -149,7 +168,7 @@ fn network_answers(
 
 const LIMIT: u32 = 10_000;
 
-const SPLIT: &[Node] = &[Node::Split(1), Node::Closed, Node::Closed];
+const SPLIT: &[Node] = &[Node::Split(1), Node::Leaf, Node::Leaf];
 
 const RETURNS: &str = "<ip1> [x#a] [a#c] [c#a] [a#b] .* <ip1> 5";
 
@@ -178,7 +197,7 @@ const RETURNING: &[Case] = &[
         k: 5,
         limit: 2,
         outcome: Outcome::OverLimit,
-        nodes: &[Node::Split(1), Node::Closed],
+        nodes: &[Node::Split(1), Node::Leaf],
     },
 ];
 
@@ -195,8 +214,8 @@ const TO_Z_CASES: &[Case] = &[
         text: TO_Z,
         k: 2,
         limit: LIMIT,
-        outcome: Outcome::Yes(&[1, 4]),
-        nodes: &[Node::Fits(10)],
+        outcome: Outcome::Yes(&[1, 4], 10),
+        nodes: &[Node::Leaf],
     },
 ];
 
@@ -215,15 +234,15 @@ const PLAIN: &[Case] = &[
         text: AROUND,
         k: 1,
         limit: LIMIT,
-        outcome: Outcome::Yes(&[1]),
-        nodes: &[Node::Fits(10)],
+        outcome: Outcome::Yes(&[1], 10),
+        nodes: &[Node::Leaf],
     },
     Case {
         text: AROUND,
         k: 0,
         limit: LIMIT,
         outcome: Outcome::No,
-        nodes: &[Node::Closed],
+        nodes: &[Node::Leaf],
     },
     Case {
         text: AROUND,

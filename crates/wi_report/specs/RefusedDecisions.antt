@@ -26,3 +26,7 @@ overflow_text terms w = overflow_from 1 (components_shown terms w)
 -- the effort of a run that is too long to be shown
 abbrev pub too_long_text : ℕ → List ℕ
 too_long_text n = codes "too long: effort " ++ decimal n ++ codes ", limit 4096\n"
+
+-- that an exact answer takes more nodes than may be opened
+abbrev pub nodes_over_limit_text : ℕ → List ℕ
+nodes_over_limit_text limit = codes "exact: over the limit " ++ decimal limit ++ codes " nodes\n"

@@ -1,5 +1,5 @@
 -- The report on an answer, as bytes.
-use Rattle.std.specs.Prelude.{◌≡◌, ℕ, ◌+◌, ◌==◌, true, if◌then◌else◌, List, [], ◌∷◌, ◌++◌, length, take, codes, Option, Some}
+use Rattle.std.specs.Prelude.{◌≡◌, ℕ, ◌+◌, ◌==◌, Bool, true, false, if◌then◌else◌, List, [], ◌∷◌, ◌++◌, length, take, codes, Option, Some}
 use Rattle.std.specs.Option.{option_map_or}
 use Rattle.std.specs.Fmt.{decimal}
 use Rattle.wi_weight.specs.declared.kinds.Pair.{Pair}
@@ -53,15 +53,24 @@ steps_shown net at (step ∷ steps) = option_map_or (λ next. place_shown net ne
 abbrev pub run_shown : Net → Run → List ℕ
 run_shown net run = place_shown net (run.first, run.header) ++ codes "\n" ++ steps_shown net (run.first, run.header) run.steps
 
--- that there is a run, how many links it has, and these
-abbrev pub moving_shown : Net → Run → List ℕ
-moving_shown net run = codes "moving: yes\nlinks: " ++ decimal (length run.steps + 1) ++ codes "\n" ++ run_shown net run
+-- how many links a run has, and these
+abbrev pub links_listed : Net → Run → List ℕ
+links_listed net run = codes "links: " ++ decimal (length run.steps + 1) ++ codes "\n" ++ run_shown net run
 
--- a run with what it weighs and how it fares; where there is none, that nothing moves so
-abbrev pub found_shown : Net → Bounds → ℕ → Option (Pair Terms Effort) → Option Run → Option Verdict → List ℕ
-found_shown net bounds terms (Some w) (Some run) (Some verdict) =
-    weight_shown terms w ++ verdict_shown net bounds.k (needs net bounds run) verdict ++ moving_shown net run
-found_shown net bounds terms _ _ _ = codes "moving: no\n"
+-- whether a run is shown, which is one that packets can go along while links fail and are repaired
+abbrev pub moving_line : Bool → List ℕ
+moving_line true = codes "moving: yes\n"
+moving_line false = codes "moving: no\n"
+
+-- how many nodes the tree of an exact answer has, whether a run is shown or not
+abbrev pub nodes_line : ℕ → Bool → List ℕ
+nodes_line nodes found = codes "nodes: " ++ decimal nodes ++ codes "\n"
+
+-- a run with what it weighs and how it fares, with this line before its links; where there is none, the line alone
+abbrev pub found_shown : (Bool → List ℕ) → Net → Bounds → ℕ → Option (Pair Terms Effort) → Option Run → Option Verdict → List ℕ
+found_shown line net bounds terms (Some w) (Some run) (Some verdict) =
+    weight_shown terms w ++ verdict_shown net bounds.k (needs net bounds run) verdict ++ line true ++ links_listed net run
+found_shown line net bounds terms _ _ _ = line false
 
 -- the answer's word
 abbrev pub word_shown : Word → List ℕ
@@ -73,9 +82,17 @@ word_shown Inconclusive = codes "inconclusive"
 abbrev pub answer_line : Word → List ℕ
 answer_line word = codes "answer: " ++ word_shown word ++ codes "\n"
 
--- the report on an answer, where runs are weighed by so many terms
+-- the report on an answer with a line that depends on whether a run is shown, where runs are weighed by so many terms
+abbrev pub report_with : (Bool → List ℕ) → Net → Bounds → ℕ → Answer → List ℕ
+report_with line net bounds terms a = answer_line a.word ++ found_shown line net bounds terms a.weight a.run a.verdict
+
+-- the report on an answer
 abbrev pub report_of : Net → Bounds → ℕ → Answer → List ℕ
-report_of net bounds terms a = answer_line a.word ++ found_shown net bounds terms a.weight a.run a.verdict
+report_of = report_with moving_line
+
+-- the report on an exact answer, whose tree has so many nodes
+abbrev pub exact_report_of : Net → Bounds → ℕ → Answer → ℕ → List ℕ
+exact_report_of net bounds terms a nodes = report_with (nodes_line nodes) net bounds terms a
 
 -- what is said of a certificate that is accepted: the word of its answer
 abbrev pub accepted_text : Word → List ℕ

@@ -2,17 +2,17 @@
 //! whoever looks for the fault looks there. Of a weight the terms are shown that were asked for, and the effort behind them.
 ghost use Rattle.std.specs.Prelude.{◌≡◌, ◌++◌, codes, IfOk, OnOk};
 ghost use Rattle.std.specs.Fmt.{decimal};
-ghost use Rattle.wi_report.specs.CertificateFaults.{part_number, components_listed, two_shown, fault_words, certificate_fault_text, bad_line_text};
+ghost use Rattle.wi_report.specs.CertificateFaults.{part_number, components_listed, two_shown, closed_words, node_words, fault_words, certificate_fault_text, bad_line_text};
 
 use crate::reports::{put_numbers, put_values};
 use crate::shown::put_counted;
 use std::alloc::Global;
 use wi_base::NoMemory;
-use wi_cert::{CheckRefused, Part};
+use wi_cert::{CheckRefused, ClosedRefused, Part};
 use wi_quantity::Weight;
 use wi_text::Text;
 
-/// What is said of a certificate that isn't believed, where runs are weighed by so many terms.
+/// What is said of a certificate or a tree that isn't believed, where runs are weighed by so many terms.
 pub fn certificate_fault_text(
     alloc: Global,
     fault: &CheckRefused,
@@ -57,18 +57,42 @@ fn put_fault(fault: &CheckRefused, terms: usize, text: &mut Text) -> Result<(), 
             put_differing(shown, counted, terms, text)
         }
         CheckRefused::WrongAnswer => text.put("wrong answer"),
-        CheckRefused::HeadMissing(p, g) => put_missing("head ", *p, *g, text),
-        CheckRefused::PairMissing(u, v) => put_missing("pair ", u64::from(*u), *v, text),
-        CheckRefused::GoalBelow(weight) => {
-            text.put("goal at")?;
-            put_components(weight, terms, text)
+        CheckRefused::Unbounded(refused) => put_closed(refused, terms, text),
+        CheckRefused::BadSplit(node) => {
+            put_node(*node, text)?;
+            text.put("bad split")
         }
-        CheckRefused::NotClosed { head, target, sum } => {
-            put_open(*head, *target, text)?;
-            put_components(sum, terms, text)
+        CheckRefused::Leaf(node, refused) => {
+            put_node(*node, text)?;
+            put_closed(refused, terms, text)
         }
         CheckRefused::Memory => text.put("out of memory"),
     }
+}
+
+// Adds why heads, pairs and rows don't bound every run.
+fn put_closed(refused: &ClosedRefused, terms: usize, text: &mut Text) -> Result<(), NoMemory>
+    ensures { OnOk result (text.new ≡ text.old ++ closed_words terms refused.now) }
+{
+    match refused {
+        ClosedRefused::HeadMissing(p, g) => put_missing("head ", *p, *g, text),
+        ClosedRefused::PairMissing(u, v) => put_missing("pair ", u64::from(*u), *v, text),
+        ClosedRefused::GoalBelow(weight) => {
+            text.put("goal at")?;
+            put_components(weight, terms, text)
+        }
+        ClosedRefused::NotClosed { head, target, sum } => {
+            put_open(*head, *target, text)?;
+            put_components(sum, terms, text)
+        }
+    }
+}
+
+// Adds which node of a tree is meant.
+fn put_node(number: u32, text: &mut Text) -> Result<(), NoMemory>
+    ensures { OnOk result (text.new ≡ text.old ++ node_words number) }
+{
+    put_counted("node ", number as usize, ": ", text)
 }
 
 // The number of a part of a run, from 1.

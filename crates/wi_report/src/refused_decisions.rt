@@ -1,7 +1,7 @@
 //! Of a weight that doesn't fit only the first component that is too large is told, with its place among the terms that were
 //! asked for. The place of the effort is right behind these, since nobody asked for the others that there is room for.
 ghost use Rattle.std.specs.Prelude.{◌≡◌, ◌∷◌, [], ◌++◌, IfOk, OnOk};
-ghost use Rattle.wi_report.specs.RefusedDecisions.{component_shown, overflow_from, overflow_text, too_long_text};
+ghost use Rattle.wi_report.specs.RefusedDecisions.{component_shown, overflow_from, overflow_text, too_long_text, nodes_over_limit_text};
 
 use crate::reports::components_of;
 use crate::shown::put_counted;
@@ -57,6 +57,20 @@ pub fn too_long_text(alloc: Global, effort: u64) -> Result<Text, NoMemory>
         "too long: effort ",
         effort as usize,
         ", limit 4096\n",
+        &mut text,
+    )?;
+    Ok(text)
+}
+
+/// What is said where an exact answer takes more nodes than may be opened: how many may.
+pub fn nodes_over_limit_text(alloc: Global, limit: u32) -> Result<Text, NoMemory>
+    ensures { IfOk result (λ text. text ≡ nodes_over_limit_text limit) }
+{
+    let mut text = Text::new(alloc);
+    put_counted(
+        "exact: over the limit ",
+        limit as usize,
+        " nodes\n",
         &mut text,
     )?;
     Ok(text)

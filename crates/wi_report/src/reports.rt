@@ -10,7 +10,8 @@ ghost use Rattle.wi_world.specs.Moves.{AreBounds, moved};
 ghost use Rattle.wi_world.specs.Runs.{needs};
 ghost use Rattle.wi_quantity.specs.Weighing.{components};
 ghost use Rattle.wi_report.specs.Shown.{link_shown, links_shown, place_shown};
-ghost use Rattle.wi_report.specs.Reports.{IsKnownRun, answer_line, numbers_shown, terms_shown, weight_shown, verdict_shown, step_shown, steps_shown, run_shown, moving_shown, found_shown, word_shown, report_of, accepted_text};
+ghost use Rattle.wi_report.specs.Reports.{IsKnownRun, answer_line, numbers_shown, terms_shown, weight_shown, verdict_shown, step_shown, steps_shown, run_shown, links_listed, found_shown, word_shown, report_with, report_of, exact_report_of, accepted_text};
+ghost use Rattle.wi_report.specs.private.Modes.{mode_line};
 
 use crate::shown::{put_counted, put_known, put_links, put_location};
 use std::alloc::Global;
@@ -39,9 +40,59 @@ pub fn report(
     requires run { IfSome answer.now.run (IsKnownRun net.now) }
     ensures { IfOk result (λ text. text ≡ report_of net.now query.now.bounds (length vector.now) answer.now) }
 {
+    report_in(Mode::Moving, alloc, net, query, vector, answer)
+}
+
+/// The report on an exact answer to a query, where runs are weighed by a vector. It is that of `report` with `nodes:` and how many
+/// nodes the answer's tree has in the place of `moving: yes` and of `moving: no`.
+pub fn exact_report(
+    alloc: Global,
+    net: &Network,
+    query: &Query,
+    vector: &Vector,
+    answer: &Answer,
+    nodes: usize,
+) -> Result<Text, NoMemory>
+    requires bounds { AreBounds net.now query.now.bounds }
+    requires run { IfSome answer.now.run (IsKnownRun net.now) }
+    ensures { IfOk result (λ text. text ≡ exact_report_of net.now query.now.bounds (length vector.now) answer.now nodes) }
+{
+    report_in(Mode::Exact(nodes), alloc, net, query, vector, answer)
+}
+
+// How an answer was found, which one line of its report tells.
+#[derive(Clone, Copy)]
+enum Mode {
+    // While links fail and are repaired under way: the line tells whether there is a run.
+    Moving,
+    // For links that stay as they are, by a tree of so many nodes.
+    Exact(usize),
+}
+
+// The report on an answer that was found in this way.
+fn report_in(
+    mode: Mode,
+    alloc: Global,
+    net: &Network,
+    query: &Query,
+    vector: &Vector,
+    answer: &Answer,
+) -> Result<Text, NoMemory>
+    requires bounds { AreBounds net.now query.now.bounds }
+    requires run { IfSome answer.now.run (IsKnownRun net.now) }
+    ensures { IfOk result (λ text. text ≡ report_with (mode_line mode) net.now query.now.bounds (length vector.now) answer.now) }
+{
     let mut text = Text::new(alloc);
     put_answered(answer.word, &mut text)?;
-    put_found(alloc, net, &query.bounds, vector.len(), answer, &mut text)?;
+    put_found(
+        mode,
+        alloc,
+        net,
+        &query.bounds,
+        vector.len(),
+        answer,
+        &mut text,
+    )?;
     Ok(text)
 }
 
@@ -77,6 +128,7 @@ fn put_word(word: Word, text: &mut Text) -> Result<(), NoMemory>
 
 // Adds what an answer shows besides its word.
 fn put_found(
+    mode: Mode,
     alloc: Global,
     net: &Network,
     bounds: &Bounds,
@@ -86,15 +138,16 @@ fn put_found(
 ) -> Result<(), NoMemory>
     requires bounds { AreBounds net.now bounds.now }
     requires run { IfSome answer.now.run (IsKnownRun net.now) }
-    ensures { OnOk result (text.new ≡ text.old ++ found_shown net.now bounds.now terms answer.now.weight answer.now.run answer.now.verdict) }
+    ensures { OnOk result (text.new ≡ text.old ++ found_shown (mode_line mode) net.now bounds.now terms answer.now.weight answer.now.run answer.now.verdict) }
 {
     match (&answer.weight, &answer.run, &answer.verdict) {
         (Some(weight), Some(run), Some(verdict)) => {
             put_weight(terms, weight, text)?;
             put_verdict(alloc, net, bounds, run, verdict, text)?;
-            put_moving(net, run, text)
+            put_mode(mode, true, text)?;
+            put_listed(net, run, text)
         }
-        _ => text.put("moving: no\n"),
+        _ => put_mode(mode, false, text),
     }
 }
 
@@ -225,20 +278,31 @@ fn put_uses_failed(
     text.put("\n")
 }
 
-// Adds that there is a run, how many links it has, and these.
-fn put_moving(net: &Network, run: &Run, text: &mut Text) -> Result<(), NoMemory>
+// Adds the line of how an answer was found, by whether a run is shown.
+fn put_mode(mode: Mode, found: bool, text: &mut Text) -> Result<(), NoMemory>
+    ensures { OnOk result (text.new ≡ text.old ++ mode_line mode found) }
+{
+    match (mode, found) {
+        (Mode::Moving, true) => text.put("moving: yes\n"),
+        (Mode::Moving, false) => text.put("moving: no\n"),
+        (Mode::Exact(nodes), _) => put_counted("nodes: ", nodes, "\n", text),
+    }
+}
+
+// Adds how many links a run has, and these.
+fn put_listed(net: &Network, run: &Run, text: &mut Text) -> Result<(), NoMemory>
     requires { IsKnownRun net.now run.now }
-    ensures { OnOk result (text.new ≡ text.old ++ moving_shown net.now run.now) }
+    ensures { OnOk result (text.new ≡ text.old ++ links_listed net.now run.now) }
 {
     put_length(run.steps.as_slice(), text)?;
     put_run(net, run, text)
 }
 
-// Adds that there is a run, and how many links it has: one more than steps.
+// Adds how many links a run has: one more than steps.
 fn put_length(steps: &[Step], text: &mut Text) -> Result<(), NoMemory>
-    ensures { OnOk result (text.new ≡ text.old ++ (codes "moving: yes\nlinks: " ++ decimal (length steps.now + 1) ++ codes "\n")) }
+    ensures { OnOk result (text.new ≡ text.old ++ (codes "links: " ++ decimal (length steps.now + 1) ++ codes "\n")) }
 {
-    put_counted("moving: yes\nlinks: ", steps.len() + 1, "\n", text)
+    put_counted("links: ", steps.len() + 1, "\n", text)
 }
 
 // Adds a line for each link of a run.

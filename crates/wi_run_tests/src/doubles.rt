@@ -5,7 +5,7 @@ use std::alloc::{AllocError, Global};
 use std::test::Fail;
 
 // The file of the network with the labels `d0` to `dn`.
-fn doubles(alloc: Global, n: usize) -> Result<String, AllocError> {
+pub fn doubles(alloc: Global, n: usize) -> Result<String, AllocError> {
     let mut text = String::from_str(
         alloc,
         r#"{"format":"mpls-whatif-1","routers":["r"],"labels":{"smpls":["s1"],"ip":["ip1"],"mpls":["d0""#,

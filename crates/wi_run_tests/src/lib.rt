@@ -14,6 +14,8 @@ mod doubles;
 #[cfg(test)]
 mod edges;
 #[cfg(test)]
+mod exact;
+#[cfg(test)]
 mod faults;
 #[cfg(test)]
 mod packets;

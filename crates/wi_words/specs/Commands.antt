@@ -18,13 +18,25 @@ operand id = record (new_rule id) { required = true; action = Some Set }
 abbrev pub option : Text → Rule
 option name = record (new_rule name) { long = Some name; action = Some Set }
 
--- `verify NETWORK QUERY [--weights W] [--certificate FILE]`
-abbrev pub verify : Shape
-verify = record (new_shape (codes "verify")) { rules = operand (codes "NETWORK") ∷ operand (codes "QUERY") ∷ option (codes "weights") ∷ option (codes "certificate") ∷ [] }
+-- `NAME NETWORK QUERY [--weights W] [--certificate FILE]`
+abbrev pub asking : Text → Shape
+asking name = record (new_shape name) { rules = operand (codes "NETWORK") ∷ operand (codes "QUERY") ∷ option (codes "weights") ∷ option (codes "certificate") ∷ [] }
 
--- `check NETWORK QUERY CERTIFICATE [--weights W]`
+-- `NAME NETWORK QUERY CERTIFICATE [--weights W]`
+abbrev pub checking : Text → Shape
+checking name = record (new_shape name) { rules = operand (codes "NETWORK") ∷ operand (codes "QUERY") ∷ operand (codes "CERTIFICATE") ∷ option (codes "weights") ∷ [] }
+
+abbrev pub verify : Shape
+verify = asking (codes "verify")
+
 abbrev pub check : Shape
-check = record (new_shape (codes "check")) { rules = operand (codes "NETWORK") ∷ operand (codes "QUERY") ∷ operand (codes "CERTIFICATE") ∷ option (codes "weights") ∷ [] }
+check = checking (codes "check")
+
+abbrev pub exact : Shape
+exact = asking (codes "exact")
+
+abbrev pub check_exact : Shape
+check_exact = checking (codes "check-exact")
 
 -- `play NETWORK SCRIPT K`
 abbrev pub play : Shape
@@ -45,7 +57,7 @@ stack = record (new_shape (codes "stack")) { rules = operand (codes "HEX") ∷ [
 -- the program's commands, one of which has to be given
 abbrev pub program : App
 program =
-    with_subcommand (with_subcommand (with_subcommand (with_subcommand (with_subcommand (with_subcommand (record { top = record (new_shape (codes "whatif")) { subcommand_required = true }; subs = [] }) verify) check) play) gen) packets) stack
+    with_subcommand (with_subcommand (with_subcommand (with_subcommand (with_subcommand (with_subcommand (with_subcommand (with_subcommand (record { top = record (new_shape (codes "whatif")) { subcommand_required = true }; subs = [] }) verify) check) play) gen) exact) check_exact) packets) stack
 
 -- clap takes the words: its parse has no fault
 abbrev pub is_empty : {X : Type 0} → List X → Bool
@@ -62,6 +74,8 @@ pub data Command : Type 0 where
   Check : (network query certificate : Text) (weights : Option Text) → Command
   Play : (network script : Text) (k : ℕ) → Command
   Gen : (seed size : ℕ) → Command
+  Exact : (network query : Text) (weights certificate : Option Text) → Command
+  CheckExact : (network query certificate : Text) (weights : Option Text) → Command
   Packets : (network query : Text) (weights : Option Text) → Command
   Stack : (hex : Text) → Command
 
@@ -84,15 +98,15 @@ abbrev pub IsFit : Command → Type 0
 IsFit (Gen seed size) = (4 ≤ size) × (size ≤ 2000)
 IsFit _ = Unit {0}
 
--- the command of a subcommand's entries
-abbrev pub verify_of : List Row → Option Command
-verify_of rows =
-    option_and_then (λ network. option_map (λ query. Verify network query (first_of (codes "weights") rows) (first_of (codes "certificate") rows)) (first_of (codes "QUERY") rows))
+-- the command of a subcommand's entries: what is asked of a network, and what a certificate is held against
+abbrev pub asked_of : (Text → Text → Option Text → Option Text → Command) → List Row → Option Command
+asked_of ask rows =
+    option_and_then (λ network. option_map (λ query. ask network query (first_of (codes "weights") rows) (first_of (codes "certificate") rows)) (first_of (codes "QUERY") rows))
     (first_of (codes "NETWORK") rows)
 
-abbrev pub check_of : List Row → Option Command
-check_of rows =
-    option_and_then (λ network. option_and_then (λ query. option_map (λ certificate. Check network query certificate (first_of (codes "weights") rows)) (first_of (codes "CERTIFICATE") rows)) (first_of (codes "QUERY") rows))
+abbrev pub checked_of : (Text → Text → Text → Option Text → Command) → List Row → Option Command
+checked_of check rows =
+    option_and_then (λ network. option_and_then (λ query. option_map (λ certificate. check network query certificate (first_of (codes "weights") rows)) (first_of (codes "CERTIFICATE") rows)) (first_of (codes "QUERY") rows))
     (first_of (codes "NETWORK") rows)
 
 abbrev pub play_of : List Row → Option Command
@@ -111,10 +125,12 @@ stack_of rows = option_map (λ hex. Stack hex) (first_of (codes "HEX") rows)
 
 abbrev pub command_named : Text × List Row → Option Command
 command_named met =
-    if bytes_eq met.0 (codes "verify") then verify_of met.1
-    else if bytes_eq met.0 (codes "check") then check_of met.1
+    if bytes_eq met.0 (codes "verify") then asked_of Verify met.1
+    else if bytes_eq met.0 (codes "check") then checked_of Check met.1
     else if bytes_eq met.0 (codes "play") then play_of met.1
     else if bytes_eq met.0 (codes "gen") then gen_of met.1
+    else if bytes_eq met.0 (codes "exact") then asked_of Exact met.1
+    else if bytes_eq met.0 (codes "check-exact") then checked_of CheckExact met.1
     else if bytes_eq met.0 (codes "packets") then packets_of met.1
     else if bytes_eq met.0 (codes "stack") then stack_of met.1
     else None

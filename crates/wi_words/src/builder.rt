@@ -4,7 +4,7 @@ ghost use Rattle.std.specs.Prelude.{◌≡◌, IfOk, false};
 ghost use Rattle.clap.specs.Words.{app_of, rule_of, shape_of};
 ghost use Rattle.clap.specs.Simple.{with_subcommand};
 ghost use Rattle.clap.specs.declared.builder.command.Command.TheViews.{out-Command as fields_of};
-ghost use Rattle.wi_words.specs.Commands.{check, gen, operand, option, packets, play, program, stack, verify};
+ghost use Rattle.wi_words.specs.Commands.{asking, check, check_exact, checking, exact, gen, operand, option, packets, play, program, stack, verify};
 
 use clap::{Arg, ArgAction, Command};
 use std::alloc::{AllocError, Global};
@@ -25,16 +25,16 @@ fn option<'a>(alloc: Global, name: &'a str) -> Arg<'a>
     Arg::new(alloc, name).long(name).action(ArgAction::Set)
 }
 
-// `verify NETWORK QUERY [--weights W] [--certificate FILE]`
-fn verify<'a>(alloc: Global) -> Result<Command<'a>, AllocError>
-    ensures shape { IfOk result (λ c. shape_of c ≡ verify) }
+// `NAME NETWORK QUERY [--weights W] [--certificate FILE]`
+fn asking<'a>(alloc: Global, name: &'a str) -> Result<Command<'a>, AllocError>
+    ensures shape { IfOk result (λ c. shape_of c ≡ asking name.entry.now) }
     ensures local { IfOk result (λ c. (fields_of c).has_globals ≡ false) }
 {
     let network = operand(alloc, "NETWORK");
     let query = operand(alloc, "QUERY");
     let weights = option(alloc, "weights");
     let certificate = option(alloc, "certificate");
-    let command = Command::new(alloc, "verify")
+    let command = Command::new(alloc, name)
         .arg(network)?
         .arg(query)?
         .arg(weights)?
@@ -42,16 +42,16 @@ fn verify<'a>(alloc: Global) -> Result<Command<'a>, AllocError>
     Ok(command)
 }
 
-// `check NETWORK QUERY CERTIFICATE [--weights W]`
-fn check<'a>(alloc: Global) -> Result<Command<'a>, AllocError>
-    ensures shape { IfOk result (λ c. shape_of c ≡ check) }
+// `NAME NETWORK QUERY CERTIFICATE [--weights W]`
+fn checking<'a>(alloc: Global, name: &'a str) -> Result<Command<'a>, AllocError>
+    ensures shape { IfOk result (λ c. shape_of c ≡ checking name.entry.now) }
     ensures local { IfOk result (λ c. (fields_of c).has_globals ≡ false) }
 {
     let network = operand(alloc, "NETWORK");
     let query = operand(alloc, "QUERY");
     let certificate = operand(alloc, "CERTIFICATE");
     let weights = option(alloc, "weights");
-    let command = Command::new(alloc, "check")
+    let command = Command::new(alloc, name)
         .arg(network)?
         .arg(query)?
         .arg(certificate)?
@@ -114,9 +114,18 @@ fn stack<'a>(alloc: Global) -> Result<Command<'a>, AllocError>
 fn with_asking<'a>(alloc: Global, whole: Command<'a>) -> Result<Command<'a>, AllocError>
     ensures { IfOk result (λ c. app_of c ≡ with_subcommand (with_subcommand (app_of whole.entry) verify) check) }
 {
-    let verify = verify(alloc)?;
-    let check = check(alloc)?;
+    let verify = asking(alloc, "verify")?;
+    let check = checking(alloc, "check")?;
     Ok(whole.subcommand(verify)?.subcommand(check)?)
+}
+
+// A program with the commands on exact answers added.
+fn with_exact<'a>(alloc: Global, whole: Command<'a>) -> Result<Command<'a>, AllocError>
+    ensures { IfOk result (λ c. app_of c ≡ with_subcommand (with_subcommand (app_of whole.entry) exact) check_exact) }
+{
+    let exact = asking(alloc, "exact")?;
+    let check_exact = checking(alloc, "check-exact")?;
+    Ok(whole.subcommand(exact)?.subcommand(check_exact)?)
 }
 
 // A program with the commands that try the model and the program added.
@@ -143,5 +152,5 @@ pub fn program<'a>(alloc: Global) -> Result<Command<'a>, AllocError>
 {
     let whole = Command::new(alloc, "whatif").subcommand_required(true);
     let whole = with_trying(alloc, with_asking(alloc, whole)?)?;
-    with_wire(alloc, whole)
+    with_wire(alloc, with_exact(alloc, whole)?)
 }

@@ -45,6 +45,20 @@ pub enum Command<'a> {
         seed: u64,
         size: u32,
     },
+    /// `exact NETWORK QUERY [--weights W] [--certificate FILE]`: as for `verify`.
+    Exact {
+        network: &'a str,
+        query: &'a str,
+        weights: Option<&'a str>,
+        certificate: Option<&'a str>,
+    },
+    /// `check-exact NETWORK QUERY CERTIFICATE [--weights W]`: as for `check`.
+    CheckExact {
+        network: &'a str,
+        query: &'a str,
+        certificate: &'a str,
+        weights: Option<&'a str>,
+    },
     /// `packets NETWORK QUERY [--weights W]`: the name of the network file, the text of the query, and that of the weights.
     Packets {
         network: &'a str,

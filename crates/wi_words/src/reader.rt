@@ -1,10 +1,10 @@
 //! Clap tells which word belongs to which argument, and numbers are judged here, by our own definition of a number: clap's would
 //! take `+1` and `007`. The texts of a command are lent by the words.
-ghost use Rattle.std.specs.Prelude.{◌≡◌, ◌≤◌, ◌^◌, true, None, IfSome, option_map, option_and_then};
+ghost use Rattle.std.specs.Prelude.{◌≡◌, ◌≤◌, ◌^◌, true, None, IfSome, if◌then◌else◌, option_map, option_and_then};
 ghost use Rattle.std.specs.Str.Parse.{digits_value};
 ghost use Rattle.wi_text.specs.Characters.{is_number};
 ghost use Rattle.clap.specs.Words.{first_of, found_of, rows_of, subcommand_rows_of};
-ghost use Rattle.wi_words.specs.Commands.{IsFit, check_of, command_named, gen_of, most_failed, number_within, packets_of, play_of, seed_in, size_in, stack_of, verify_of};
+ghost use Rattle.wi_words.specs.Commands.{Check, CheckExact, Exact, IsFit, Verify, asked_of, checked_of, command_named, gen_of, most_failed, number_within, packets_of, play_of, seed_in, size_in, stack_of};
 ghost use Rattle.wi_words.specs.Shown.{shown};
 
 use crate::Command;
@@ -71,34 +71,55 @@ fn number_of(text: &str) -> Option<u64>
     text.parse::<u64>().ok()
 }
 
-// The command of a subcommand's entries, which has all operands.
-fn verify_of<'a>(matches: &ArgMatches<'a>) -> Option<Command<'a>>
-    ensures command { option_map shown result ≡ verify_of (rows_of (found_of matches.now)) }
+// The command of a subcommand's entries, which has all operands: what is asked of a network, exactly or not.
+fn asked_of<'a>(matches: &ArgMatches<'a>, exactly: bool) -> Option<Command<'a>>
+    ensures command { option_map shown result ≡ asked_of (if exactly then Exact else Verify) (rows_of (found_of matches.now)) }
     ensures fit { IfSome result (λ c. IsFit (shown c)) }
 {
     let network = value_of(matches, "NETWORK")?;
     let query = value_of(matches, "QUERY")?;
-    Some(Command::Verify {
-        network,
-        query,
-        weights: value_of(matches, "weights"),
-        certificate: value_of(matches, "certificate"),
+    let weights = value_of(matches, "weights");
+    let certificate = value_of(matches, "certificate");
+    Some(if exactly {
+        Command::Exact {
+            network,
+            query,
+            weights,
+            certificate,
+        }
+    } else {
+        Command::Verify {
+            network,
+            query,
+            weights,
+            certificate,
+        }
     })
 }
 
-fn check_of<'a>(matches: &ArgMatches<'a>) -> Option<Command<'a>>
-    ensures command { option_map shown result ≡ check_of (rows_of (found_of matches.now)) }
+// What a certificate is held against, of an exact answer or not.
+fn checked_of<'a>(matches: &ArgMatches<'a>, exactly: bool) -> Option<Command<'a>>
+    ensures command { option_map shown result ≡ checked_of (if exactly then CheckExact else Check) (rows_of (found_of matches.now)) }
     ensures fit { IfSome result (λ c. IsFit (shown c)) }
 {
     let network = value_of(matches, "NETWORK")?;
     let query = value_of(matches, "QUERY")?;
     let certificate = value_of(matches, "CERTIFICATE")?;
     let weights = value_of(matches, "weights");
-    Some(Command::Check {
-        network,
-        query,
-        certificate,
-        weights,
+    Some(if exactly {
+        Command::CheckExact {
+            network,
+            query,
+            certificate,
+            weights,
+        }
+    } else {
+        Command::Check {
+            network,
+            query,
+            certificate,
+            weights,
+        }
     })
 }
 
@@ -149,10 +170,12 @@ fn command_named<'a>(name: &str, matches: &ArgMatches<'a>) -> Option<Command<'a>
     ensures fit { IfSome result (λ c. IsFit (shown c)) }
 {
     match name {
-        "verify" => verify_of(matches),
-        "check" => check_of(matches),
+        "verify" => asked_of(matches, false),
+        "check" => checked_of(matches, false),
         "play" => play_of(matches),
         "gen" => gen_of(matches),
+        "exact" => asked_of(matches, true),
+        "check-exact" => checked_of(matches, true),
         "packets" => packets_of(matches),
         "stack" => stack_of(matches),
         _ => None,

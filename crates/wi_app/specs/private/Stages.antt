@@ -11,10 +11,14 @@ use Rattle.wi_accept.specs.Causes.{IsAccepted, IsRefusal}
 use Rattle.wi_app.specs.declared.verify.Content.{Content}
 use Rattle.wi_app.specs.declared.verify.Content.TheVariants.{Report, ReportAndPackets}
 use Rattle.wi_app.specs.declared.refusal.Refusal.{Refusal}
-use Rattle.wi_app.specs.declared.refusal.Refusal.TheVariants.{CannotRead, CannotWrite, Script as BadScript, LargeCertificate, NotAccepted, NotWritten, BadStack, Memory}
+use Rattle.wi_app.specs.declared.refusal.Refusal.TheVariants.{CannotRead, CannotWrite, Script as BadScript, LargeCertificate, NotAccepted, NotWritten, TreeNotWritten, BadStack, Memory}
 use Rattle.wi_app.specs.Asked.{AreBadTexts, ForAsked}
 use Rattle.wi_app.specs.Certificates.{FromCertificate, FromStore, IsNamed}
 use Rattle.wi_app.specs.Decided.{FromDecision, FromTexts, packets_in, report_in}
+use Rattle.wi_cert.specs.declared.tree.TreeCertificate.{TreeCertificate}
+use Rattle.wi_cert.specs.Trees.{tree_text}
+use Rattle.wi_accept.specs.Trees.{IsDecidedExactly, IsTreeAccepted, IsTreeRefusal}
+use Rattle.wi_app.specs.Exact.{FromSplitting, FromTree, FromTreeStore}
 use Rattle.wi_app.specs.OnWire.{IsRefusedStack}
 use Rattle.wi_app.specs.Run.{IsBadScript}
 use Rattle.wi_app.specs.Shelves.{FetchFailed, IsCalm, StoreFailed}
@@ -82,3 +86,37 @@ abbrev pub IsNotBelieved : Problem → Certificate → Refusal → Type 0
 IsNotBelieved problem c (NotAccepted fault terms) = (terms ≡ length problem.vector) × IsRefusal problem c fault
 IsNotBelieved problem c Memory = Unit {0}
 IsNotBelieved problem c refusal = ⊥
+
+-- ---- exact
+-- the texts are the cause, or what both ask, or its tree is to be stored and can't be
+abbrev pub FromAnsweringExactly : ShelfSeen → ShelfSeen → Net → List ℕ → Option (List ℕ) → Option (List ℕ) → Refusal → Type 0
+FromAnsweringExactly old new net text weights file refusal =
+    ((AreBadTexts net text weights refusal ⊎ ForAsked net text weights (λ problem. FromSplitting problem refusal)) × IsCalm old new)
+    ⊎ ForAsked net text weights (λ problem. FromTreeStore old new problem file refusal)
+
+abbrev pub FromDecidingExactly : ShelfSeen → ShelfSeen → Problem → Option (List ℕ) → Refusal → Type 0
+FromDecidingExactly old new problem file refusal = (FromSplitting problem refusal × IsCalm old new) ⊎ FromTreeStore old new problem file refusal
+
+-- the tree is too large, or the call that was to store it failed
+abbrev pub IsTreeNotKept : ShelfSeen → ShelfSeen → Option (List ℕ) → TreeCertificate → Refusal → Type 0
+IsTreeNotKept old new file t TreeNotWritten = IsCalm old new × IsNamed file × (268435456 < length (tree_text t))
+IsTreeNotKept old new file t (CannotWrite named) = StoreFailed file named.now old new
+IsTreeNotKept old new file t Memory = IsCalm old new
+IsTreeNotKept old new file t refusal = ⊥
+
+-- ---- check-exact
+-- the texts are the cause, or the tree's file for what both ask
+abbrev pub FromCheckingExactly : ShelfSeen → ShelfSeen → Net → List ℕ → List ℕ → Option (List ℕ) → Refusal → Type 0
+FromCheckingExactly old new net text file weights refusal = (AreBadTexts net text weights refusal × IsCalm old new) ⊎ ForAsked net text weights (λ problem. FromTree old new problem file refusal)
+
+-- nothing speaks against the tree, and its answer holds without doubt
+pub record IsTreeBelieved (problem : Problem) (t : TreeCertificate) : Type 0 where
+  pub problem_is : IsProblem problem
+  pub accepted : IsTreeAccepted problem t
+  pub holds : IsDecidedExactly problem (answer_of problem t.shown)
+
+-- this speaks against the tree
+abbrev pub IsTreeNotBelieved : Problem → TreeCertificate → Refusal → Type 0
+IsTreeNotBelieved problem t (NotAccepted fault terms) = (terms ≡ length problem.vector) × IsTreeRefusal problem t fault
+IsTreeNotBelieved problem t Memory = Unit {0}
+IsTreeNotBelieved problem t refusal = ⊥

@@ -1,5 +1,6 @@
 -- How far branches were opened.
-use Rattle.std.specs.Prelude.{◌≡◌, ℕ, ◌<◌, ◌≤◌, true, false, List, [], ◌∷◌, ◌++◌, length, Option, Some, None, IfSome, option_map}
+use Rattle.std.specs.List.{All}
+use Rattle.std.specs.Prelude.{◌≡◌, ℕ, ◌^◌, ◌<◌, ◌≤◌, true, false, List, [], ◌∷◌, ◌++◌, length, Option, Some, None, IfSome, option_map}
 use Rattle.wi_net.specs.declared.bounds.Bounds.{Bounds}
 use Rattle.wi_net.specs.Net.{Net}
 use Rattle.wi_world.specs.declared.answer.Word.TheVariants.{Yes, No}
@@ -9,6 +10,9 @@ use Rattle.wi_trace.specs.declared.answer.Answer.{Answer}
 use Rattle.wi_cert.specs.declared.closed.Closed.{Closed as Leaf}
 use Rattle.wi_trees.specs.Branches.{IsBranch, CanSplit, with_down, with_up, split_of}
 use Rattle.wi_build.specs.Problems.{Problem, IsAnswering}
+use Rattle.wi_accept.specs.Trees.{within}
+use Rattle.wi_weight.specs.Weights.{EachBelow}
+use Rattle.wi_decide.specs.Showing.{IsSmallStep}
 use Rattle.wi_decide.specs.declared.searching.LeastRun.{LeastRun}
 use Rattle.wi_decide.specs.declared.refused.SearchRefused.{SearchRefused}
 use Rattle.wi_decide.specs.declared.refused.SearchRefused.TheVariants as search
@@ -19,7 +23,7 @@ use Rattle.wi_branch.specs.declared.refused.ExactRefused.{ExactRefused}
 use Rattle.wi_branch.specs.declared.refused.ExactRefused.TheVariants.{Overflow, TooLong, NodeLimit, Memory}
 use Rattle.wi_branch.specs.declared.finding.Told.{Told}
 use Rattle.wi_branch.specs.declared.finding.Told.TheVariants.{Nothing, Fitting, Splitting}
-use Rattle.wi_branch.specs.Walks.{within, is_fitting, IsNode, IsWalk}
+use Rattle.wi_branch.specs.Walks.{is_fitting, IsNode, IsWalk}
 
 -- the node of what a branch tells
 abbrev pub node_of : Told → Opened
@@ -27,9 +31,10 @@ node_of (Nothing leaf) = opened.Closed leaf
 node_of (Fitting found leaf) = opened.Fits found.weight leaf
 node_of (Splitting e) = opened.Split e
 
--- a matching moving run that fits
+-- a matching moving run that fits, of a weight that can be shown
 pub record IsBest (problem : Problem) (found : LeastRun) : Type 0 where
   pub answers : IsAnswering problem (components found.weight) found.run
+  pub small : EachBelow (2 ^ 64) (components found.weight)
   pub fitting : is_fitting (verdict_of problem.net problem.bounds found.run) ≡ true
 
 abbrev pub IsToldWell : Problem → Told → Type 0
@@ -117,3 +122,7 @@ answer_with net whole (Some found) = record {
   run = Some found.run;
   verdict = Some (verdict_of net whole found.run);
 }
+
+-- a best run that can be shown, if there is one
+abbrev pub CanBeShown : Option LeastRun → Type 0
+CanBeShown best = IfSome best (λ found. EachBelow (2 ^ 64) (components found.weight) × All IsSmallStep found.run.steps)

@@ -42,13 +42,13 @@ rank places.Done = 10
 abbrev pub line_count : Sheet → ℕ
 line_count s = rank s.place + length s.certificate.shown.steps + length s.certificate.closed.heads + length s.certificate.closed.pairs + length s.certificate.closed.rows
 
--- the reading with these bytes of the next line
-abbrev pub reading : List ℕ → Sheet → Reading
-reading held s = record { lines = line_count s; held = held; sheet = s }
+-- the reading with these bytes of the next line, where so many lines lead to a sheet
+abbrev pub reading : {S : Type 0} → (S → ℕ) → List ℕ → S → Reading S
+reading count held s = record { lines = count s; held = held; sheet = s }
 
-abbrev pub fed_so_far : Option ℕ → List ℕ → Sheet → Fed
-fed_so_far None held s = Ok (reading held s)
-fed_so_far (Some n) held s = Err n
+abbrev pub fed_so_far : {S : Type 0} → (S → ℕ) → Option ℕ → List ℕ → S → Fed S
+fed_so_far count None held s = Ok (reading count held s)
+fed_so_far count (Some n) held s = Err n
 
 -- where no line was taken, all is as before
 abbrev pub Keeps : {A E V : Type 0} → Result (Option A) E → V → V → Type 0

@@ -26,3 +26,15 @@ returns-in-Packets-clause-refused g c = rw c.in-Packets.is c.packets.ensures.ref
 pub returns-in-Stack-clause-answered : goal.returns-in-Stack-clause-answered
 returns-in-Stack-clause-answered g c =
     rw c.in-Stack.is (stack_answered c.stack.result (g.S.Shelf.seen c.args.shelf.now) (g.S.Shelf.seen c.args.shelf.now) c.in-Stack.hex.now c.stack.ensures.status c.stack.ensures.shown)
+
+pub returns-in-Exact-clause-answered : goal.returns-in-Exact-clause-answered
+returns-in-Exact-clause-answered g c = rw c.in-Exact.is c.exact.ensures.answered
+
+pub returns-in-Exact-clause-refused : goal.returns-in-Exact-clause-refused
+returns-in-Exact-clause-refused g c = rw c.in-Exact.is c.exact.ensures.refused
+
+pub returns-in-CheckExact-clause-answered : goal.returns-in-CheckExact-clause-answered
+returns-in-CheckExact-clause-answered g c = rw c.in-CheckExact.is c.check_exact.ensures.answered
+
+pub returns-in-CheckExact-clause-refused : goal.returns-in-CheckExact-clause-refused
+returns-in-CheckExact-clause-refused g c = rw c.in-CheckExact.is c.check_exact.ensures.refused

@@ -52,3 +52,11 @@ returns-in-NotHex-clause-said g c =
 pub returns-in-BadStack-clause-said : goal.returns-in-BadStack-clause-said
 returns-in-BadStack-clause-said g c =
     said_made _ _ _ (g.E.Sink.seen c.args.err.now) (g.E.Sink.seen c.put_made-in-BadStack.new.err) _ c.in-BadStack.is c.status_of-status.ensures tt (c.put_made-in-BadStack.ensures.said _ c.stack_refused_text.ensures)
+
+pub returns-in-ManyNodes-clause-said : goal.returns-in-ManyNodes-clause-said
+returns-in-ManyNodes-clause-said g c =
+    said_made _ _ _ (g.E.Sink.seen c.args.err.now) (g.E.Sink.seen c.put_made-in-ManyNodes.new.err) _ c.in-ManyNodes.is c.status_of-status.ensures tt (c.put_made-in-ManyNodes.ensures.said _ c.nodes_over_limit_text.ensures)
+
+pub returns-in-TreeNotWritten-clause-said : goal.returns-in-TreeNotWritten-clause-said
+returns-in-TreeNotWritten-clause-said g c =
+    said_words _ _ _ (g.E.Sink.seen c.args.err.now) (g.E.Sink.seen c.put-in-TreeNotWritten.new.err) _ c.in-TreeNotWritten.is c.status_of-status.ensures c.put-in-TreeNotWritten.ensures.said

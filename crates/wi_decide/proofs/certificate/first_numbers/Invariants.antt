@@ -1,5 +1,5 @@
 use Rattle.std.proofs.Common.{◌≡◌, ◌++◌, drop, map}
-use Rattle.wi_decide.specs.private.Certificates.{first_numbers}
+use Rattle.wi_decide.specs.Showing.{first_numbers}
 use Rattle.wi_decide.proofs.certificate.first_numbers.Given as goal
 
 -- the labels that are left make it whole

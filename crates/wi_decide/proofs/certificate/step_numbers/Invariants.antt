@@ -1,5 +1,5 @@
 use Rattle.std.proofs.Common.{◌≡◌, take}
-use Rattle.wi_decide.specs.private.Certificates.{step_numbers}
+use Rattle.wi_decide.specs.Showing.{step_numbers}
 use Rattle.wi_decide.proofs.certificate.step_numbers.Given as goal
 
 abbrev pub invariant-loop-step : goal.invariant-loop-step

@@ -1,0 +1,167 @@
+-- Exact answers: what they show can be shown, and from the parts of both commands to the whole.
+use Rattle.std.proofs.Common.{◌≡◌, ℕ, true, List, length, Option, Some, None, Result, Ok, Err, inl, inr, ap, subst, ◌∙◌}
+use Rattle.std.specs.Prelude.{option_map, IfErr, IfOk, IfSome, OnOk}
+use Rattle.wi_base.specs.Shelf.{ShelfSeen}
+use Rattle.wi_base.specs.declared.no_memory.NoMemory.{NoMemory}
+use Rattle.wi_net.specs.Net.{Net}
+use Rattle.wi_world.specs.declared.run.Run.{Run}
+use Rattle.wi_world.specs.declared.answer.Word.{Word}
+use Rattle.wi_world.specs.declared.answer.Word.TheVariants.{Yes, No, Inconclusive}
+use Rattle.wi_world.specs.declared.answer.Verdict.{Verdict}
+use Rattle.wi_world.specs.declared.answer.Verdict.TheVariants.{Fits, Exceeds, UsesFailed}
+use Rattle.wi_world.specs.Holds.{Question, Weighing}
+use Rattle.wi_quantity.specs.Weighing.{components}
+use Rattle.wi_quantity.specs.declared.vector.Part.{Part}
+use Rattle.wi_query.specs.declared.query.Query.{Query}
+use Rattle.wi_trace.specs.declared.answer.Answer.{Answer}
+use Rattle.wi_build.specs.Problems.{Problem, IsProblem, asks, problem_of, weighs}
+use Rattle.wi_cert.specs.declared.tree.TreeCertificate.{TreeCertificate}
+use Rattle.wi_cert.specs.Trees.{IsTreeText}
+use Rattle.wi_trees.specs.Trees.{HoldsExactly}
+use Rattle.wi_accept.specs.Answers.{word_of}
+use Rattle.wi_accept.specs.Trees.{IsDecidedExactly}
+use Rattle.wi_report.specs.Reports.{IsKnownRun, accepted_text, exact_report_of}
+use Rattle.wi_words.specs.Commands.{Exact, CheckExact}
+use Rattle.wi_app.specs.Asked.{ForAsked, IsAsked}
+use Rattle.wi_app.specs.Certificates.{IsCertificateFile}
+use Rattle.wi_app.specs.Decided.{status_for}
+use Rattle.wi_app.specs.Exact.{FromTree, FromTreeStore, IsAcceptedTree, IsReportedExactly, IsShownExactly, IsTreeStored}
+use Rattle.wi_app.specs.Run.{FromCommand, HoldsNetwork, IsAnswered, MayEndExactly}
+use Rattle.wi_app.specs.Shelves.{IsCalm}
+use Rattle.wi_app.specs.declared.answer.Printed.{Printed}
+use Rattle.wi_app.specs.declared.refusal.Refusal.{Refusal}
+use Rattle.wi_app.specs.declared.refusal.Refusal.TheVariants.{CannotWrite, NotAccepted, TreeNotWritten, Memory}
+use Rattle.wi_app.specs.private.Stages.{FromAnsweringExactly, FromCheckingExactly, FromDecidingExactly, IsTreeBelieved, IsTreeNotBelieved, IsTreeNotKept}
+use Rattle.wi_app.proofs.Answers.{start_known}
+use Rattle.std.proofs.lemmas.Bool.{and_parts}
+use Rattle.wi_world.specs.Moves.{follows, is_start, is_usable}
+
+-- ---- what an exact answer is like
+
+exact_run_known : (net : Net) (question : Question) (weigh : Weighing) (word : Word) (w : Option (List ℕ)) (run : Option Run) (verdict : Option Verdict) → HoldsExactly net question weigh word w run verdict → IfSome run (λ r. IsKnownRun net r)
+exact_run_known net question weigh Yes (Some w) (Some run) (Some (Fits fails)) h = start_known net fails run (and_parts (is_start net fails run.first run.header) (follows net (is_usable net fails) (run.first, run.header) run.steps) h.trace).0
+exact_run_known net question weigh word w None verdict h = tt
+exact_run_known net question weigh Yes None (Some run) verdict h = elim h [ ]
+exact_run_known net question weigh Yes (Some w) (Some run) None h = elim h [ ]
+exact_run_known net question weigh Yes (Some w) (Some run) (Some (Exceeds n)) h = elim h [ ]
+exact_run_known net question weigh Yes (Some w) (Some run) (Some (UsesFailed e)) h = elim h [ ]
+exact_run_known net question weigh No None (Some run) verdict h = elim h [ ]
+exact_run_known net question weigh No (Some w) (Some run) verdict h = elim h [ ]
+exact_run_known net question weigh Inconclusive w (Some run) verdict h = elim h [ ]
+
+-- the run that an exact answer shows can be shown
+pub exact_known : (problem : Problem) (a : Answer) → IsDecidedExactly problem a → IfSome a.run (λ run. IsKnownRun problem.net run)
+exact_known problem a h = exact_run_known problem.net (asks problem) (weighs problem) a.word (option_map components a.weight) a.run a.verdict h
+
+exact_word_ends : (problem : Problem) (file : Option (List ℕ)) (word : Word) (status : ℕ) (w : Option (List ℕ)) (run : Option Run) (verdict : Option Verdict) → HoldsExactly problem.net (asks problem) (weighs problem) word w run verdict
+    → status ≡ status_for word → MayEndExactly problem file status
+exact_word_ends problem file Yes status w run verdict h is = inl is
+exact_word_ends problem file No status w run verdict h is = inr (inl is)
+exact_word_ends problem file Inconclusive status w run verdict h is = elim h [ ]
+
+pub exact_answer_ends : (problem : Problem) (file : Option (List ℕ)) (shelf : ShelfSeen) (status : ℕ) (text : List ℕ) → IsReportedExactly problem file shelf status text → MayEndExactly problem file status
+exact_answer_ends problem file shelf status text r = exact_word_ends problem file r.answer.word status (option_map components r.answer.weight) r.answer.run r.answer.verdict r.is.exact.holds r.status_is
+
+-- ---- exact
+
+-- an exact answer on a network is one to a command. The fetch of the network left the shelf as it was
+pub exact_answered : (r : Result Printed Refusal) (old new : ShelfSeen) (name query : List ℕ) (weights file : Option (List ℕ)) (net : Net) → (old.told ≡ true → HoldsNetwork (old.file name) net)
+    → IfOk r (λ printed. ForAsked net query weights (λ problem. IsReportedExactly problem file new printed.status printed.text)) → IfOk r (λ printed. IsAnswered old new (Exact name query weights file) printed.status printed.text)
+exact_answered (Ok printed) old new name query weights file net holds answer = (net, holds, answer)
+exact_answered (Err refusal) old new name query weights file net holds answer = tt
+
+pub exact_refused : (r : Result Printed Refusal) (old later new : ShelfSeen) (name query : List ℕ) (weights file : Option (List ℕ)) (net : Net) → later ≡ old → (old.told ≡ true → HoldsNetwork (old.file name) net)
+    → IfErr r (λ refusal. FromAnsweringExactly later new net query weights file refusal) → IfErr r (λ refusal. FromCommand old new (Exact name query weights file) refusal)
+exact_refused (Ok printed) old later new name query weights file net same holds cause = tt
+exact_refused (Err refusal) old later new name query weights file net same holds cause = elim (subst (λ (s : ShelfSeen). FromAnsweringExactly s new net query weights file refusal) same cause) [
+  | inl early ↦ inr (inl (net, holds, early.0, early.1))
+  | inr store ↦ inr (inr (net, holds, store))
+]
+
+-- what texts ask is answered exactly, or the answer is refused
+pub asked_exactly : (r : Result Printed Refusal) (net : Net) (text : List ℕ) (weights file : Option (List ℕ)) (shelf : ShelfSeen) (query : Query) (vector : List (List Part)) → IsAsked net text weights query vector
+    → IfOk r (λ printed. IsReportedExactly (problem_of net query vector) file shelf printed.status printed.text) → IfOk r (λ printed. ForAsked net text weights (λ problem. IsReportedExactly problem file shelf printed.status printed.text))
+asked_exactly (Ok printed) net text weights file shelf query vector asked reported = (query, vector, asked, reported)
+asked_exactly (Err refusal) net text weights file shelf query vector asked reported = tt
+
+pub asked_inexactly : (r : Result Printed Refusal) (old new : ShelfSeen) (net : Net) (text : List ℕ) (weights file : Option (List ℕ)) (query : Query) (vector : List (List Part)) → IsAsked net text weights query vector
+    → IfErr r (λ refusal. FromDecidingExactly old new (problem_of net query vector) file refusal) → IfErr r (λ refusal. FromAnsweringExactly old new net text weights file refusal)
+asked_inexactly (Ok printed) old new net text weights file query vector asked cause = tt
+asked_inexactly (Err refusal) old new net text weights file query vector asked cause = elim cause [
+  | inl unsplit ↦ inl (inr (query, vector, asked, unsplit.0), unsplit.1)
+  | inr store ↦ inr (query, vector, asked, store)
+]
+
+pub shown_reported : (r : Result Printed Refusal) (problem : Problem) (file : Option (List ℕ)) (shelf : ShelfSeen) (answer : Answer) (t : TreeCertificate) (status nodes : ℕ) (text : Result (List ℕ) NoMemory)
+    → IsShownExactly problem answer t → status ≡ status_for answer.word → nodes ≡ length t.nodes → IfOk text (λ s. s ≡ exact_report_of problem.net problem.bounds (length problem.vector) answer nodes)
+    → IfOk r (λ printed. printed.status ≡ status) → IfOk r (λ printed. text ≡ Ok printed.text) → IfOk r (λ _. IsTreeStored file shelf t) → IfOk r (λ printed. IsReportedExactly problem file shelf printed.status printed.text)
+shown_reported (Err refusal) problem file shelf answer t status nodes text is due count told same made stored = tt
+shown_reported (Ok printed) problem file shelf answer t status nodes text is due count told same made stored = record {
+  answer = answer;
+  tree = t;
+  is = is;
+  stored = stored;
+  status_is = same ∙ due;
+  text_is = subst (λ (x : Result (List ℕ) NoMemory). IfOk x (λ s. s ≡ exact_report_of problem.net problem.bounds (length problem.vector) answer nodes)) made told
+      ∙ ap (λ n. exact_report_of problem.net problem.bounds (length problem.vector) answer n) count;
+}
+
+tree_not_kept : (old new : ShelfSeen) (problem : Problem) (file : Option (List ℕ)) (answer : Answer) (t : TreeCertificate) (refusal : Refusal) → IsShownExactly problem answer t → IsTreeNotKept old new file t refusal → FromTreeStore old new problem file refusal
+tree_not_kept old new problem file answer t TreeNotWritten is cause = (cause.0, cause.1, record { answer = answer; tree = t; is = is; long = cause.2 })
+tree_not_kept old new problem file answer t (CannotWrite named) is cause = cause
+tree_not_kept old new problem file answer t Memory is cause = cause
+tree_not_kept old new problem file answer t refusal is cause = elim cause [ ]
+
+pub shown_refused : (r : Result Printed Refusal) (old new : ShelfSeen) (problem : Problem) (file : Option (List ℕ)) (answer : Answer) (t : TreeCertificate) → IsShownExactly problem answer t
+    → IfErr r (λ refusal. IsTreeNotKept old new file t refusal) → IfErr r (λ refusal. FromDecidingExactly old new problem file refusal)
+shown_refused (Ok printed) old new problem file answer t is cause = tt
+shown_refused (Err refusal) old new problem file answer t is cause = inr (tree_not_kept old new problem file answer t refusal is cause)
+
+-- ---- check-exact
+
+-- a tree that is accepted for what texts ask of a network is an answer to a command
+pub check_exactly_answered : (r : Result Printed Refusal) (old later new : ShelfSeen) (name query file : List ℕ) (weights : Option (List ℕ)) (net : Net) → later ≡ old → (old.told ≡ true → HoldsNetwork (old.file name) net)
+    → IfOk r (λ printed. printed.status ≡ 0)
+    → IfOk r (λ printed. (bytes : List ℕ) × (t : TreeCertificate) × IsCertificateFile later file bytes × IsAcceptedTree net query weights bytes t × (printed.text ≡ accepted_text (word_of t.shown.claim)))
+    → IfOk r (λ printed. IsAnswered old new (CheckExact name query file weights) printed.status printed.text)
+check_exactly_answered (Ok printed) old later new name query file weights net same holds status accepted =
+    (net, accepted.0, accepted.1, holds, subst (λ (s : ShelfSeen). IsCertificateFile s file accepted.0) same accepted.2, accepted.3, status, accepted.4)
+check_exactly_answered (Err refusal) old later new name query file weights net same holds status accepted = tt
+
+pub check_exactly_refused : (r : Result Printed Refusal) (old later new : ShelfSeen) (name query file : List ℕ) (weights : Option (List ℕ)) (net : Net) → later ≡ old → (old.told ≡ true → HoldsNetwork (old.file name) net)
+    → IfErr r (λ refusal. FromCheckingExactly later new net query file weights refusal) → IfErr r (λ refusal. FromCommand old new (CheckExact name query file weights) refusal)
+check_exactly_refused (Ok printed) old later new name query file weights net same holds cause = tt
+check_exactly_refused (Err refusal) old later new name query file weights net same holds cause = elim (subst (λ (s : ShelfSeen). FromCheckingExactly s new net query file weights refusal) same cause) [
+  | inl texts ↦ inr (inl (net, holds, texts.0, texts.1))
+  | inr tree ↦ inr (inr (net, holds, tree))
+]
+
+pub believed_tree_accepted : (r : Result Printed Refusal) (shelf : ShelfSeen) (net : Net) (text file : List ℕ) (weights : Option (List ℕ)) (query : Query) (vector : List (List Part)) → IsAsked net text weights query vector
+    → IfOk r (λ printed. (bytes : List ℕ) × (t : TreeCertificate) × IsCertificateFile shelf file bytes × IsTreeText t bytes × IsTreeBelieved (problem_of net query vector) t × (printed.text ≡ accepted_text (word_of t.shown.claim)))
+    → IfOk r (λ printed. (bytes : List ℕ) × (t : TreeCertificate) × IsCertificateFile shelf file bytes × IsAcceptedTree net text weights bytes t × (printed.text ≡ accepted_text (word_of t.shown.claim)))
+believed_tree_accepted (Ok printed) shelf net text file weights query vector asked found =
+    let b = found.4 in
+    (found.0, found.1, found.2, record { query = query; vector = vector; asked = asked; problem_is = b.problem_is; reads = found.3; accepted = b.accepted; holds = b.holds }, found.5)
+believed_tree_accepted (Err refusal) shelf net text file weights query vector asked found = tt
+
+pub tree_file_believed : (r : Result Printed Refusal) (shelf : ShelfSeen) (problem : Problem) (file bytes : List ℕ) (t : TreeCertificate) → IsCertificateFile shelf file bytes → IsTreeText t bytes → OnOk r (IsTreeBelieved problem t)
+    → IfOk r (λ printed. printed.text ≡ accepted_text (word_of t.shown.claim))
+    → IfOk r (λ printed. (bytes : List ℕ) × (t : TreeCertificate) × IsCertificateFile shelf file bytes × IsTreeText t bytes × IsTreeBelieved problem t × (printed.text ≡ accepted_text (word_of t.shown.claim)))
+tree_file_believed (Ok printed) shelf problem file bytes t held reads believed text = (bytes, t, held, reads, believed, text)
+tree_file_believed (Err refusal) shelf problem file bytes t held reads believed text = tt
+
+tree_not_believed : (old new : ShelfSeen) (problem : Problem) (file bytes : List ℕ) (t : TreeCertificate) (refusal : Refusal) → IsProblem problem → IsCalm old new → IsCertificateFile old file bytes → IsTreeText t bytes → IsTreeNotBelieved problem t refusal
+    → FromTree old new problem file refusal
+tree_not_believed old new problem file bytes t (NotAccepted fault terms) is calm held reads cause = (calm, cause.0, record { problem_is = is; bytes = bytes; held = held; tree = t; reads = reads; refusal = cause.1 })
+tree_not_believed old new problem file bytes t Memory is calm held reads cause = calm
+tree_not_believed old new problem file bytes t refusal is calm held reads cause = elim cause [ ]
+
+pub tree_file_not_believed : (r : Result Printed Refusal) (old new : ShelfSeen) (problem : Problem) (file bytes : List ℕ) (t : TreeCertificate) → IsProblem problem → IsCalm old new → IsCertificateFile old file bytes → IsTreeText t bytes
+    → IfErr r (λ refusal. IsTreeNotBelieved problem t refusal) → IfErr r (λ refusal. FromTree old new problem file refusal)
+tree_file_not_believed (Ok printed) old new problem file bytes t is calm held reads cause = tt
+tree_file_not_believed (Err refusal) old new problem file bytes t is calm held reads cause = tree_not_believed old new problem file bytes t refusal is calm held reads cause
+
+pub tree_refused : (r : Result Printed Refusal) (old new : ShelfSeen) (net : Net) (text file : List ℕ) (weights : Option (List ℕ)) (query : Query) (vector : List (List Part)) → IsAsked net text weights query vector
+    → IfErr r (λ refusal. FromTree old new (problem_of net query vector) file refusal) → IfErr r (λ refusal. FromCheckingExactly old new net text file weights refusal)
+tree_refused (Ok printed) old new net text file weights query vector asked cause = tt
+tree_refused (Err refusal) old new net text file weights query vector asked cause = inr (query, vector, asked, cause)

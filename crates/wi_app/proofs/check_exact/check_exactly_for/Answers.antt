@@ -1,0 +1,16 @@
+use Rattle.wi_build.specs.Problems.{problem_of}
+use Rattle.wi_app.proofs.Exactly.{tree_file_believed, tree_file_not_believed}
+use Rattle.wi_app.proofs.Outcomes.{err_as}
+use Rattle.wi_app.proofs.check_exact.check_exactly_for.Goals as goal
+
+pub returns-in_err-tree-clause-refused : goal.returns-in_err-tree-clause-refused
+returns-in_err-tree-clause-refused g c = err_as _ _ _ c.from_residual.ensures.1 (c.in_err-tree.ensures.refused (problem_of c.args.net.now c.args.query.now c.args.vector.now))
+
+pub returns-clause-believed : goal.returns-clause-believed
+returns-clause-believed g c =
+    tree_file_believed c.believed-printed.result (g.S.Shelf.seen c.args.shelf.now) (problem_of c.args.net.now c.args.query.now c.args.vector.now) c.args.file.now c.in_ok-tree.ensures.read.0 c.in_ok-tree.tree c.in_ok-tree.ensures.read.1 c.in_ok-tree.ensures.read.2 c.believed-printed.ensures.believed c.believed-printed.ensures.text
+
+pub returns-clause-refused : goal.returns-clause-refused
+returns-clause-refused g c =
+    tree_file_not_believed c.believed-printed.result (g.S.Shelf.seen c.args.shelf.now) (g.S.Shelf.seen c.fetch_tree.new.shelf) (problem_of c.args.net.now c.args.query.now c.args.vector.now) c.args.file.now c.in_ok-tree.ensures.read.0 c.in_ok-tree.tree
+    (record { network = c.keeps.ensures; automata = c.keeps-2.ensures; bounds_of = c.requires }) c.in_ok-tree.ensures.calm c.in_ok-tree.ensures.read.1 c.in_ok-tree.ensures.read.2 c.believed-printed.ensures.refused

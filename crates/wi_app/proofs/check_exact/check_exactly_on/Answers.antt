@@ -1,0 +1,15 @@
+use Rattle.std.proofs.Common.{inl, refl}
+use Rattle.wi_app.proofs.Exactly.{believed_tree_accepted, tree_refused}
+use Rattle.wi_app.proofs.Outcomes.{err_as}
+use Rattle.wi_app.proofs.check_exact.check_exactly_on.Goals as goal
+
+pub returns-in_err-asked-clause-refused : goal.returns-in_err-asked-clause-refused
+returns-in_err-asked-clause-refused g c = err_as _ _ _ c.from_residual.ensures.1 (inl (c.in_err-asked.ensures.refused, refl))
+
+pub returns-clause-accepted : goal.returns-clause-accepted
+returns-clause-accepted g c =
+    believed_tree_accepted c.check_exactly_for-printed.result (g.S.Shelf.seen c.args.shelf.now) _ _ _ _ _ _ c.in_ok-asked.ensures.read c.check_exactly_for-printed.ensures.believed
+
+pub returns-clause-refused : goal.returns-clause-refused
+returns-clause-refused g c =
+    tree_refused c.check_exactly_for-printed.result (g.S.Shelf.seen c.args.shelf.now) (g.S.Shelf.seen c.check_exactly_for-printed.new.shelf) _ _ _ _ _ _ c.in_ok-asked.ensures.read c.check_exactly_for-printed.ensures.refused

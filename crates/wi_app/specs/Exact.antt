@@ -1,0 +1,103 @@
+-- Exact answers: the report on what texts ask of a network and why there is none, and the tree as it is stored and as it is checked.
+use Rattle.std.specs.Prelude.{◌≡◌, ℕ, ◌<◌, ◌≤◌, true, List, length, Option, Some, None}
+use Rattle.wi_base.specs.Shelf.{ShelfSeen}
+use Rattle.wi_net.specs.Net.{Net}
+use Rattle.wi_query.specs.declared.query.Query.{Query}
+use Rattle.wi_quantity.specs.declared.vector.Part.{Part}
+use Rattle.wi_trace.specs.declared.answer.Answer.{Answer}
+use Rattle.wi_build.specs.Problems.{Problem, IsProblem, problem_of}
+use Rattle.wi_cert.specs.declared.tree.TreeCertificate.{TreeCertificate}
+use Rattle.wi_cert.specs.declared.check_refused.CheckRefused.{CheckRefused}
+use Rattle.wi_cert.specs.Text.{IsBadLine}
+use Rattle.wi_cert.specs.Trees.{IsTreeText, tree_text, trees}
+use Rattle.wi_accept.specs.Answers.{answer_of}
+use Rattle.wi_accept.specs.Trees.{IsDecidedExactly, IsTreeAccepted, IsTreeRefusal}
+use Rattle.wi_branch.specs.declared.refused.ExactRefused.{ExactRefused}
+use Rattle.wi_branch.specs.declared.refused.ExactRefused.TheVariants as none
+use Rattle.wi_branch.specs.declared.opened.Opened.{Opened}
+use Rattle.wi_branch.specs.Exactly.{IsExact, IsInexact}
+use Rattle.wi_report.specs.Reports.{exact_report_of}
+use Rattle.wi_app.specs.Asked.{IsAsked}
+use Rattle.wi_app.specs.Certificates.{FromFile, IsCertificateFile, IsNamed}
+use Rattle.wi_app.specs.Decided.{status_for}
+use Rattle.wi_app.specs.Shelves.{IsCalm, StoreFailed}
+use Rattle.wi_app.specs.declared.refusal.Refusal.{Refusal}
+use Rattle.wi_app.specs.declared.refusal.Refusal.TheVariants.{CannotWrite, ManyNodes, Overflow, TooLong, TreeNotWritten, Memory}
+
+-- ---- answered
+-- an answer to a problem that holds without doubt, with the tree of at most 10,000 nodes that shows it; nothing speaks against that
+pub record IsShownExactly (problem : Problem) (answer : Answer) (tree : TreeCertificate) : Type 0 where
+  pub problem_is : IsProblem problem
+  pub exact : IsExact problem 10000 answer tree
+  pub accepted : IsTreeAccepted problem tree
+
+-- the tree's text stands under the name, if there is one
+abbrev pub IsTreeStored : Option (List ℕ) → ShelfSeen → TreeCertificate → Type 0
+IsTreeStored None shelf tree = Unit {0}
+IsTreeStored (Some name) shelf tree = (bytes : List ℕ) × IsTreeText tree bytes × (length bytes ≤ 268435456) × (shelf.told ≡ true → shelf.file name ≡ Some bytes)
+
+-- the report on such an answer, with its status; its tree stands under the name, if there is one
+pub record IsReportedExactly (problem : Problem) (file : Option (List ℕ)) (shelf : ShelfSeen) (status : ℕ) (text : List ℕ) : Type 0 where
+  pub answer : Answer
+  pub tree : TreeCertificate
+  pub is : IsShownExactly problem answer tree
+  pub stored : IsTreeStored file shelf tree
+  pub status_is : status ≡ status_for answer.word
+  pub text_is : text ≡ exact_report_of problem.net problem.bounds (length problem.vector) answer (length tree.nodes)
+
+-- at the branch that is next a summary's weight doesn't fit, or else the least run is too long; or it would be one node too many
+abbrev pub FromSplitting : Problem → Refusal → Type 0
+FromSplitting problem (Overflow w terms) =
+    (terms ≡ length problem.vector) × ((opened : List Opened) × (head : ℕ × ℕ) × (target : ℕ) × IsInexact problem 10000 (none.Overflow opened head target w))
+FromSplitting problem (TooLong effort) = (opened : List Opened) × IsInexact problem 10000 (none.TooLong opened effort)
+FromSplitting problem ManyNodes = (opened : List Opened) × IsInexact problem 10000 (none.NodeLimit opened)
+FromSplitting problem Memory = Unit {0}
+FromSplitting problem refusal = ⊥
+
+-- the status with which it then ends
+abbrev pub status_without : ExactRefused → ℕ
+status_without (none.Overflow opened head target w) = 6
+status_without (none.TooLong opened effort) = 7
+status_without (none.NodeLimit opened) = 13
+status_without none.Memory = 11
+
+abbrev pub EndsUnsplit : Problem → ℕ → Type 0
+EndsUnsplit problem status = (refused : ExactRefused) × IsInexact problem 10000 refused × (status ≡ status_without refused)
+
+-- an exact answer is shown by a tree that is too large to be written
+pub record IsTreeTooLarge (problem : Problem) : Type 0 where
+  pub answer : Answer
+  pub tree : TreeCertificate
+  pub is : IsShownExactly problem answer tree
+  pub long : 268435456 < length (tree_text tree)
+
+-- a tree is to be stored under the name, if there is one, and can't be
+abbrev pub FromTreeStore : ShelfSeen → ShelfSeen → Problem → Option (List ℕ) → Refusal → Type 0
+FromTreeStore old new problem file TreeNotWritten = IsCalm old new × IsNamed file × IsTreeTooLarge problem
+FromTreeStore old new problem file (CannotWrite named) = StoreFailed file named.now old new
+FromTreeStore old new problem file Memory = IsCalm old new
+FromTreeStore old new problem file refusal = ⊥
+
+-- ---- checked
+-- bytes are the text of a tree against which nothing speaks, for what texts ask of a network
+pub record IsAcceptedTree (net : Net) (text : List ℕ) (weights : Option (List ℕ)) (bytes : List ℕ) (t : TreeCertificate) : Type 0 where
+  pub query : Query
+  pub vector : List (List Part)
+  pub asked : IsAsked net text weights query vector
+  pub problem_is : IsProblem (problem_of net query vector)
+  pub reads : IsTreeText t bytes
+  pub accepted : IsTreeAccepted (problem_of net query vector) t
+  pub holds : IsDecidedExactly (problem_of net query vector) (answer_of (problem_of net query vector) t.shown)
+
+-- this speaks against the tree in a file, and nothing before it
+pub record IsRefusedTree (shelf : ShelfSeen) (problem : Problem) (name : List ℕ) (fault : CheckRefused) : Type 0 where
+  pub problem_is : IsProblem problem
+  pub bytes : List ℕ
+  pub held : IsCertificateFile shelf name bytes
+  pub tree : TreeCertificate
+  pub reads : IsTreeText tree bytes
+  pub refusal : IsTreeRefusal problem tree fault
+
+-- the tree's file is the cause
+abbrev pub FromTree : ShelfSeen → ShelfSeen → Problem → List ℕ → Refusal → Type 0
+FromTree old new problem name refusal = FromFile (IsBadLine trees) (IsRefusedTree old problem name) old new problem name refusal

@@ -3,3 +3,4 @@ pub mod LeafLaws
 pub mod TreeMaking
 pub mod ExactLaws
 pub mod FindingLaws
+pub mod ToleranceLaws

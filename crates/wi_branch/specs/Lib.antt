@@ -1,3 +1,4 @@
 pub mod Walks
 pub mod Exactly
+pub mod Tolerance
 pub mod private

@@ -4,12 +4,16 @@
 
 mod answers;
 mod branches;
+mod counting;
 mod course;
 mod finding;
 mod opened;
 mod refused;
+mod tolerance;
 mod tree;
 
 pub use answers::exact;
+pub use counting::tolerate;
 pub use opened::Opened;
 pub use refused::ExactRefused;
+pub use tolerance::{Tolerance, TolerateRefused};

@@ -39,7 +39,8 @@ struct Case<'a> {
     nodes: &'a [Node],
 }
 
-fn query_of(alloc: Global, net: &Network, text: &str) -> Result<Query, Fail>
+/// The query that a text is.
+pub fn query_of(alloc: Global, net: &Network, text: &str) -> Result<Query, Fail>
     ensures { IfOk result (λ query. AreBounds net.now query.bounds) }
 {
     match read_query(alloc, net, text) {
@@ -48,7 +49,8 @@ fn query_of(alloc: Global, net: &Network, text: &str) -> Result<Query, Fail>
     }
 }
 
-fn set_is(rt: &impl Abort, set: &FailSet, links: &[u32]) {
+/// A set has these links, in rising order.
+pub fn set_is(rt: &impl Abort, set: &FailSet, links: &[u32]) {
     assert_eq!(rt; set.len(), links.len());
     for (i, link) in links.iter().enumerate() {
         assert_eq!(rt; set.at(i), Some(LinkId(*link)));

@@ -4,3 +4,5 @@
 
 #[cfg(test)]
 mod exact;
+#[cfg(test)]
+mod tolerance;

@@ -1,0 +1,166 @@
+-- What an exact answer tells of the traces under so many failures, and that more risk groups than there are change nothing.
+use Rattle.std.proofs.Common.{◌≡◌, ℕ, zero, suc, ◌+◌, ◌<◌, ◌≤◌, min, true, nat_le, List, [], ◌∷◌, length, drop, slice_get, Option, Some, None, inl, inr, refl, arith, ap, ◌∙◌, subst, add-one}
+use borrow.Author.Count.{below_more}
+use Rattle.std.proofs.lemmas.Bool.{cases_lt}
+use Rattle.std.proofs.lemmas.Bool.Decides.{nat_tests}
+use Rattle.std.proofs.lemmas.List.{drop_all}
+use Rattle.std.proofs.lemmas.List.FromFn.{length-map-range_with_len}
+use Rattle.std.specs.List.{filter, list_any}
+use Rattle.std.specs.Prelude.{option_map}
+use Rattle.wi_net.specs.declared.parts.LinkId.{LinkId}
+use Rattle.wi_net.specs.LinkSet.{has, links_from, outside}
+use Rattle.wi_net.specs.Net.{Net, all_links, risk_count, same_risk, widened}
+use Rattle.wi_net.proofs.SetLemmas.{any_in, has-all_links, same_risk_self, union_link}
+use Rattle.wi_net.proofs.CountLemmas.{count_within, filter_same}
+use Rattle.wi_world.specs.declared.run.Run.{Run}
+use Rattle.wi_world.specs.declared.answer.Word.{Word}
+use Rattle.wi_world.specs.declared.answer.Word.TheVariants.{Yes, No, Inconclusive}
+use Rattle.wi_world.specs.declared.answer.Verdict.{Verdict}
+use Rattle.wi_world.specs.declared.answer.Verdict.TheVariants.{Fits, Exceeds, UsesFailed}
+use Rattle.wi_world.specs.Holds.{Question, Matches, Weighing}
+use Rattle.wi_world.specs.Moves.{is_trace, IsAllowed}
+use Rattle.wi_quantity.specs.declared.vector.Part.{Part}
+use Rattle.wi_quantity.specs.Weighing.{components}
+use Rattle.wi_query.specs.declared.query.Query.{Query}
+use Rattle.wi_trace.specs.declared.answer.Answer.{Answer}
+use Rattle.wi_trees.specs.Trees.{HoldsExactly, IsExactNo}
+use Rattle.wi_cert.specs.declared.tree.TreeCertificate.{TreeCertificate}
+use Rattle.wi_build.specs.Problems.{Problem, asks, weighs}
+use Rattle.wi_accept.specs.Trees.{IsDecidedExactly, IsTreeAccepted}
+use Rattle.wi_branch.specs.Exactly.{IsExact, IsInexact}
+use Rattle.wi_branch.specs.Tolerance.{HasTrace, IsStoppedUpTo, IsTolerated, ShowsBelow, ShowsNo, asked_at}
+use Rattle.wi_branch.specs.declared.refused.ExactRefused.{ExactRefused}
+use Rattle.wi_branch.specs.declared.refused.ExactRefused.TheVariants as exact
+use Rattle.wi_branch.specs.private.Counting.{AreTolerated, IsTrial, groups_besides, stopped_with, trial_by}
+
+-- ---- what an exact answer tells
+
+-- a yes shows a trace
+yes_shows : (net : Net) (question : Question) (weigh : Weighing) (w : Option (List ℕ)) (run : Option Run) (verdict : Option Verdict) → HoldsExactly net question weigh Yes w run verdict
+    → (fails : List LinkId) × (r : Run) × IsAllowed net question.bounds fails × (is_trace net fails r ≡ true) × Matches net question r
+yes_shows net question weigh (Some w) (Some run) (Some (Fits fails)) h = (fails, run, h.allowed, h.trace, h.matches)
+yes_shows net question weigh None run verdict h = elim h [ ]
+yes_shows net question weigh (Some w) None verdict h = elim h [ ]
+yes_shows net question weigh (Some w) (Some run) None h = elim h [ ]
+yes_shows net question weigh (Some w) (Some run) (Some (Exceeds n)) h = elim h [ ]
+yes_shows net question weigh (Some w) (Some run) (Some (UsesFailed e)) h = elim h [ ]
+
+-- a no says that there is none
+no_says : (net : Net) (question : Question) (weigh : Weighing) (w : Option (List ℕ)) (run : Option Run) (verdict : Option Verdict) → HoldsExactly net question weigh No w run verdict → IsExactNo net question
+no_says net question weigh None None None h = h
+no_says net question weigh (Some w) run verdict h = elim h [ ]
+no_says net question weigh None (Some run) verdict h = elim h [ ]
+no_says net question weigh None None (Some verdict) h = elim h [ ]
+
+module _ (problem : Problem) (answer : Answer) (holds : IsDecidedExactly problem answer) where
+  abbrev HoldsAs : Word → Type 0
+  HoldsAs word = HoldsExactly problem.net (asks problem) (weighs problem) word (option_map components answer.weight) answer.run answer.verdict
+
+  yes_traced : answer.word ≡ Yes → HasTrace problem
+  yes_traced is =
+      let shown = yes_shows problem.net (asks problem) (weighs problem) (option_map components answer.weight) answer.run answer.verdict (subst HoldsAs is holds) in
+      record { fails = shown.0; run = shown.1; allowed = shown.2; trace = shown.3; matches = shown.4 }
+
+  no_traced : answer.word ≡ No → HasTrace problem → ⊥
+  no_traced is has =
+      no_says problem.net (asks problem) (weighs problem) (option_map components answer.weight) answer.run answer.verdict (subst HoldsAs is holds)
+      has.fails has.run has.allowed has.trace has.matches
+
+  is_conclusive : answer.word ≡ Inconclusive → ⊥
+  is_conclusive is = subst HoldsAs is holds
+
+-- an exact answer tells of a number what its word says, where each smaller one is too few
+pub tried_tells : (asked : ℕ → Problem) (limit k : ℕ) (answer : Answer) (tree : TreeCertificate) (below : Option TreeCertificate) → AreTolerated asked k → ShowsBelow asked limit k below
+    → IsExact (asked k) limit answer tree → IsTreeAccepted (asked k) tree → IsTrial asked limit k (trial_by answer.word k answer tree below)
+tried_tells asked limit k answer tree below fewer shows exact accepted = go answer.word refl
+  where
+    go : (word : Word) → answer.word ≡ word → IsTrial asked limit k (trial_by word k answer tree below)
+    go Yes is = λ most within. (
+      within,
+      record { there = yes_traced (asked k) answer exact.holds is; least = fewer },
+      record { word = is; exact = exact; accepted = accepted },
+      shows,
+    )
+    go No is = (
+      below_more (IsTolerated asked) k fewer (no_traced (asked k) answer exact.holds is),
+      record { answer = answer; word = is; exact = exact; accepted = accepted },
+    )
+    go Inconclusive is = absurd (is_conclusive (asked k) answer exact.holds is)
+
+-- the tree of a no shows it for one failure more
+pub shows_below : (asked : ℕ → Problem) (limit k : ℕ) (tree : TreeCertificate) → ShowsNo (asked k) limit tree → ShowsBelow asked limit (k + 1) (Some tree)
+shows_below asked limit k tree shown = rw add-one shown
+
+-- where a number is too few, its exact answer is a no
+pub none_shows : (problem : Problem) (limit : ℕ) (answer : Answer) (tree : TreeCertificate) → (HasTrace problem → ⊥) → IsExact problem limit answer tree → IsTreeAccepted problem tree → ShowsNo problem limit tree
+none_shows problem limit answer tree tolerated exact accepted = go answer.word refl
+  where
+    go : (word : Word) → answer.word ≡ word → ShowsNo problem limit tree
+    go Yes is = absurd (tolerated (yes_traced problem answer exact.holds is))
+    go No is = record { answer = answer; word = is; exact = exact; accepted = accepted }
+    go Inconclusive is = absurd (is_conclusive problem answer exact.holds is)
+
+-- ---- where there is no exact answer
+
+pub stopped_tells : (asked : ℕ → Problem) (limit k : ℕ) (refused : ExactRefused) → AreTolerated asked k → IsInexact (asked k) limit refused
+    → (most : ℕ) → k ≤ most → IsStoppedUpTo asked most limit (stopped_with k refused)
+stopped_tells asked limit k (exact.Overflow opened head target w) fewer inexact most within = (within, fewer, (λ e. cc), inexact)
+stopped_tells asked limit k (exact.TooLong opened n) fewer inexact most within = (within, fewer, (λ e. cc), inexact)
+stopped_tells asked limit k (exact.NodeLimit opened) fewer inexact most within = (within, fewer, (λ e. cc), inexact)
+stopped_tells asked limit k exact.Memory fewer inexact most within = tt
+
+-- ---- past the number of risk groups
+
+-- all links are a union of risk groups
+filter_true : (s : List LinkId) → filter (λ e. true) s ≡ s
+filter_true [] = refl
+filter_true (x ∷ s) = ap (λ t. x ∷ t) (filter_true s)
+
+all_union : (net : Net) → widened net (all_links net) ≡ all_links net
+all_union net =
+    filter_same (λ e. list_any (λ d. same_risk net d e) (all_links net)) (λ e. true) (all_links net) (λ e h. any_in (λ d. same_risk net d e) (all_links net) e h (same_risk_self net e))
+    ∙ filter_true (all_links net)
+
+-- no more risk groups fail than there are
+groups_suffice : (net : Net) (query : Query) (vector : List (List Part)) (j n : ℕ) → groups_besides net query.bounds.down ≤ n → HasTrace (asked_at net query vector j) → HasTrace (asked_at net query vector n)
+groups_suffice net query vector j n all has = record {
+  fails = has.fails;
+  run = has.run;
+  allowed = record { union = has.allowed.union; down = has.allowed.down; up = has.allowed.up; few = few };
+  trace = has.trace;
+  matches = record { first = has.matches.first; path = has.matches.path; last = has.matches.last };
+}
+  where
+    within : risk_count net (outside has.fails query.bounds.down) ≤ groups_besides net query.bounds.down
+    within = count_within net has.fails (all_links net) query.bounds.down has.allowed.union (all_union net) (λ e h d. has-all_links net e ∙ union_link net has.fails e has.allowed.union h)
+
+    few : nat_le (risk_count net (outside has.fails query.bounds.down)) n ≡ true
+    few = grind (arith, nat_tests, within, all)
+
+-- where none is enough up to the number of risk groups, none is
+pub none_past : (net : Net) (query : Query) (vector : List (List Part)) (last most : ℕ) → last ≡ min (groups_besides net query.bounds.down) most → AreTolerated (asked_at net query vector) (last + 1)
+    → AreTolerated (asked_at net query vector) (most + 1)
+none_past net query vector last most is none j below =
+    elim (cases_lt last j) [
+      | inl past ↦ (λ has. none last (omega arith) (groups_suffice net query vector j last (omega (arith, is, past, below)) has))
+      | inr within ↦ none j (omega (arith, within))
+    ]
+
+-- ---- counting risk groups over all links
+
+-- a network's links in order
+links_at : (at n i : ℕ) → i < n → slice_get (links_from at n) i ≡ Some (record { 0 = at + i })
+links_at at zero i less = absurd (omega (arith, less))
+links_at at (suc n) zero less = let make : ℕ → Option LinkId = λ j. Some (record { 0 = j }) in ap make (omega arith)
+links_at at (suc n) (suc i) less = let make : ℕ → Option LinkId = λ j. Some (record { 0 = j }) in links_at (at + 1) n i (omega (arith, less)) ∙ ap make (omega arith)
+
+pub link_at : (net : Net) (i : ℕ) → i < length net.links → slice_get (all_links net) i ≡ Some (record { 0 = i })
+link_at net i less = let make : ℕ → Option LinkId = λ j. Some (record { 0 = j }) in links_at 0 (length net.links) i less ∙ ap make (omega arith)
+
+-- once all links were counted
+pub counted_all : (net : Net) (known : List LinkId) (n i : ℕ) → length net.links ≤ i → n + risk_count net (outside (drop i (all_links net)) known) ≡ groups_besides net known → n ≡ groups_besides net known
+counted_all net known n i all counted =
+    let make : ℕ → LinkId = λ j. record { 0 = j } in
+    let none : drop i (all_links net) ≡ [] = drop_all i (all_links net) (omega (arith, length-map-range_with_len make 0 (length net.links), all)) in
+    let rest : n + risk_count net (outside [] known) ≡ groups_besides net known = rw none at counted in
+    omega (arith, rest)

@@ -1,0 +1,232 @@
+//! How many failures it takes, by example.
+ghost use Rattle.wi_world.specs.Moves.{AreBounds};
+
+use crate::exact::{query_of, set_is};
+use std::alloc::Global;
+use std::process::Abort;
+use std::test::Fail;
+use wi_branch::{ExactRefused, Tolerance, TolerateRefused, tolerate};
+use wi_cert::{Claim, TreeCertificate};
+use wi_net::Network;
+use wi_quantity::Vector;
+use wi_query::Query;
+use wi_samples::{N1, N1_FIBER, N2, N3, Sample, network};
+use wi_trace::Answer;
+use wi_world::Verdict;
+
+const LIMIT: u32 = 10_000;
+
+// What the outcome is to be: the least number, with the links that have failed then; that there is none; or that at this number there
+// would be more nodes than the limit.
+#[derive(Clone, Copy)]
+enum Outcome<'a> {
+    Takes(u32, &'a [u32]),
+    TakesMore,
+    OverLimit(u32),
+}
+
+// A query, the most failures, the most nodes, and the outcome.
+type Case<'a> = (&'a str, u32, u32, Outcome<'a>);
+
+fn failed_are(rt: &impl Abort, answer: &Answer, links: &[u32]) {
+    match &answer.verdict {
+        Some(Verdict::Fits(set)) => set_is(rt, set, links),
+        _ => assert!(rt; false),
+    }
+}
+
+// A tree shows this.
+fn shows(tree: &TreeCertificate, claim: Claim) -> bool {
+    tree.shown.claim == claim
+}
+
+// Below the least number a tree shows a no, but for a number of 0.
+fn below_is(rt: &impl Abort, below: &Option<TreeCertificate>, k: u32) {
+    match below {
+        Some(tree) => assert!(rt; k > 0 && shows(tree, Claim::No)),
+        None => assert!(rt; k == 0),
+    }
+}
+
+fn found_is(rt: &impl Abort, found: &Tolerance, outcome: Outcome) {
+    match (found, outcome) {
+        (
+            Tolerance::At {
+                k,
+                answer,
+                yes,
+                below,
+            },
+            Outcome::Takes(number, links),
+        ) => {
+            assert_eq!(rt; *k, number);
+            failed_are(rt, answer, links);
+            assert!(rt; shows(yes, Claim::Yes));
+            below_is(rt, below, *k);
+        }
+        (Tolerance::NoneUpTo { no }, Outcome::TakesMore) => {
+            assert!(rt; shows(no, Claim::No));
+        }
+        _ => assert!(rt; false),
+    }
+}
+
+fn refused_is(rt: &impl Abort, refused: &TolerateRefused, outcome: Outcome) {
+    match (refused, outcome) {
+        (TolerateRefused::Exact(k, ExactRefused::NodeLimit { .. }), Outcome::OverLimit(number)) => {
+            assert_eq!(rt; *k, number);
+        }
+        _ => assert!(rt; false),
+    }
+}
+
+fn tells(rt: &impl Abort, alloc: Global, net: &Network, query: &Query, vector: &Vector, case: &Case)
+    requires { AreBounds net.now query.now.bounds }
+{
+    match tolerate(alloc, net, query, vector, case.1, case.2.min(LIMIT)) {
+        Ok(found) => {
+            found_is(rt, &found, case.3);
+            drop(found);
+        }
+        Err(refused) => {
+            refused_is(rt, &refused, case.3);
+            drop(refused);
+        }
+    }
+}
+
+fn case_is(rt: &impl Abort, alloc: Global, net: &Network, case: &Case) -> Result<(), Fail> {
+    let query = query_of(alloc, net, case.0)?;
+    let vector = Vector::new(alloc);
+    tells(rt, alloc, net, &query, &vector, case);
+    drop(vector);
+    drop(query);
+    Ok(())
+}
+
+fn cases_are(rt: &impl Abort, alloc: Global, net: &Network, cases: &[Case]) -> Result<(), Fail> {
+    for case in cases {
+        case_is(rt, alloc, net, case)?;
+    }
+    Ok(())
+}
+
+fn network_tells(
+    rt: &impl Abort,
+    alloc: Global,
+    sample: &Sample,
+    cases: &[Case],
+) -> Result<(), Fail> {
+    let net = network(alloc, sample)?;
+    let outcome = cases_are(rt, alloc, &net, cases);
+    drop(net);
+    outcome
+}
+
+// Two links have to fail on the way to z; the query's own number isn't used.
+const TO_Z: &[Case] = &[
+    (
+        "<ip1> [x#a] [a#c] .* [b#z] <ip1> 0",
+        3,
+        LIMIT,
+        Outcome::Takes(2, &[1, 4]),
+    ),
+    (
+        "<ip1> [x#a] [a#c] .* [b#z] <ip1> 65535",
+        2,
+        LIMIT,
+        Outcome::Takes(2, &[1, 4]),
+    ),
+    (
+        "<ip1> [x#a] [a#c] .* [b#z] <ip1> 0",
+        1,
+        LIMIT,
+        Outcome::TakesMore,
+    ),
+    (
+        "<ip1> [x#a] [a#c] .* [b#z] <ip1> 2",
+        0,
+        LIMIT,
+        Outcome::TakesMore,
+    ),
+    // One that is known to be down isn't counted, and one that stays up doesn't fail.
+    (
+        "<ip1> [x#a] [a#c] .* [b#z] <ip1> 0 down [a#b]",
+        65535,
+        LIMIT,
+        Outcome::Takes(1, &[1, 4]),
+    ),
+    (
+        "<ip1> [x#a] [a#c] .* [b#z] <ip1> 0 up [a#b]",
+        65535,
+        LIMIT,
+        Outcome::TakesMore,
+    ),
+];
+
+// What comes back takes the link that it needed to have failed, however many fail.
+const RETURNING: &[Case] = &[
+    (
+        "<ip1> [x#a] [a#c] [c#a] [a#b] .* <ip1> 5",
+        5,
+        LIMIT,
+        Outcome::TakesMore,
+    ),
+    // With none that may fail there is one node, and with one there are three.
+    (
+        "<ip1> [x#a] [a#c] [c#a] [a#b] .* <ip1> 5",
+        5,
+        2,
+        Outcome::OverLimit(1),
+    ),
+    (
+        "<ip1> [x#a] [a#c] [c#a] [a#b] .* <ip1> 5",
+        5,
+        0,
+        Outcome::OverLimit(0),
+    ),
+];
+
+// Without a failure the packet goes straight on, and with one around.
+const STRAIGHT: &[Case] = &[
+    (
+        "<ip1> [x#a] [a#b] [b#y] <ip1> 5",
+        5,
+        LIMIT,
+        Outcome::Takes(0, &[]),
+    ),
+    (
+        "<ip1> [x#a] [a#c] .* [b#y] <ip1> 0",
+        65535,
+        LIMIT,
+        Outcome::Takes(1, &[1]),
+    ),
+];
+
+// The link to y fails with the one to b.
+const FIBER: &[Case] = &[(
+    "<ip1> [x#a] [a#c] .* [b#y] <ip1> 0",
+    65535,
+    LIMIT,
+    Outcome::TakesMore,
+)];
+
+#[test]
+fn two_failures_lead_to_z(rt: HostRuntime) -> Result<(), Fail> {
+    network_tells(&rt, rt.alloc(), &N2, TO_Z)
+}
+
+#[test]
+fn no_number_of_failures_lets_it_return(rt: HostRuntime) -> Result<(), Fail> {
+    network_tells(&rt, rt.alloc(), &N3, RETURNING)
+}
+
+#[test]
+fn none_or_one_failure_is_enough(rt: HostRuntime) -> Result<(), Fail> {
+    network_tells(&rt, rt.alloc(), &N1, STRAIGHT)
+}
+
+#[test]
+fn a_risk_group_is_one_failure(rt: HostRuntime) -> Result<(), Fail> {
+    network_tells(&rt, rt.alloc(), &N1_FIBER, FIBER)
+}

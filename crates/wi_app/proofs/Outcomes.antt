@@ -52,7 +52,7 @@ use Rattle.wi_gen.specs.Ring.{net_of, ring_of}
 use Rattle.wi_gen.specs.Texts.{query_text, weights_text}
 use Rattle.wi_report.specs.Reports.{accepted_text}
 use Rattle.wi_report.specs.Summaries.{summary_of}
-use Rattle.wi_words.specs.Commands.{Command, Verify, Check, Play, Gen, Exact, CheckExact, Packets, Stack, command_of}
+use Rattle.wi_words.specs.Commands.{Command, Verify, Check, Play, Gen, Exact, CheckExact, Protect, Packets, Stack, command_of}
 use Rattle.wi_app.specs.Texts.{text_of, status_of, IsPutTogether}
 use Rattle.wi_app.specs.Edges.{Says, SaysWhy, kept}
 use Rattle.wi_app.specs.Shelves.{AllStand, IsCalm, OthersStand}
@@ -71,6 +71,7 @@ use Rattle.wi_app.specs.declared.refusal.Refusal.{Refusal}
 use Rattle.wi_app.specs.declared.refusal.Refusal.TheVariants.{CannotRead, CannotWrite, Network, Query as BadQuery, Weights as BadWeights, Overflow, TooLong, Script, LongScript, LargeCertificate, BadLine as BadCertificateLine, NotAccepted, NotWritten, ManyNodes, TreeNotWritten, NotHex, BadStack, Memory}
 use Rattle.wi_app.proofs.Answers.{answer_ends}
 use Rattle.wi_app.proofs.Exactly.{exact_answer_ends}
+use Rattle.wi_app.proofs.Protecting.{plan_due}
 
 -- ---- from the parts of a command to the whole
 
@@ -409,6 +410,7 @@ words_memory held (Some (Play name script k)) = inl refl
 words_memory held (Some (Gen seed size)) = (refl, tt)
 words_memory held (Some (Exact name query weights file)) = inl refl
 words_memory held (Some (CheckExact name query file weights)) = inl refl
+words_memory held (Some (Protect name)) = inl refl
 words_memory held (Some (Packets name query weights)) = inl refl
 words_memory held (Some (Stack hex)) = (refl, tt)
 
@@ -682,6 +684,11 @@ refused_ends old new (CheckExact name text file given) refusal t can calm (inr (
     let same : cause.0 ≡ can.0 = one_network (old.file name) cause.0 can.0 (cause.1 t) can.1 in
     let asked = subst (λ net. ForAsked net text given (λ problem. FromTree old new problem file refusal)) same cause.2 in
     wanting old (CheckExact name text file given) refusal (tree_wants old new can.0 text file given asked.0 asked.1 can.2.0 can.2.1 refusal t calm can.2.2 can.2.3 asked.2 asked.3)
+refused_ends old new (Protect name) refusal t can calm (inl network) = wanting old (Protect name) refusal (network_wants old new name refusal can.0 t can.1 calm network)
+refused_ends old new (Protect name) refusal t can calm (inr cause) = elim (plan_due cause.0 refusal cause.2) [
+  | inl want ↦ wanting old (Protect name) refusal want
+  | inr due ↦ (rw due.0 refl, inr (inr (due.0, (cause.0, cause.1 t, due.1))))
+]
 refused_ends old new (Packets name text given) refusal t can calm (inl network) = wanting old (Packets name text given) refusal (network_wants old new name refusal can.0 t can.1 calm network)
 refused_ends old new (Packets name text given) refusal t can calm (inr cause) =
     let same : cause.0 ≡ can.0 = one_network (old.file name) cause.0 can.0 (cause.1 t) can.1 in
@@ -723,6 +730,7 @@ answered_ends old new (Exact name query given file) status text t answer =
     let asked = answer.2 in
     (answer.0, answer.1 t, (asked.0, asked.1, asked.2, exact_answer_ends (problem_of answer.0 asked.0 asked.1) file new status text asked.3))
 answered_ends old new (CheckExact name query file given) status text t answer = answer.6
+answered_ends old new (Protect name) status text t answer = inl answer.3
 answered_ends old new (Packets name query given) status text t answer =
     (answer.0, answer.1 t, (answer.2.query, answer.2.vector, answer.2.asked, answer_ends packets_in (problem_of answer.0 answer.2.query answer.2.vector) None new status text answer.2.reported))
 answered_ends old new (Stack hex) status text t answer = inl answer.1

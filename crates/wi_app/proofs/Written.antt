@@ -47,11 +47,13 @@ use Rattle.wi_app.specs.Run.{AreAnswered, CanBeAnswered, Completes, Does, IsAnsw
 use Rattle.wi_app.specs.Shelves.{IsCalm, OthersStand}
 use Rattle.wi_app.specs.Texts.{status_of, text_of}
 use Rattle.wi_app.specs.declared.refusal.Refusal.{Refusal}
-use Rattle.wi_app.specs.declared.refusal.Refusal.TheVariants.{Network, Weights, Script, BadStack}
+use Rattle.wi_app.specs.declared.refusal.Refusal.TheVariants.{Network, Weights, Script, Plan, Unprotected, BadStack}
 use Rattle.wi_netjson.specs.declared.fault.NetFault.TheVariants as network_fault
 use Rattle.wi_quantity.specs.declared.fault.WeightFault.TheVariants as weights_fault
 use Rattle.wi_script.specs.declared.script.ScriptRefused.TheVariants as script_refused
 use Rattle.wi_wire.specs.declared.refused.StackRefused.TheVariants as stack_refused
+use Rattle.wi_planjson.specs.declared.refused.PlanRefused.TheVariants as plan_refused
+use Rattle.wi_protect.specs.declared.refused.ProtectRefused.TheVariants as protect_refused
 
 -- ---- the text isn't too long to be read
 -- what is done from each place on, whatever the steps are
@@ -186,6 +188,10 @@ status_high (Weights weights_fault.Memory) = omega arith
 status_high (Weights f) = omega arith
 status_high (Script script_refused.Memory) = omega arith
 status_high (Script f) = omega arith
+status_high (Plan plan_refused.Memory) = omega arith
+status_high (Plan f) = omega arith
+status_high (Unprotected protect_refused.Memory) = omega arith
+status_high (Unprotected f) = omega arith
 status_high (BadStack stack_refused.Memory) = omega arith
 status_high (BadStack f) = omega arith
 status_high refusal = omega arith

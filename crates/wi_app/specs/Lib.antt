@@ -6,6 +6,7 @@ pub mod Certificates
 pub mod Decided
 pub mod Exact
 pub mod Generated
+pub mod Protection
 pub mod OnWire
 pub mod Run
 pub mod private

@@ -17,7 +17,7 @@ use Rattle.wi_report.specs.Reports.{accepted_text}
 use Rattle.wi_accept.specs.Answers.{word_of}
 use Rattle.wi_cert.specs.declared.certificate.Certificate.{Certificate}
 use Rattle.wi_cert.specs.declared.tree.TreeCertificate.{TreeCertificate}
-use Rattle.wi_words.specs.Commands.{Command, Verify, Check, Play, Gen, Exact, CheckExact, Packets, Stack, command_of}
+use Rattle.wi_words.specs.Commands.{Command, Verify, Check, Play, Gen, Exact, CheckExact, Protect, Packets, Stack, command_of}
 use Rattle.wi_build.specs.Problems.{Problem}
 use Rattle.wi_query.specs.declared.query.Query.{Query}
 use Rattle.wi_quantity.specs.declared.vector.Part.{Part}
@@ -26,6 +26,7 @@ use Rattle.wi_app.specs.Certificates.{FromCertificate, FromStore, IsAcceptedText
 use Rattle.wi_app.specs.Decided.{EndsUndecided, FromTexts, IsAnswer, packets_in, report_in}
 use Rattle.wi_app.specs.Exact.{EndsUnsplit, FromSplitting, FromTree, FromTreeStore, IsAcceptedTree, IsReportedExactly, IsTreeTooLarge}
 use Rattle.wi_app.specs.Generated.{ForRing, FromRing, IsSummary}
+use Rattle.wi_app.specs.Protection.{FromPlan, HasNoProtection, IsProtecting}
 use Rattle.wi_app.specs.OnWire.{FromHex, IsShownHex, ShowsNoStack}
 use Rattle.wi_app.specs.Edges.{Untouched, PutAll, PutPart, PutNothing, SaysWhy}
 use Rattle.wi_app.specs.Shelves.{AllStand, FetchFailed, IsCalm, OthersStand}
@@ -65,6 +66,8 @@ IsAnswered old new (Exact name query weights file) status text =
 IsAnswered old new (CheckExact name query file weights) status text =
     (net : Net) × (bytes : List ℕ) × (t : TreeCertificate) × (old.told ≡ true → HoldsNetwork (old.file name) net) × IsCertificateFile old file bytes
     × IsAcceptedTree net query weights bytes t × (status ≡ 0) × (text ≡ accepted_text (word_of t.shown.claim))
+IsAnswered old new (Protect name) status text =
+    (bytes : List ℕ) × (old.told ≡ true → old.file name ≡ Some bytes) × IsProtecting bytes text × (status ≡ 0)
 IsAnswered old new (Packets name query weights) status text =
     (net : Net) × (old.told ≡ true → HoldsNetwork (old.file name) net) × IsAnswer packets_in net query weights None new status text
 IsAnswered old new (Stack hex) status text = IsShownHex hex text × (status ≡ 0)
@@ -129,6 +132,9 @@ FromCommand old new (CheckExact name query file weights) refusal =
     FromNetwork old new name refusal
     ⊎ ((net : Net) × (old.told ≡ true → HoldsNetwork (old.file name) net) × AreBadTexts net query weights refusal × IsCalm old new)
     ⊎ ((net : Net) × (old.told ≡ true → HoldsNetwork (old.file name) net) × ForAsked net query weights (λ problem. FromTree old new problem file refusal))
+FromCommand old new (Protect name) refusal =
+    FromNetwork old new name refusal
+    ⊎ ((bytes : List ℕ) × (old.told ≡ true → old.file name ≡ Some bytes) × FromPlan bytes refusal × IsCalm old new)
 FromCommand old new (Packets name query weights) refusal =
     FromNetwork old new name refusal
     ⊎ ((net : Net) × (old.told ≡ true → HoldsNetwork (old.file name) net) × FromTexts net query weights refusal × IsCalm old new)
@@ -180,7 +186,7 @@ abbrev pub CanBeAsked : ShelfSeen → List ℕ → List ℕ → Option (List ℕ
 CanBeAsked shelf name text weights = (net : Net) × HoldsNetwork (shelf.file name) net × ((query : Query) × (vector : List (List Part)) × IsAsked net text weights query vector)
 
 -- a command can be answered: texts can be asked of a network; or it is held with a certificate, too, that is accepted, or with a
--- script that can be played. A ring can always be generated, and any text read as bytes
+-- script that can be played; or it is held, with a plan or none. A ring can always be generated, and any text read as bytes
 abbrev pub CanBeAnswered : ShelfSeen → Command → Type 0
 CanBeAnswered shelf (Verify name text weights file) = CanBeAsked shelf name text weights
 CanBeAnswered shelf (Check name text file weights) = (net : Net) × HoldsNetwork (shelf.file name) net × ((bytes : List ℕ) × (c : Certificate) × IsCertificateFile shelf file bytes × IsAcceptedText net text weights bytes c)
@@ -188,6 +194,7 @@ CanBeAnswered shelf (Play name script k) = (net : Net) × HoldsNetwork (shelf.fi
 CanBeAnswered shelf (Gen seed size) = Unit {0}
 CanBeAnswered shelf (Exact name text weights file) = CanBeAsked shelf name text weights
 CanBeAnswered shelf (CheckExact name text file weights) = (net : Net) × HoldsNetwork (shelf.file name) net × ((bytes : List ℕ) × (t : TreeCertificate) × IsCertificateFile shelf file bytes × IsAcceptedTree net text weights bytes t)
+CanBeAnswered shelf (Protect name) = (net : Net) × HoldsNetwork (shelf.file name) net
 CanBeAnswered shelf (Packets name text weights) = CanBeAsked shelf name text weights
 CanBeAnswered shelf (Stack hex) = Unit {0}
 
@@ -220,6 +227,7 @@ IsStatus shelf (Play name script k) status = status ≡ 0
 IsStatus shelf (Gen seed size) status = (status ≡ 0) ⊎ ForRing seed size (λ problem. EndsUndecided problem status)
 IsStatus shelf (Exact name text weights file) status = (net : Net) × HoldsNetwork (shelf.file name) net × ForAsked net text weights (λ problem. MayEndExactly problem file status)
 IsStatus shelf (CheckExact name text file weights) status = status ≡ 0
+IsStatus shelf (Protect name) status = (status ≡ 0) ⊎ ((status ≡ 15) × ((bytes : List ℕ) × (shelf.file name ≡ Some bytes) × HasNoProtection bytes))
 IsStatus shelf (Packets name text weights) status = IsAskedStatus shelf name text weights None status
 IsStatus shelf (Stack hex) status = (status ≡ 0) ⊎ ((status ≡ 16) × ShowsNoStack hex)
 

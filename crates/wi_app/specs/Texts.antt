@@ -7,15 +7,18 @@ use Rattle.wi_quantity.specs.declared.fault.WeightFault.TheVariants as weights
 use Rattle.wi_report.specs.States.{script_fault_text}
 use Rattle.wi_report.specs.WeightFaults.{weight_fault_text}
 use Rattle.wi_report.specs.RefusedDecisions.{nodes_over_limit_text, overflow_text, too_long_text}
+use Rattle.wi_planjson.specs.declared.refused.PlanRefused.TheVariants as plan
+use Rattle.wi_protect.specs.declared.refused.ProtectRefused.TheVariants as protect
+use Rattle.wi_report.specs.PlanFaults.{plan_fault_text, protect_fault_text}
 use Rattle.wi_report.specs.CertificateFaults.{bad_line_text, certificate_fault_text}
 use Rattle.wi_report.specs.Stacks.{stack_refused_text}
 use Rattle.wi_wire.specs.declared.refused.StackRefused.TheVariants as stack
 use Rattle.wi_app.specs.declared.refusal.Refusal.{Refusal}
-use Rattle.wi_app.specs.declared.refusal.Refusal.TheVariants.{Usage, CannotRead, CannotWrite, Network, Query, Weights, Overflow, TooLong, Script, LongScript, LargeCertificate, BadLine, NotAccepted, NotWritten, ManyNodes, TreeNotWritten, NotHex, BadStack, CannotPrint, Memory}
+use Rattle.wi_app.specs.declared.refusal.Refusal.TheVariants.{Usage, CannotRead, CannotWrite, Network, Query, Weights, Overflow, TooLong, Script, LongScript, LargeCertificate, BadLine, NotAccepted, NotWritten, ManyNodes, TreeNotWritten, Plan, Unprotected, LargeNetwork, NotHex, BadStack, CannotPrint, Memory}
 
 -- what is said
 abbrev pub text_of : Refusal → List ℕ
-text_of Usage = codes "usage: whatif verify NETWORK QUERY [--weights W] [--certificate FILE]\n       whatif check NETWORK QUERY CERTIFICATE [--weights W]\n       whatif play NETWORK SCRIPT K\n       whatif gen SEED SIZE\n       whatif exact NETWORK QUERY [--weights W] [--certificate FILE]\n       whatif check-exact NETWORK QUERY CERTIFICATE [--weights W]\n       whatif packets NETWORK QUERY [--weights W]\n       whatif stack HEX\n"
+text_of Usage = codes "usage: whatif verify NETWORK QUERY [--weights W] [--certificate FILE]\n       whatif check NETWORK QUERY CERTIFICATE [--weights W]\n       whatif play NETWORK SCRIPT K\n       whatif gen SEED SIZE\n       whatif exact NETWORK QUERY [--weights W] [--certificate FILE]\n       whatif check-exact NETWORK QUERY CERTIFICATE [--weights W]\n       whatif protect PLAN\n       whatif packets NETWORK QUERY [--weights W]\n       whatif stack HEX\n"
 text_of (CannotRead name) = codes "whatif: cannot read " ++ name.now ++ codes "\n"
 text_of (CannotWrite name) = codes "whatif: cannot write " ++ name.now ++ codes "\n"
 text_of (Network f) = fault_text f
@@ -31,6 +34,9 @@ text_of (NotAccepted f terms) = certificate_fault_text terms f
 text_of NotWritten = codes "certificate: over the limit 268000000, not written\n"
 text_of ManyNodes = nodes_over_limit_text 10000
 text_of TreeNotWritten = codes "certificate: over the limit 268435456, not written\n"
+text_of (Plan refused) = plan_fault_text refused
+text_of (Unprotected refused) = protect_fault_text refused
+text_of LargeNetwork = codes "plan: file: over the limit 67108864\n"
 text_of NotHex = codes "wire: not hex\n"
 text_of (BadStack refused) = stack_refused_text refused
 text_of CannotPrint = codes "whatif: cannot print\n"
@@ -44,6 +50,7 @@ IsPutTogether LongScript = ⊥
 IsPutTogether LargeCertificate = ⊥
 IsPutTogether NotWritten = ⊥
 IsPutTogether TreeNotWritten = ⊥
+IsPutTogether LargeNetwork = ⊥
 IsPutTogether NotHex = ⊥
 IsPutTogether CannotPrint = ⊥
 IsPutTogether Memory = ⊥
@@ -70,6 +77,11 @@ status_of (NotAccepted f terms) = 8
 status_of NotWritten = 14
 status_of ManyNodes = 13
 status_of TreeNotWritten = 14
+status_of (Plan plan.Memory) = 11
+status_of (Plan refused) = 15
+status_of (Unprotected protect.Memory) = 11
+status_of (Unprotected refused) = 15
+status_of LargeNetwork = 15
 status_of NotHex = 16
 status_of (BadStack stack.Memory) = 11
 status_of (BadStack refused) = 16

@@ -11,6 +11,7 @@ use crate::check_exact::check_exact;
 use crate::exact::exact;
 use crate::packets::packets;
 use crate::play::play;
+use crate::protect::protect;
 use crate::refusal::Refusal;
 use crate::ring::summary_of_ring;
 use crate::stack::stack;
@@ -87,6 +88,7 @@ fn answer_to<'a, S: Shelf>(
             certificate,
             weights,
         } => check_exact(alloc, network, query, certificate, weights, shelf),
+        Command::Protect { plan } => protect(alloc, plan, shelf),
         Command::Packets {
             network,
             query,

@@ -14,7 +14,7 @@ use wi_net::Network;
 use wi_netjson::{NetFault, Place, read_network};
 
 /// The most bytes of a network file.
-const NETWORK_LIMIT: u32 = 67_108_864;
+pub const NETWORK_LIMIT: u32 = 67_108_864;
 
 /// The most bytes of a script.
 const SCRIPT_LIMIT: u64 = 1_048_576;
@@ -38,8 +38,8 @@ pub fn network<'a, S: Shelf>(
     }
 }
 
-// The bytes of a network file.
-fn network_bytes<'a, S: Shelf>(name: &'a str, shelf: &mut S) -> Result<Vec<u8>, Refusal<'a>>
+/// The bytes of a network file.
+pub fn network_bytes<'a, S: Shelf>(name: &'a str, shelf: &mut S) -> Result<Vec<u8>, Refusal<'a>>
     ensures told { (S.seen shelf.new).told ≡ (S.seen shelf.old).told }
     ensures files { AllStand (S.seen shelf.old) (S.seen shelf.new) }
     ensures calm { IfOk result (λ _. IsCalm (S.seen shelf.old) (S.seen shelf.new)) }

@@ -12,6 +12,7 @@ mod fetch;
 mod laws;
 mod packets;
 mod play;
+mod protect;
 mod refusal;
 mod ring;
 mod stack;

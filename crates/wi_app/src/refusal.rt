@@ -9,10 +9,13 @@ use std::alloc::Global;
 use wi_base::{NoMemory, PutRefused, Sink};
 use wi_cert::CheckRefused;
 use wi_netjson::NetFault;
+use wi_planjson::PlanRefused;
+use wi_protect::ProtectRefused;
 use wi_quantity::{Weight, WeightFault};
 use wi_report::{
     bad_line_text, certificate_fault_text, network_fault_text, nodes_over_limit_text,
-    overflow_text, script_fault_text, stack_refused_text, too_long_text, weight_fault_text,
+    overflow_text, plan_fault_text, protect_fault_text, script_fault_text, stack_refused_text,
+    too_long_text, weight_fault_text,
 };
 use wi_script::ScriptRefused;
 use wi_text::Text;
@@ -23,7 +26,7 @@ pub const NODE_LIMIT: u32 = 10_000;
 
 // What is said where the words are no command.
 const USAGE: &[u8] =
-    b"usage: whatif verify NETWORK QUERY [--weights W] [--certificate FILE]\n       whatif check NETWORK QUERY CERTIFICATE [--weights W]\n       whatif play NETWORK SCRIPT K\n       whatif gen SEED SIZE\n       whatif exact NETWORK QUERY [--weights W] [--certificate FILE]\n       whatif check-exact NETWORK QUERY CERTIFICATE [--weights W]\n       whatif packets NETWORK QUERY [--weights W]\n       whatif stack HEX\n";
+    b"usage: whatif verify NETWORK QUERY [--weights W] [--certificate FILE]\n       whatif check NETWORK QUERY CERTIFICATE [--weights W]\n       whatif play NETWORK SCRIPT K\n       whatif gen SEED SIZE\n       whatif exact NETWORK QUERY [--weights W] [--certificate FILE]\n       whatif check-exact NETWORK QUERY CERTIFICATE [--weights W]\n       whatif protect PLAN\n       whatif packets NETWORK QUERY [--weights W]\n       whatif stack HEX\n";
 
 // What is said where memory ran out.
 const NO_MEMORY: &[u8] = b"whatif: out of memory\n";
@@ -63,6 +66,12 @@ pub enum Refusal<'a> {
     ManyNodes,
     /// The tree would be too large, so it isn't written.
     TreeNotWritten,
+    /// The file has no plan over its network, for this reason.
+    Plan(PlanRefused),
+    /// The network that the plan asks for can't be made.
+    Unprotected(ProtectRefused),
+    /// Its text would be too long for a network file.
+    LargeNetwork,
     /// The text isn't bytes in hexadecimal.
     NotHex,
     /// The bytes begin with no label stack.
@@ -109,6 +118,11 @@ pub fn status_of(refusal: &Refusal<'_>) -> u8
         Refusal::NotWritten => 14,
         Refusal::ManyNodes => 13,
         Refusal::TreeNotWritten => 14,
+        Refusal::Plan(PlanRefused::Memory) => 11,
+        Refusal::Plan(_) => 15,
+        Refusal::Unprotected(ProtectRefused::Memory) => 11,
+        Refusal::Unprotected(_) => 15,
+        Refusal::LargeNetwork => 15,
         Refusal::NotHex => 16,
         Refusal::BadStack(StackRefused::Memory) => 11,
         Refusal::BadStack(_) => 16,
@@ -162,6 +176,9 @@ pub fn say<E: Sink>(alloc: Global, refusal: Refusal<'_>, err: &mut E) -> u8
                 err,
             )
         }
+        Refusal::Plan(refused) => put_made(plan_fault_text(alloc, refused), status, err),
+        Refusal::Unprotected(refused) => put_made(protect_fault_text(alloc, refused), status, err),
+        Refusal::LargeNetwork => put(b"plan: file: over the limit 67108864\n", status, err),
         Refusal::NotHex => put(b"wire: not hex\n", status, err),
         Refusal::BadStack(refused) => put_made(stack_refused_text(alloc, &refused), status, err),
         Refusal::CannotPrint => put(b"whatif: cannot print\n", status, err),

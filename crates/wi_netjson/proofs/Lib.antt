@@ -1,5 +1,6 @@
 pub mod Walk
 pub mod Json
+pub mod LineFeeds
 pub mod LinkRules
 pub mod Held
 pub mod FoundLemmas

@@ -4,6 +4,7 @@
 mod fault;
 mod file;
 mod labels;
+mod laws;
 mod links;
 mod operations;
 mod room;
@@ -14,4 +15,5 @@ mod written;
 
 pub use fault::{LinkPart, MemberPart, NetFault, Place, TablePart};
 pub use file::read_network;
+pub use laws::a_line_feed_changes_nothing;
 pub use written::write_network;

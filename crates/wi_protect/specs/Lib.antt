@@ -1,6 +1,7 @@
 pub mod Labels
 pub mod Rows
 pub mod Protected
+pub mod Protection
 pub mod OneWay
 pub mod Refusals
 pub mod private

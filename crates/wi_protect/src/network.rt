@@ -6,9 +6,11 @@ ghost use Rattle.wi_net.specs.Builder.{links_alone};
 ghost use Rattle.wi_plan.specs.Plans.{IsPlan};
 ghost use Rattle.wi_protect.specs.Refusals.{has_taken, has_too_many, Protects};
 ghost use Rattle.wi_protect.specs.Protected.{protected};
+ghost use Rattle.wi_protect.specs.Protection.{AreProtected};
 
 use crate::detours::detours_of;
 use crate::labels::{add_labels, bypass_label_count, has_taken, path_label_count};
+use crate::laws::protected_paths;
 use crate::refused::ProtectRefused;
 use crate::rows::{add_bypasses, add_paths};
 use std::alloc::Global;
@@ -20,6 +22,17 @@ use wi_plan::{Bypass, Path, Plan};
 /// tables: label-switched paths with facility backup (RFC 4090, 3.2), each label taken off one hop before its end (RFC 3031,
 /// 3.16). It is refused where the name of a new label is taken, and else where there would be too many labels.
 pub fn protect(alloc: Global, net: &Network, plan: &Plan) -> Result<Network, ProtectRefused>
+    requires { IsPlan net.now plan.now }
+    ensures network { Protects net.now plan.now result }
+    ensures paths { AreProtected net.now plan.now }
+{
+    net.keeps();
+    protected_paths();
+    made(alloc, net, plan)
+}
+
+// The network, if its labels can be added.
+fn made(alloc: Global, net: &Network, plan: &Plan) -> Result<Network, ProtectRefused>
     requires { IsPlan net.now plan.now }
     ensures { Protects net.now plan.now result }
 {

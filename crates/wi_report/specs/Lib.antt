@@ -1,6 +1,7 @@
 pub mod Shown
 pub mod States
 pub mod NetworkFaults
+pub mod PlanFaults
 pub mod QueryFaults
 pub mod WeightFaults
 pub mod Reports

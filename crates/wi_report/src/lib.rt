@@ -4,6 +4,7 @@
 mod certificate_faults;
 mod network_faults;
 mod packet_lines;
+mod plan_faults;
 mod query_faults;
 mod refused_decisions;
 mod reports;
@@ -17,6 +18,7 @@ mod weight_faults;
 pub use certificate_faults::{bad_line_text, certificate_fault_text};
 pub use network_faults::network_fault_text;
 pub use packet_lines::packets;
+pub use plan_faults::{plan_fault_text, protect_fault_text};
 pub use query_faults::query_fault_text;
 pub use refused_decisions::{nodes_over_limit_text, overflow_text, too_long_text};
 pub use reports::{accepted_text, exact_report, report};

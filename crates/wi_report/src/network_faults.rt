@@ -124,7 +124,8 @@ fn part(owner: &str, word: &str, text: &mut Text) -> Result<(), NoMemory>
     text.put(word)
 }
 
-fn element(list: &str, number: usize, text: &mut Text) -> Result<(), NoMemory>
+/// An element of a list, by its number from 0.
+pub(crate) fn element(list: &str, number: usize, text: &mut Text) -> Result<(), NoMemory>
     ensures { OnOk result (text.new ≡ text.old ++ element_text list.now number) }
 {
     text.put(list)?;

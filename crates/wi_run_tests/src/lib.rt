@@ -22,6 +22,8 @@ mod packets;
 #[cfg(test)]
 mod plays;
 #[cfg(test)]
+mod protect;
+#[cfg(test)]
 mod ring;
 #[cfg(test)]
 mod rings;

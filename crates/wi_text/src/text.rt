@@ -33,6 +33,13 @@ impl Text {
         }
     }
 
+    /// Bytes as a text. It takes no memory.
+    pub fn of(bytes: Vec<u8>) -> Text
+        ensures { result ≡ bytes.items }
+    {
+        Text { bytes }
+    }
+
     /// Adds a piece.
     pub fn put(&mut self, piece: &str) -> Result<(), NoMemory>
         ensures { OnOk result (self.new ≡ self.old ++ piece.now) }

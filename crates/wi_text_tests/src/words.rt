@@ -126,6 +126,15 @@ fn is_stack(rt: &impl Abort, alloc: Global, text: &str, hex: &str) -> Result<(),
     Ok(())
 }
 
+fn is_protect(rt: &impl Abort, alloc: Global, text: &str, plan: &str) -> Result<(), Fail> {
+    let words = words_of(alloc, text)?;
+    match command_of(alloc, words.as_slice())? {
+        Some(Command::Protect { plan: p }) => assert!(rt; p == plan, "{text}"),
+        _ => assert!(rt; false, "{text}"),
+    }
+    Ok(())
+}
+
 fn is_no_command(rt: &impl Abort, alloc: Global, text: &str) -> Result<(), Fail> {
     let words = words_of(alloc, text)?;
     assert!(rt; command_of(alloc, words.as_slice())?.is_none(), "{text}");
@@ -298,6 +307,21 @@ fn words_of_stack_are_found(rt: HostRuntime) -> Result<(), Fail> {
     Ok(())
 }
 
+// Words with the file of `protect`.
+const PLANS: &[(&str, &str)] = &[
+    ("whatif|protect|n", "n"),
+    ("whatif|protect|", ""),
+    ("whatif|protect|--|-n", "-n"),
+];
+
+#[test]
+fn words_of_protect_are_found(rt: HostRuntime) -> Result<(), Fail> {
+    for (text, plan) in PLANS {
+        is_protect(&rt, rt.alloc(), text, plan)?;
+    }
+    Ok(())
+}
+
 const NO_COMMANDS: &[&str] = &[
     // No verb, or another one.
     "",
@@ -313,6 +337,7 @@ const NO_COMMANDS: &[&str] = &[
     "whatif|generate|1|4",
     "whatif|packet|n|q",
     "whatif|stacks|00",
+    "whatif|Protect|n",
     // Help.
     "whatif|--help",
     "whatif|-h",
@@ -338,6 +363,8 @@ const NO_COMMANDS: &[&str] = &[
     "whatif|packets|n|q|w",
     "whatif|stack",
     "whatif|stack|00|00",
+    "whatif|protect",
+    "whatif|protect|n|n",
     // No number from 0 to 65,535.
     "whatif|play|n|s|",
     "whatif|play|n|s|65536",
@@ -383,6 +410,7 @@ const NO_COMMANDS: &[&str] = &[
     "whatif|packets|n|q|--certificate|c",
     "whatif|packets|n|q|--weights|a|--weights|b",
     "whatif|stack|00|--weights|a",
+    "whatif|protect|n|--weights|a",
     "whatif|stack|-1",
     "whatif|verify|n|q|--=W",
     "whatif|verify|-n|q",

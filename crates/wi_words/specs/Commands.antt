@@ -46,6 +46,10 @@ play = record (new_shape (codes "play")) { rules = operand (codes "NETWORK") ∷
 abbrev pub gen : Shape
 gen = record (new_shape (codes "gen")) { rules = operand (codes "SEED") ∷ operand (codes "SIZE") ∷ [] }
 
+-- `protect PLAN`
+abbrev pub protect : Shape
+protect = record (new_shape (codes "protect")) { rules = operand (codes "PLAN") ∷ [] }
+
 -- `packets NETWORK QUERY [--weights W]`
 abbrev pub packets : Shape
 packets = record (new_shape (codes "packets")) { rules = operand (codes "NETWORK") ∷ operand (codes "QUERY") ∷ option (codes "weights") ∷ [] }
@@ -57,7 +61,7 @@ stack = record (new_shape (codes "stack")) { rules = operand (codes "HEX") ∷ [
 -- the program's commands, one of which has to be given
 abbrev pub program : App
 program =
-    with_subcommand (with_subcommand (with_subcommand (with_subcommand (with_subcommand (with_subcommand (with_subcommand (with_subcommand (record { top = record (new_shape (codes "whatif")) { subcommand_required = true }; subs = [] }) verify) check) play) gen) exact) check_exact) packets) stack
+    with_subcommand (with_subcommand (with_subcommand (with_subcommand (with_subcommand (with_subcommand (with_subcommand (with_subcommand (with_subcommand (record { top = record (new_shape (codes "whatif")) { subcommand_required = true }; subs = [] }) verify) check) play) gen) exact) check_exact) protect) packets) stack
 
 -- clap takes the words: its parse has no fault
 abbrev pub is_empty : {X : Type 0} → List X → Bool
@@ -76,6 +80,7 @@ pub data Command : Type 0 where
   Gen : (seed size : ℕ) → Command
   Exact : (network query : Text) (weights certificate : Option Text) → Command
   CheckExact : (network query certificate : Text) (weights : Option Text) → Command
+  Protect : (plan : Text) → Command
   Packets : (network query : Text) (weights : Option Text) → Command
   Stack : (hex : Text) → Command
 
@@ -117,6 +122,9 @@ play_of rows =
 abbrev pub gen_of : List Row → Option Command
 gen_of rows = option_and_then (λ seed. option_map (λ size. Gen seed size) (option_and_then size_in (first_of (codes "SIZE") rows))) (option_and_then seed_in (first_of (codes "SEED") rows))
 
+abbrev pub protect_of : List Row → Option Command
+protect_of rows = option_map (λ plan. Protect plan) (first_of (codes "PLAN") rows)
+
 abbrev pub packets_of : List Row → Option Command
 packets_of rows = option_and_then (λ network. option_map (λ query. Packets network query (first_of (codes "weights") rows)) (first_of (codes "QUERY") rows)) (first_of (codes "NETWORK") rows)
 
@@ -131,6 +139,7 @@ command_named met =
     else if bytes_eq met.0 (codes "gen") then gen_of met.1
     else if bytes_eq met.0 (codes "exact") then asked_of Exact met.1
     else if bytes_eq met.0 (codes "check-exact") then checked_of CheckExact met.1
+    else if bytes_eq met.0 (codes "protect") then protect_of met.1
     else if bytes_eq met.0 (codes "packets") then packets_of met.1
     else if bytes_eq met.0 (codes "stack") then stack_of met.1
     else None

@@ -4,7 +4,7 @@ ghost use Rattle.std.specs.Prelude.{◌≡◌, IfOk, false};
 ghost use Rattle.clap.specs.Words.{app_of, rule_of, shape_of};
 ghost use Rattle.clap.specs.Simple.{with_subcommand};
 ghost use Rattle.clap.specs.declared.builder.command.Command.TheViews.{out-Command as fields_of};
-ghost use Rattle.wi_words.specs.Commands.{asking, check, check_exact, checking, exact, gen, operand, option, packets, play, program, stack, verify};
+ghost use Rattle.wi_words.specs.Commands.{asking, check, check_exact, checking, exact, gen, operand, option, packets, play, program, protect, stack, verify};
 
 use clap::{Arg, ArgAction, Command};
 use std::alloc::{AllocError, Global};
@@ -85,6 +85,16 @@ fn generate<'a>(alloc: Global) -> Result<Command<'a>, AllocError>
     Ok(command)
 }
 
+// `protect PLAN`
+fn protect<'a>(alloc: Global) -> Result<Command<'a>, AllocError>
+    ensures shape { IfOk result (λ c. shape_of c ≡ protect) }
+    ensures local { IfOk result (λ c. (fields_of c).has_globals ≡ false) }
+{
+    let plan = operand(alloc, "PLAN");
+    let command = Command::new(alloc, "protect").arg(plan)?;
+    Ok(command)
+}
+
 // `packets NETWORK QUERY [--weights W]`
 fn packets<'a>(alloc: Global) -> Result<Command<'a>, AllocError>
     ensures shape { IfOk result (λ c. shape_of c ≡ packets) }
@@ -137,6 +147,14 @@ fn with_trying<'a>(alloc: Global, whole: Command<'a>) -> Result<Command<'a>, All
     Ok(whole.subcommand(play)?.subcommand(generate)?)
 }
 
+// A program with the command on failover designs added.
+fn with_protect<'a>(alloc: Global, whole: Command<'a>) -> Result<Command<'a>, AllocError>
+    ensures { IfOk result (λ c. app_of c ≡ with_subcommand (app_of whole.entry) protect) }
+{
+    let protect = protect(alloc)?;
+    whole.subcommand(protect)
+}
+
 // A program with the commands on label stacks added.
 fn with_wire<'a>(alloc: Global, whole: Command<'a>) -> Result<Command<'a>, AllocError>
     ensures { IfOk result (λ c. app_of c ≡ with_subcommand (with_subcommand (app_of whole.entry) packets) stack) }
@@ -152,5 +170,5 @@ pub fn program<'a>(alloc: Global) -> Result<Command<'a>, AllocError>
 {
     let whole = Command::new(alloc, "whatif").subcommand_required(true);
     let whole = with_trying(alloc, with_asking(alloc, whole)?)?;
-    with_wire(alloc, with_exact(alloc, whole)?)
+    with_wire(alloc, with_protect(alloc, with_exact(alloc, whole)?)?)
 }

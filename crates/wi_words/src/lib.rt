@@ -59,6 +59,10 @@ pub enum Command<'a> {
         certificate: &'a str,
         weights: Option<&'a str>,
     },
+    /// `protect PLAN`: the name of the network file that has the plan.
+    Protect {
+        plan: &'a str,
+    },
     /// `packets NETWORK QUERY [--weights W]`: the name of the network file, the text of the query, and that of the weights.
     Packets {
         network: &'a str,

@@ -4,7 +4,7 @@ ghost use Rattle.std.specs.Prelude.{◌≡◌, ◌≤◌, ◌^◌, true, None, I
 ghost use Rattle.std.specs.Str.Parse.{digits_value};
 ghost use Rattle.wi_text.specs.Characters.{is_number};
 ghost use Rattle.clap.specs.Words.{first_of, found_of, rows_of, subcommand_rows_of};
-ghost use Rattle.wi_words.specs.Commands.{Check, CheckExact, Exact, IsFit, Verify, asked_of, checked_of, command_named, gen_of, most_failed, number_within, packets_of, play_of, seed_in, size_in, stack_of};
+ghost use Rattle.wi_words.specs.Commands.{Check, CheckExact, Exact, IsFit, Verify, asked_of, checked_of, command_named, gen_of, most_failed, number_within, packets_of, play_of, protect_of, seed_in, size_in, stack_of};
 ghost use Rattle.wi_words.specs.Shown.{shown};
 
 use crate::Command;
@@ -142,6 +142,14 @@ fn gen_of<'a>(matches: &ArgMatches<'a>) -> Option<Command<'a>>
     Some(Command::Gen { seed, size })
 }
 
+fn protect_of<'a>(matches: &ArgMatches<'a>) -> Option<Command<'a>>
+    ensures command { option_map shown result ≡ protect_of (rows_of (found_of matches.now)) }
+    ensures fit { IfSome result (λ c. IsFit (shown c)) }
+{
+    let plan = value_of(matches, "PLAN")?;
+    Some(Command::Protect { plan })
+}
+
 fn packets_of<'a>(matches: &ArgMatches<'a>) -> Option<Command<'a>>
     ensures command { option_map shown result ≡ packets_of (rows_of (found_of matches.now)) }
     ensures fit { IfSome result (λ c. IsFit (shown c)) }
@@ -176,6 +184,7 @@ fn command_named<'a>(name: &str, matches: &ArgMatches<'a>) -> Option<Command<'a>
         "gen" => gen_of(matches),
         "exact" => asked_of(matches, true),
         "check-exact" => checked_of(matches, true),
+        "protect" => protect_of(matches),
         "packets" => packets_of(matches),
         "stack" => stack_of(matches),
         _ => None,

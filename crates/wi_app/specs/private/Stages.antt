@@ -1,7 +1,10 @@
 -- The causes and the outcomes of the steps within a command.
-use Rattle.std.specs.Prelude.{◌≡◌, ◌⊎◌, ℕ, ◌<◌, ◌≤◌, true, List, length, Option, Some, None}
+use Rattle.std.specs.Prelude.{◌≡◌, ◌⊎◌, ℕ, ◌<◌, ◌≤◌, true, List, ◌++◌, length, codes, Option, Some, None, Ok}
 use Rattle.wi_base.specs.Shelf.{ShelfSeen, IsLonger}
 use Rattle.wi_net.specs.Net.{Net}
+use Rattle.wi_netjson.specs.File.{network_of}
+use Rattle.wi_netjson.specs.Reading.{Fails}
+use Rattle.wi_netjson.specs.Written.{text_of}
 use Rattle.wi_trace.specs.declared.answer.Answer.{Answer}
 use Rattle.wi_build.specs.Problems.{Problem, IsProblem}
 use Rattle.wi_cert.specs.declared.certificate.Certificate.{Certificate}
@@ -11,7 +14,7 @@ use Rattle.wi_accept.specs.Causes.{IsAccepted, IsRefusal}
 use Rattle.wi_app.specs.declared.verify.Content.{Content}
 use Rattle.wi_app.specs.declared.verify.Content.TheVariants.{Report, ReportAndPackets}
 use Rattle.wi_app.specs.declared.refusal.Refusal.{Refusal}
-use Rattle.wi_app.specs.declared.refusal.Refusal.TheVariants.{CannotRead, CannotWrite, Script as BadScript, LargeCertificate, NotAccepted, NotWritten, TreeNotWritten, BadStack, Memory}
+use Rattle.wi_app.specs.declared.refusal.Refusal.TheVariants.{CannotRead, CannotWrite, Network, LargeNetwork, Script as BadScript, LargeCertificate, NotAccepted, NotWritten, TreeNotWritten, BadStack, Memory}
 use Rattle.wi_app.specs.Asked.{AreBadTexts, ForAsked}
 use Rattle.wi_app.specs.Certificates.{FromCertificate, FromStore, IsNamed}
 use Rattle.wi_app.specs.Decided.{FromDecision, FromTexts, packets_in, report_in}
@@ -19,6 +22,7 @@ use Rattle.wi_cert.specs.declared.tree.TreeCertificate.{TreeCertificate}
 use Rattle.wi_cert.specs.Trees.{tree_text}
 use Rattle.wi_accept.specs.Trees.{IsDecidedExactly, IsTreeAccepted, IsTreeRefusal}
 use Rattle.wi_app.specs.Exact.{FromSplitting, FromTree, FromTreeStore}
+use Rattle.wi_app.specs.Protection.{FromPlan}
 use Rattle.wi_app.specs.OnWire.{IsRefusedStack}
 use Rattle.wi_app.specs.Run.{IsBadScript}
 use Rattle.wi_app.specs.Shelves.{FetchFailed, IsCalm, StoreFailed}
@@ -29,6 +33,24 @@ abbrev pub FromBytes : Net → ℕ → List ℕ → Refusal → Type 0
 FromBytes net k bytes (BadScript refused) = IsBadScript net k bytes refused
 FromBytes net k bytes Memory = Unit {0}
 FromBytes net k bytes refusal = ⊥
+
+-- ---- protect
+-- bytes are no network's, or their plan is the cause
+abbrev pub FromPlanFile : List ℕ → Refusal → Type 0
+FromPlanFile bytes (Network fault) = Fails fault (network_of bytes)
+FromPlanFile bytes refusal = FromPlan bytes refusal
+
+-- the text of a network as a file, and a line feed, with which it is the network's still
+pub record IsWritten (net : Net) (text : List ℕ) : Type 0 where
+  pub short : length (text_of net) ≤ 67108864
+  pub text_is : text ≡ text_of net ++ codes "\n"
+  pub again : length text ≤ 67108864 → network_of text ≡ Ok net
+
+-- it is too long
+abbrev pub FromWriting : Net → Refusal → Type 0
+FromWriting net LargeNetwork = 67108864 < length (text_of net)
+FromWriting net Memory = Unit {0}
+FromWriting net refusal = ⊥
 
 -- ---- stack
 -- bytes are the cause, which begin with no stack

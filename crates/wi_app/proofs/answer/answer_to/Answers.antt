@@ -17,6 +17,12 @@ pub returns-in-Gen-clause-answered : goal.returns-in-Gen-clause-answered
 returns-in-Gen-clause-answered g c =
     rw c.in-Gen.is (ring_answered c.summary_of_ring.result (g.S.Shelf.seen c.args.shelf.now) (g.S.Shelf.seen c.args.shelf.now) c.in-Gen.seed c.in-Gen.size c.summary_of_ring.ensures.status c.summary_of_ring.ensures.summary)
 
+pub returns-in-Protect-clause-answered : goal.returns-in-Protect-clause-answered
+returns-in-Protect-clause-answered g c = rw c.in-Protect.is c.protect.ensures.answered
+
+pub returns-in-Protect-clause-refused : goal.returns-in-Protect-clause-refused
+returns-in-Protect-clause-refused g c = rw c.in-Protect.is c.protect.ensures.refused
+
 pub returns-in-Packets-clause-answered : goal.returns-in-Packets-clause-answered
 returns-in-Packets-clause-answered g c = rw c.in-Packets.is c.packets.ensures.answered
 

@@ -60,3 +60,15 @@ returns-in-ManyNodes-clause-said g c =
 pub returns-in-TreeNotWritten-clause-said : goal.returns-in-TreeNotWritten-clause-said
 returns-in-TreeNotWritten-clause-said g c =
     said_words _ _ _ (g.E.Sink.seen c.args.err.now) (g.E.Sink.seen c.put-in-TreeNotWritten.new.err) _ c.in-TreeNotWritten.is c.status_of-status.ensures c.put-in-TreeNotWritten.ensures.said
+
+pub returns-in-Plan-clause-said : goal.returns-in-Plan-clause-said
+returns-in-Plan-clause-said g c =
+    said_made _ _ _ (g.E.Sink.seen c.args.err.now) (g.E.Sink.seen c.put_made-in-Plan.new.err) _ c.in-Plan.is c.status_of-status.ensures tt (c.put_made-in-Plan.ensures.said _ c.plan_fault_text.ensures)
+
+pub returns-in-Unprotected-clause-said : goal.returns-in-Unprotected-clause-said
+returns-in-Unprotected-clause-said g c =
+    said_made _ _ _ (g.E.Sink.seen c.args.err.now) (g.E.Sink.seen c.put_made-in-Unprotected.new.err) _ c.in-Unprotected.is c.status_of-status.ensures tt (c.put_made-in-Unprotected.ensures.said _ c.protect_fault_text.ensures)
+
+pub returns-in-LargeNetwork-clause-said : goal.returns-in-LargeNetwork-clause-said
+returns-in-LargeNetwork-clause-said g c =
+    said_words _ _ _ (g.E.Sink.seen c.args.err.now) (g.E.Sink.seen c.put-in-LargeNetwork.new.err) _ c.in-LargeNetwork.is c.status_of-status.ensures c.put-in-LargeNetwork.ensures.said

@@ -1,0 +1,4 @@
+use Rattle.wi_protect.proofs.network.protect.Goals as goal
+
+pub returns-clause-paths : goal.returns-clause-paths
+returns-clause-paths c = c.protected_paths.ensures c.args.net.now c.args.plan.now c.keeps.ensures c.requires

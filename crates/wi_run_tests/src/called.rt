@@ -159,7 +159,8 @@ pub fn is_said_between(
     Ok(())
 }
 
-fn between<'a>(text: &'a str, front: &str, end: &str) -> Option<&'a str> {
+/// What stands in a text between a front and an end.
+pub fn between<'a>(text: &'a str, front: &str, end: &str) -> Option<&'a str> {
     text.strip_prefix(front)?.strip_suffix(end)
 }
 

@@ -1,5 +1,5 @@
 //! What `protect` makes of plans, and the first fault of those that ask for no network.
-use crate::called::{begins, is_said, ran, shelf_with, verified};
+use crate::called::{begins, between, is_said, ran, shelf_with, verified};
 use std::alloc::{AllocError, Global};
 use std::process::Abort;
 use std::test::Fail;
@@ -19,6 +19,68 @@ const AROUND: &str =
 // Labels 0, 1 and 2 are b1.1, p1.1 and ip1; the tables are those of links 0, 1, 3 and 2, in this order.
 const PROTECTED: &str =
     r#"{"format":"mpls-whatif-1","labels":{"ip":["ip1"],"mpls":["b1.1"],"smpls":["p1.1"]},"links":[{"distance":1,"from":"x","in":"x","out":"o","to":"a"},{"distance":1,"from":"a","in":"a","out":"b","to":"b"},{"distance":2,"from":"a","in":"a","out":"c","to":"c"},{"distance":2,"from":"c","in":"c","out":"b","to":"b"},{"distance":1,"from":"b","in":"b","out":"y","to":"y"}],"routers":["x","a","b","c","y"],"tables":[{"at":"a","groups":[[{"ops":[["push","p1.1"]],"out":"b"}],[{"ops":[["push","p1.1"],["push","b1.1"]],"out":"c"}]],"in":"x","label":"ip1"},{"at":"b","groups":[[{"ops":[["pop"]],"out":"y"}]],"in":"a","label":"p1.1"},{"at":"b","groups":[[{"ops":[["pop"]],"out":"y"}]],"in":"c","label":"p1.1"},{"at":"c","groups":[[{"ops":[["pop"]],"out":"b"}]],"in":"a","label":"b1.1"}]}"#;
+
+// A path that passes a twice, and a bypass of one link, which is a link of the same path.
+const TWICE: &str =
+    r#""paths":[{"ip":"ip1","links":[["x","o"],["a","b"],["b","a"],["a","d"],["b","y"]]}],"bypasses":[{"link":["a","d"],"via":[["a","b"]]}]"#;
+
+// Paths that share links with one another, and with a bypass.
+const SHARED: &str =
+    r#""paths":[{"ip":"ip1","links":[["x","o"],["a","b"],["b","y"]]},{"ip":"ip2","links":[["x","o"],["a","c"],["c","b"],["b","y"]]}],"bypasses":[{"link":["a","b"],"via":[["a","c"],["c","b"]]}]"#;
+
+// What `verify` begins with for a query of the network that is made of a network with these members besides.
+const WAYS: &[(&str, &str, &str, &str)] = &[
+    (
+        BARE,
+        AROUND,
+        "<ip1> [x#a] [a#c] .* [b#y] <ip1> 1",
+        "0<answer: yes\nweight: none\neffort: 10\nfailed: a.b#b.a\nmoving: yes\nlinks: 4\n",
+    ),
+    (
+        BARE,
+        AROUND,
+        "<ip1> [x#a] [a#c] .* [b#y] <ip1> 0",
+        "1<answer: no\n",
+    ),
+    // The first link and the last have no way around.
+    (
+        BARE,
+        AROUND,
+        "<ip1> [x#a] .* [b#y] <ip1> 0 down [b#y]",
+        "1<answer: no\n",
+    ),
+    (
+        PLAIN,
+        TWICE,
+        "<ip1> [x#a] [a.b#b] [b#a] [a.d#b] [b#y] <ip1> 0",
+        "0<answer: yes\n",
+    ),
+    (
+        PLAIN,
+        TWICE,
+        "<ip1> [x#a] [a.b#b] [b#a] [a.b#b] [b#y] <ip1> 0 down [a.d#b]",
+        "0<answer: yes\n",
+    ),
+    (
+        PLAIN,
+        SHARED,
+        "<ip2> [x#a] [a#c] [c#b] [b#y] <ip2> 0",
+        "0<answer: yes\n",
+    ),
+    (
+        PLAIN,
+        SHARED,
+        "<ip1> [x#a] [a#c] [c#b] [b#y] <ip1> 0 down [a.b#b]",
+        "0<answer: yes\n",
+    ),
+    // The second path has no bypass.
+    (
+        PLAIN,
+        SHARED,
+        "<ip2> [x#a] .* [b#y] <ip2> 0 down [a#c]",
+        "1<answer: no\n",
+    ),
+];
 
 // What is said of the network with these members besides.
 const REFUSED: &[(&str, &str, &str)] = &[
@@ -119,19 +181,28 @@ fn the_canonical_text_is_printed(rt: HostRuntime) -> Result<(), Fail> {
     said
 }
 
+// What `verify` ends with for a query of what `protect` prints.
+fn verified_as_planned(
+    alloc: Global,
+    network: &str,
+    members: &str,
+    query: &str,
+) -> Result<String, Fail> {
+    let said = planned(alloc, network, members)?;
+    let answer = match between(said.as_str(), "0<", "><>") {
+        Some(printed) => verified(alloc, printed.as_bytes(), query),
+        None => Err(Fail::new("nothing was printed")),
+    };
+    drop(said);
+    answer
+}
+
 #[test]
-fn what_is_printed_is_a_network(rt: HostRuntime) -> Result<(), Fail> {
-    let printed = format!(in rt.alloc(); "{PROTECTED}\n")?;
-    let bytes = printed.as_bytes();
-    let around = verified(rt.alloc(), bytes, "<ip1> [x#a] [a#c] .* [b#y] <ip1> 1");
-    begins(
-        &rt,
-        around,
-        "0<answer: yes\nweight: none\neffort: 10\nfailed: a.b#b.a\nmoving: yes\nlinks: 4\n",
-    )?;
-    let none = verified(rt.alloc(), bytes, "<ip1> [x#a] [a#c] .* [b#y] <ip1> 0");
-    is_said(&rt, none, "1<answer: no\nmoving: no\n><>")?;
-    drop(printed);
+fn packets_go_as_planned(rt: HostRuntime) -> Result<(), Fail> {
+    for (network, members, query, wanted) in WAYS {
+        let said = verified_as_planned(rt.alloc(), network, members, query);
+        begins(&rt, said, wanted)?;
+    }
     Ok(())
 }
 

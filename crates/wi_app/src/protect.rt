@@ -1,12 +1,7 @@
 //! A plan stands in the file of its network, so the bytes are read twice, as the one and as the other. Each part is let go as soon as the
 //! next is there.
-ghost use Rattle.std.specs.Prelude.{◌≡◌, Ok, None, IfOk, IfErr};
-ghost use Rattle.wi_net.specs.Net.{Net};
-ghost use Rattle.wi_net.specs.Network.{IsNetwork};
+ghost use Rattle.std.specs.Prelude.{◌≡◌, Ok, IfOk, IfErr};
 ghost use Rattle.wi_netjson.specs.File.{network_of};
-ghost use Rattle.wi_plan.specs.declared.plan.Plan.{Plan};
-ghost use Rattle.wi_protect.specs.Protected.{protected};
-ghost use Rattle.wi_protect.specs.Refusals.{fault_of};
 ghost use Rattle.wi_words.specs.Commands.{Protect};
 ghost use Rattle.wi_app.specs.Protection.{FromPlan, IsPlanned, IsProtecting};
 ghost use Rattle.wi_app.specs.Run.{FromCommand, IsAnswered};

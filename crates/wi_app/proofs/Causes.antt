@@ -1,5 +1,5 @@
 -- What is a cause of a refusal.
-use Rattle.std.proofs.Common.{◌≡◌, ℕ, ◌<◌, Bool, true, false, List, length, Option, Some, None, Result, Err, refl, subst, arith}
+use Rattle.std.proofs.Common.{◌≡◌, ℕ, ◌<◌, Bool, true, false, List, [], ◌∷◌, ◌++◌, length, length-append, Option, Some, None, Result, Err, ap, refl, subst, arith}
 use Rattle.std.specs.Prelude.{nat_le}
 use Rattle.std.proofs.lemmas.Bool.{leb-true}
 use Rattle.wi_base.specs.declared.shelf.CallKind.{CallKind}
@@ -34,3 +34,7 @@ too_big_calls {T} answer why name before after e is calls =
 -- which refusal it is
 pub is_err : {T E : Type 0} (answer : Result T E) (why known : E) → answer ≡ Err why → why ≡ known → answer ≡ Err known
 is_err answer why known e is = rw (e, is) refl
+
+-- a call more that failed is seen
+pub longer : {X : Type 0} (xs : List X) (x : X) → xs ++ x ∷ [] ≡ xs → ⊥
+longer xs x e = let count : length (xs ++ x ∷ []) ≡ length xs = ap length e in let more = length-append xs (x ∷ []) in absurd (omega (arith, count, more))

@@ -1,5 +1,5 @@
 -- Exact answers: what they show can be shown, and from the parts of both commands to the whole.
-use Rattle.std.proofs.Common.{◌≡◌, ℕ, true, List, length, Option, Some, None, Result, Ok, Err, inl, inr, ap, subst, ◌∙◌}
+use Rattle.std.proofs.Common.{◌≡◌, ◌⊎◌, ℕ, nat_eq, true, false, List, length, Option, Some, None, Result, Ok, Err, inl, inr, ap, refl, subst, ◌∙◌}
 use Rattle.std.specs.Prelude.{option_map, IfErr, IfOk, IfSome, OnOk}
 use Rattle.wi_base.specs.Shelf.{ShelfSeen}
 use Rattle.wi_base.specs.declared.no_memory.NoMemory.{NoMemory}
@@ -20,18 +20,20 @@ use Rattle.wi_cert.specs.Trees.{IsTreeText}
 use Rattle.wi_trees.specs.Trees.{HoldsExactly}
 use Rattle.wi_accept.specs.Answers.{word_of}
 use Rattle.wi_accept.specs.Trees.{IsDecidedExactly}
+use Rattle.wi_branch.specs.declared.refused.ExactRefused.TheVariants as none
 use Rattle.wi_report.specs.Reports.{IsKnownRun, accepted_text, exact_report_of}
-use Rattle.wi_words.specs.Commands.{Exact, CheckExact}
-use Rattle.wi_app.specs.Asked.{ForAsked, IsAsked}
+use Rattle.wi_words.specs.Commands.{CheckExact}
+use Rattle.wi_app.specs.Asked.{IsAsked}
 use Rattle.wi_app.specs.Certificates.{IsCertificateFile}
 use Rattle.wi_app.specs.Decided.{status_for}
-use Rattle.wi_app.specs.Exact.{FromTree, FromTreeStore, IsAcceptedTree, IsReportedExactly, IsShownExactly, IsTreeStored}
+use Rattle.wi_app.specs.Exact.{EndsUnsplit, FromSplitting, FromTree, FromTreeStore, IsTreeTooLarge, IsAcceptedTree, IsReportedExactly, IsShownExactly, IsTreeStored}
 use Rattle.wi_app.specs.Run.{FromCommand, HoldsNetwork, IsAnswered, MayEndExactly}
 use Rattle.wi_app.specs.Shelves.{IsCalm}
+use Rattle.wi_app.specs.Texts.{status_of}
 use Rattle.wi_app.specs.declared.answer.Printed.{Printed}
 use Rattle.wi_app.specs.declared.refusal.Refusal.{Refusal}
-use Rattle.wi_app.specs.declared.refusal.Refusal.TheVariants.{CannotWrite, NotAccepted, TreeNotWritten, Memory}
-use Rattle.wi_app.specs.private.Stages.{FromAnsweringExactly, FromCheckingExactly, FromDecidingExactly, IsTreeBelieved, IsTreeNotBelieved, IsTreeNotKept}
+use Rattle.wi_app.specs.declared.refusal.Refusal.TheVariants.{CannotWrite, ManyNodes, NotAccepted, Overflow, TooLong, TreeNotWritten, Memory}
+use Rattle.wi_app.specs.private.Stages.{FromCheckingExactly, FromDeciding, IsTreeBelieved, IsTreeNotBelieved, IsTreeNotKept}
 use Rattle.wi_app.proofs.Answers.{start_known}
 use Rattle.std.proofs.lemmas.Bool.{and_parts}
 use Rattle.wi_world.specs.Moves.{follows, is_start, is_usable}
@@ -54,44 +56,25 @@ pub exact_known : (problem : Problem) (a : Answer) → IsDecidedExactly problem 
 exact_known problem a h = exact_run_known problem.net (asks problem) (weighs problem) a.word (option_map components a.weight) a.run a.verdict h
 
 exact_word_ends : (problem : Problem) (file : Option (List ℕ)) (word : Word) (status : ℕ) (w : Option (List ℕ)) (run : Option Run) (verdict : Option Verdict) → HoldsExactly problem.net (asks problem) (weighs problem) word w run verdict
-    → status ≡ status_for word → MayEndExactly problem file status
+    → status ≡ status_for word → MayEndExactly (EndsUnsplit problem) (IsTreeTooLarge problem) file status
 exact_word_ends problem file Yes status w run verdict h is = inl is
 exact_word_ends problem file No status w run verdict h is = inr (inl is)
 exact_word_ends problem file Inconclusive status w run verdict h is = elim h [ ]
 
-pub exact_answer_ends : (problem : Problem) (file : Option (List ℕ)) (shelf : ShelfSeen) (status : ℕ) (text : List ℕ) → IsReportedExactly problem file shelf status text → MayEndExactly problem file status
+pub exact_answer_ends : (problem : Problem) (file : Option (List ℕ)) (shelf : ShelfSeen) (status : ℕ) (text : List ℕ) → IsReportedExactly problem file shelf status text → MayEndExactly (EndsUnsplit problem) (IsTreeTooLarge problem) file status
 exact_answer_ends problem file shelf status text r = exact_word_ends problem file r.answer.word status (option_map components r.answer.weight) r.answer.run r.answer.verdict r.is.exact.holds r.status_is
+
+-- where there is none, the status is that of its cause
+pub unsplit_due : (problem : Problem) (refusal : Refusal) → FromSplitting problem refusal → (nat_eq (status_of refusal) 10 ≡ false) × ((status_of refusal ≡ 11) ⊎ EndsUnsplit problem (status_of refusal))
+unsplit_due problem (Overflow w terms) cause = (refl, inr (none.Overflow cause.1.0 cause.1.1 cause.1.2 w, cause.1.3, refl))
+unsplit_due problem (TooLong effort) cause = (refl, inr (none.TooLong cause.0 effort, cause.1, refl))
+unsplit_due problem ManyNodes cause = (refl, inr (none.NodeLimit cause.0, cause.1, refl))
+unsplit_due problem Memory cause = (refl, inl refl)
+unsplit_due problem refusal cause = elim cause [ ]
 
 -- ---- exact
 
--- an exact answer on a network is one to a command. The fetch of the network left the shelf as it was
-pub exact_answered : (r : Result Printed Refusal) (old new : ShelfSeen) (name query : List ℕ) (weights file : Option (List ℕ)) (net : Net) → (old.told ≡ true → HoldsNetwork (old.file name) net)
-    → IfOk r (λ printed. ForAsked net query weights (λ problem. IsReportedExactly problem file new printed.status printed.text)) → IfOk r (λ printed. IsAnswered old new (Exact name query weights file) printed.status printed.text)
-exact_answered (Ok printed) old new name query weights file net holds answer = (net, holds, answer)
-exact_answered (Err refusal) old new name query weights file net holds answer = tt
-
-pub exact_refused : (r : Result Printed Refusal) (old later new : ShelfSeen) (name query : List ℕ) (weights file : Option (List ℕ)) (net : Net) → later ≡ old → (old.told ≡ true → HoldsNetwork (old.file name) net)
-    → IfErr r (λ refusal. FromAnsweringExactly later new net query weights file refusal) → IfErr r (λ refusal. FromCommand old new (Exact name query weights file) refusal)
-exact_refused (Ok printed) old later new name query weights file net same holds cause = tt
-exact_refused (Err refusal) old later new name query weights file net same holds cause = elim (subst (λ (s : ShelfSeen). FromAnsweringExactly s new net query weights file refusal) same cause) [
-  | inl early ↦ inr (inl (net, holds, early.0, early.1))
-  | inr store ↦ inr (inr (net, holds, store))
-]
-
--- what texts ask is answered exactly, or the answer is refused
-pub asked_exactly : (r : Result Printed Refusal) (net : Net) (text : List ℕ) (weights file : Option (List ℕ)) (shelf : ShelfSeen) (query : Query) (vector : List (List Part)) → IsAsked net text weights query vector
-    → IfOk r (λ printed. IsReportedExactly (problem_of net query vector) file shelf printed.status printed.text) → IfOk r (λ printed. ForAsked net text weights (λ problem. IsReportedExactly problem file shelf printed.status printed.text))
-asked_exactly (Ok printed) net text weights file shelf query vector asked reported = (query, vector, asked, reported)
-asked_exactly (Err refusal) net text weights file shelf query vector asked reported = tt
-
-pub asked_inexactly : (r : Result Printed Refusal) (old new : ShelfSeen) (net : Net) (text : List ℕ) (weights file : Option (List ℕ)) (query : Query) (vector : List (List Part)) → IsAsked net text weights query vector
-    → IfErr r (λ refusal. FromDecidingExactly old new (problem_of net query vector) file refusal) → IfErr r (λ refusal. FromAnsweringExactly old new net text weights file refusal)
-asked_inexactly (Ok printed) old new net text weights file query vector asked cause = tt
-asked_inexactly (Err refusal) old new net text weights file query vector asked cause = elim cause [
-  | inl unsplit ↦ inl (inr (query, vector, asked, unsplit.0), unsplit.1)
-  | inr store ↦ inr (query, vector, asked, store)
-]
-
+-- the report on an exact answer, with its tree
 pub shown_reported : (r : Result Printed Refusal) (problem : Problem) (file : Option (List ℕ)) (shelf : ShelfSeen) (answer : Answer) (t : TreeCertificate) (status nodes : ℕ) (text : Result (List ℕ) NoMemory)
     → IsShownExactly problem answer t → status ≡ status_for answer.word → nodes ≡ length t.nodes → IfOk text (λ s. s ≡ exact_report_of problem.net problem.bounds (length problem.vector) answer nodes)
     → IfOk r (λ printed. printed.status ≡ status) → IfOk r (λ printed. text ≡ Ok printed.text) → IfOk r (λ _. IsTreeStored file shelf t) → IfOk r (λ printed. IsReportedExactly problem file shelf printed.status printed.text)
@@ -106,14 +89,14 @@ shown_reported (Ok printed) problem file shelf answer t status nodes text is due
       ∙ ap (λ n. exact_report_of problem.net problem.bounds (length problem.vector) answer n) count;
 }
 
-tree_not_kept : (old new : ShelfSeen) (problem : Problem) (file : Option (List ℕ)) (answer : Answer) (t : TreeCertificate) (refusal : Refusal) → IsShownExactly problem answer t → IsTreeNotKept old new file t refusal → FromTreeStore old new problem file refusal
-tree_not_kept old new problem file answer t TreeNotWritten is cause = (cause.0, cause.1, record { answer = answer; tree = t; is = is; long = cause.2 })
+tree_not_kept : (old new : ShelfSeen) (problem : Problem) (file : Option (List ℕ)) (answer : Answer) (t : TreeCertificate) (refusal : Refusal) → IsShownExactly problem answer t → IsTreeNotKept old new file t refusal → FromTreeStore file old new problem refusal
+tree_not_kept old new problem file answer t TreeNotWritten is cause = (cause.0, cause.1, record { answer = answer; tree = t; is = is; large = cause.2 })
 tree_not_kept old new problem file answer t (CannotWrite named) is cause = cause
 tree_not_kept old new problem file answer t Memory is cause = cause
 tree_not_kept old new problem file answer t refusal is cause = elim cause [ ]
 
 pub shown_refused : (r : Result Printed Refusal) (old new : ShelfSeen) (problem : Problem) (file : Option (List ℕ)) (answer : Answer) (t : TreeCertificate) → IsShownExactly problem answer t
-    → IfErr r (λ refusal. IsTreeNotKept old new file t refusal) → IfErr r (λ refusal. FromDecidingExactly old new problem file refusal)
+    → IfErr r (λ refusal. IsTreeNotKept old new file t refusal) → IfErr r (λ refusal. FromDeciding FromSplitting (FromTreeStore file) old new problem refusal)
 shown_refused (Ok printed) old new problem file answer t is cause = tt
 shown_refused (Err refusal) old new problem file answer t is cause = inr (tree_not_kept old new problem file answer t refusal is cause)
 

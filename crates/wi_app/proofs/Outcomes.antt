@@ -1,5 +1,5 @@
 -- From what is found to what the program does.
-use Rattle.std.proofs.Common.{◌≡◌, ◌≢◌, ℕ, ◌<◌, ◌≤◌, nat_eq, ◌⊎◌, inl, inr, Bool, true, false, List, [], ◌∷◌, ◌++◌, length, length-append, Option, Some, None, Result, Ok, Err, refl, sym, ap, subst, ◌∙◌, arith}
+use Rattle.std.proofs.Common.{◌≡◌, ◌≢◌, ℕ, ◌<◌, ◌≤◌, nat_eq, ◌⊎◌, inl, inr, Bool, true, false, List, length, Option, Some, None, Result, Ok, Err, refl, sym, ap, subst, ◌∙◌, arith}
 use Rattle.std.specs.Prelude.{codes, IfOk, IfErr, OnOk}
 use Rattle.std.specs.Result.{IsErrAnd}
 use Rattle.std.specs.Str.{bytes_eq}
@@ -46,31 +46,33 @@ use Rattle.wi_accept.specs.Answers.{IsDecided, word_of}
 use Rattle.wi_accept.specs.Causes.{IsAccepted, IsCause}
 use Rattle.wi_accept.specs.Trees.{IsTreeAccepted, IsTreeCause}
 use Rattle.wi_accept.proofs.OneReading.{accept_the_same, accept_trees_the_same}
-use Rattle.wi_branch.specs.declared.refused.ExactRefused.TheVariants as none
 use Rattle.wi_decide.specs.Refusals.{IsUnrefused}
 use Rattle.wi_gen.specs.Ring.{net_of, ring_of}
 use Rattle.wi_gen.specs.Texts.{query_text, weights_text}
 use Rattle.wi_report.specs.Reports.{accepted_text}
 use Rattle.wi_report.specs.Summaries.{summary_of}
-use Rattle.wi_words.specs.Commands.{Command, Verify, Check, Play, Gen, Exact, CheckExact, Protect, Packets, Stack, command_of}
+use Rattle.wi_words.specs.Commands.{Command, Verify, Check, Play, Gen, Exact, CheckExact, Tolerate, Protect, Packets, Stack, command_of}
 use Rattle.wi_app.specs.Texts.{text_of, status_of, IsPutTogether}
 use Rattle.wi_app.specs.Edges.{Says, SaysWhy, kept}
-use Rattle.wi_app.specs.Shelves.{AllStand, IsCalm, OthersStand}
-use Rattle.wi_app.specs.Asked.{AreBadTexts, ForAsked, IsAsked, IsBadQuery, IsBadWeights, WeighsBy}
+use Rattle.wi_app.specs.Shelves.{AllStand, IsCalm, OthersStand, StandBut}
+use Rattle.wi_app.specs.Asked.{AreBadTexts, ForAsked, FromAsked, IsAsked, IsBadQuery, IsBadWeights, WeighsBy}
 use Rattle.wi_app.specs.Certificates.{FromCertificate, FromStore, IsAcceptedText, IsCertificate, IsCertificateFile, IsStored}
-use Rattle.wi_app.specs.Decided.{FromDecision, FromTexts, IsAnswer, IsReported, packets_in, report_in, status_for}
+use Rattle.wi_app.specs.Decided.{FromDecision, IsReported, packets_in, report_in, status_for}
 use Rattle.wi_app.specs.Exact.{FromSplitting, FromTree, FromTreeStore, IsAcceptedTree}
+use Rattle.wi_app.specs.Tolerance.{FromTolerating, FromTreesStore}
 use Rattle.wi_app.specs.Generated.{FromRing, IsSummary, IsSummed}
 use Rattle.wi_app.specs.OnWire.{FromHex, IsHex, IsRefusedStack, IsShownHex, IsShownStack, ShowsNoStack}
 use Rattle.wi_wire.specs.declared.refused.StackRefused.{StackRefused}
 use Rattle.wi_wire.specs.declared.refused.StackRefused.TheVariants.{Cut, Reserved, Memory as StackMemory}
-use Rattle.wi_app.specs.Run.{AreAnswered, IsAnswered, IsStatus, HoldsNetwork, IsPlay, FileHasFault, FromNetwork, IsBadScript, FromScript, FromCommand, FromWords, CanBeAnswered, IsLeft, Prints, Completes}
+use Rattle.wi_app.specs.Run.{AreAnswered, IsAnswered, IsStatus, HoldsNetwork, IsPlay, FileHasFault, FromNetwork, IsBadScript, FromScript, ForTexts, FromAsking, FromCommand, FromWords, CanBeAnswered, IsLeft, Prints, Completes}
 use Rattle.wi_app.specs.private.Stages.{FromAnswering, FromBytes, FromChecking, FromDeciding, FromStack, IsBelieved, IsKept, IsNotBelieved, IsNotKept}
 use Rattle.wi_app.specs.declared.answer.Printed.{Printed}
 use Rattle.wi_app.specs.declared.refusal.Refusal.{Refusal}
-use Rattle.wi_app.specs.declared.refusal.Refusal.TheVariants.{CannotRead, CannotWrite, Network, Query as BadQuery, Weights as BadWeights, Overflow, TooLong, Script, LongScript, LargeCertificate, BadLine as BadCertificateLine, NotAccepted, NotWritten, ManyNodes, TreeNotWritten, NotHex, BadStack, Memory}
+use Rattle.wi_app.specs.declared.refusal.Refusal.TheVariants.{CannotRead, CannotWrite, CannotWriteBelow, NoMemoryBelow, Network, Query as BadQuery, Weights as BadWeights, Overflow, TooLong, Script, LongScript, LargeCertificate, BadLine as BadCertificateLine, NotAccepted, NotWritten, TreeNotWritten, NotHex, BadStack, Memory}
 use Rattle.wi_app.proofs.Answers.{answer_ends}
-use Rattle.wi_app.proofs.Exactly.{exact_answer_ends}
+use Rattle.wi_app.proofs.Causes.{longer}
+use Rattle.wi_app.proofs.Exactly.{exact_answer_ends, unsplit_due}
+use Rattle.wi_app.proofs.Tolerating.{tolerance_ends, trees_due, untold_due}
 use Rattle.wi_app.proofs.Protecting.{plan_due}
 
 -- ---- from the parts of a command to the whole
@@ -101,9 +103,9 @@ all_stand old new name others here other = by_test (bytes_eq other name) refl
     by_test true e = let same : other ≡ name = (bytes_eq-Decides other name).0 e in subst (λ n. new.file n ≡ old.file n) (sym same) here
     by_test false e = others other (λ same. let yes : bytes_eq other name ≡ true = (bytes_eq-Decides other name).1 same in cc)
 
--- where each file but one stands before, and all later, each but that one stands in the end
-pub others_later : (file : Option (List ℕ)) (old later new : ShelfSeen) → later ≡ old → OthersStand file later new → OthersStand file old new
-others_later file old later new same stand = subst (λ s. OthersStand file s new) same stand
+-- where all files stand before, and later each but some, each but these stands in the end
+pub others_later : (P : List ℕ → Type 0) (old later new : ShelfSeen) → later ≡ old → StandBut P later new → StandBut P old new
+others_later P old later new same stand = subst (λ s. StandBut P s new) same stand
 
 pub left_later : {T : Type 0} (r : Result T Refusal) (old later new : ShelfSeen) → later ≡ old → IfErr r (λ refusal. IsLeft refusal later new) → IfErr r (λ refusal. IsLeft refusal old new)
 left_later r old later new same left = subst (λ s. IfErr r (λ refusal. IsLeft refusal s new)) same left
@@ -111,41 +113,46 @@ left_later r old later new same left = subst (λ s. IfErr r (λ refusal. IsLeft 
 -- where every file stands, each but one does, whatever is refused
 pub left_all : (old new : ShelfSeen) (refusal : Refusal) → AllStand old new → IsLeft refusal old new
 left_all old new (CannotWrite name) stand = λ other _. stand other
+left_all old new (CannotWriteBelow name) stand = λ other _. stand other
+left_all old new (NoMemoryBelow name) stand = λ other _. stand other
 left_all old new refusal stand = stand
 
 pub all_left : {T : Type 0} (r : Result T Refusal) (old new : ShelfSeen) → AllStand old new → IfErr r (λ refusal. IsLeft refusal old new)
 all_left (Ok x) old new stand = tt
 all_left (Err refusal) old new stand = left_all old new refusal stand
 
--- ---- verify
+-- ---- what texts ask of a network
 
--- an answer on a network is one to a command. The fetch of the network left the shelf as it was
-pub verify_answered : (r : Result Printed Refusal) (old new : ShelfSeen) (name query : List ℕ) (weights file : Option (List ℕ)) (net : Net) → (old.told ≡ true → HoldsNetwork (old.file name) net)
-    → IfOk r (λ printed. IsAnswer report_in net query weights file new printed.status printed.text) → IfOk r (λ printed. IsAnswered old new (Verify name query weights file) printed.status printed.text)
-verify_answered (Ok printed) old new name query weights file net holds answer = (net, holds, answer)
-verify_answered (Err refusal) old new name query weights file net holds answer = tt
+-- what is told of a network is an answer to a command on texts. The fetch of the network left the shelf as it was
+pub asking_answered : (r : Result Printed Refusal) (P : Problem → ℕ → List ℕ → Type 0) (shelf : ShelfSeen) (name query : List ℕ) (weights : Option (List ℕ)) (net : Net) → (shelf.told ≡ true → HoldsNetwork (shelf.file name) net)
+    → IfOk r (λ printed. ForAsked net query weights (λ problem. P problem printed.status printed.text)) → IfOk r (λ printed. ForTexts shelf name query weights (λ problem. P problem printed.status printed.text))
+asking_answered (Ok printed) P shelf name query weights net holds answer = (net, holds, answer)
+asking_answered (Err refusal) P shelf name query weights net holds answer = tt
 
-pub verify_refused : (r : Result Printed Refusal) (old later new : ShelfSeen) (name query : List ℕ) (weights file : Option (List ℕ)) (net : Net) → later ≡ old → (old.told ≡ true → HoldsNetwork (old.file name) net)
-    → IfErr r (λ refusal. FromAnswering later new net query weights file refusal) → IfErr r (λ refusal. FromCommand old new (Verify name query weights file) refusal)
-verify_refused (Ok printed) old later new name query weights file net same holds cause = tt
-verify_refused (Err refusal) old later new name query weights file net same holds cause = elim (subst (λ (s : ShelfSeen). FromAnswering s new net query weights file refusal) same cause) [
-  | inl texts ↦ inr (inl (net, holds, texts.0, texts.1))
+-- and what is refused on it is refused to a command on texts
+pub asking_refused : {T : Type 0} (r : Result T Refusal) (U : Problem → Refusal → Type 0) (V : ShelfSeen → ShelfSeen → Problem → Refusal → Type 0) (old later new : ShelfSeen) (name query : List ℕ) (weights : Option (List ℕ)) (net : Net) → later ≡ old
+    → (old.told ≡ true → HoldsNetwork (old.file name) net) → IfErr r (λ refusal. FromAnswering U V later new net query weights refusal) → IfErr r (λ refusal. FromAsking U V old new name query weights refusal)
+asking_refused (Ok x) U V old later new name query weights net same holds cause = tt
+asking_refused (Err refusal) U V old later new name query weights net same holds cause = elim (subst (λ (s : ShelfSeen). FromAnswering U V s new net query weights refusal) same cause) [
+  | inl early ↦ inr (inl (net, holds, early.0, early.1))
   | inr store ↦ inr (inr (net, holds, store))
 ]
 
 -- what texts ask is answered, or the answer is refused
-pub asked_answered : (r : Result Printed Refusal) (prints : Problem → Answer → List ℕ) (net : Net) (text : List ℕ) (weights file : Option (List ℕ)) (shelf : ShelfSeen) (query : Query) (vector : List (List Part)) → IsAsked net text weights query vector
-    → IfOk r (λ printed. IsReported prints (problem_of net query vector) file shelf printed.status printed.text) → IfOk r (λ printed. IsAnswer prints net text weights file shelf printed.status printed.text)
-asked_answered (Ok printed) prints net text weights file shelf query vector asked reported = record { query = query; vector = vector; asked = asked; reported = reported }
-asked_answered (Err refusal) prints net text weights file shelf query vector asked reported = tt
+pub asked_told : (r : Result Printed Refusal) (P : Problem → ℕ → List ℕ → Type 0) (net : Net) (text : List ℕ) (weights : Option (List ℕ)) (query : Query) (vector : List (List Part)) → IsAsked net text weights query vector
+    → IfOk r (λ printed. P (problem_of net query vector) printed.status printed.text) → IfOk r (λ printed. ForAsked net text weights (λ problem. P problem printed.status printed.text))
+asked_told (Ok printed) P net text weights query vector asked told = (query, vector, asked, told)
+asked_told (Err refusal) P net text weights query vector asked told = tt
 
-pub asked_refused : (r : Result Printed Refusal) (old new : ShelfSeen) (net : Net) (text : List ℕ) (weights file : Option (List ℕ)) (query : Query) (vector : List (List Part)) → IsAsked net text weights query vector
-    → IfErr r (λ refusal. FromDeciding old new (problem_of net query vector) file refusal) → IfErr r (λ refusal. FromAnswering old new net text weights file refusal)
-asked_refused (Ok printed) old new net text weights file query vector asked cause = tt
-asked_refused (Err refusal) old new net text weights file query vector asked cause = elim cause [
-  | inl undecided ↦ inl (inr (query, vector, asked, undecided.0), undecided.1)
+pub asked_refused : {T : Type 0} (r : Result T Refusal) (U : Problem → Refusal → Type 0) (V : ShelfSeen → ShelfSeen → Problem → Refusal → Type 0) (old new : ShelfSeen) (net : Net) (text : List ℕ) (weights : Option (List ℕ)) (query : Query)
+    (vector : List (List Part)) → IsAsked net text weights query vector → IfErr r (λ refusal. FromDeciding U V old new (problem_of net query vector) refusal) → IfErr r (λ refusal. FromAnswering U V old new net text weights refusal)
+asked_refused (Ok x) U V old new net text weights query vector asked cause = tt
+asked_refused (Err refusal) U V old new net text weights query vector asked cause = elim cause [
+  | inl early ↦ inl (inr (query, vector, asked, early.0), early.1)
   | inr store ↦ inr (query, vector, asked, store)
 ]
+
+-- ---- verify
 
 -- a certificate that is kept is stored
 kept_stored : (file : Option (List ℕ)) (shelf : ShelfSeen) (problem : Problem) (answer : Answer) (c : Certificate) → IsCertificate problem answer c → IsKept file shelf c → IsStored file shelf problem answer
@@ -166,36 +173,30 @@ decided_reported (Ok printed) prints problem file shelf answer c status text hol
 }
 
 not_kept : (old new : ShelfSeen) (problem : Problem) (file : Option (List ℕ)) (answer : Answer) (c : Certificate) (refusal : Refusal) → IsDecided problem answer → IsCertificate problem answer c → IsNotKept old new file c refusal
-    → FromStore old new problem file refusal
+    → FromStore file old new problem refusal
 not_kept old new problem file answer c NotWritten holds is cause = (cause.0, cause.1, record { answer = answer; holds = holds; certificate = c; is = is; long = cause.2 })
 not_kept old new problem file answer c (CannotWrite named) holds is cause = cause
 not_kept old new problem file answer c Memory holds is cause = cause
 not_kept old new problem file answer c refusal holds is cause = elim cause [ ]
 
 pub decided_refused : (r : Result Printed Refusal) (old new : ShelfSeen) (problem : Problem) (file : Option (List ℕ)) (answer : Answer) (c : Certificate) → IsDecided problem answer → IsCertificate problem answer c
-    → IfErr r (λ refusal. IsNotKept old new file c refusal) → IfErr r (λ refusal. FromDeciding old new problem file refusal)
+    → IfErr r (λ refusal. IsNotKept old new file c refusal) → IfErr r (λ refusal. FromDeciding FromDecision (FromStore file) old new problem refusal)
 decided_refused (Ok printed) old new problem file answer c holds is cause = tt
 decided_refused (Err refusal) old new problem file answer c holds is cause = inr (not_kept old new problem file answer c refusal holds is cause)
 
 -- ---- packets
 
--- what is printed where nothing is stored is an answer to a command
-pub packets_answered : (r : Result Printed Refusal) (old new : ShelfSeen) (name query : List ℕ) (weights : Option (List ℕ)) (net : Net) → (old.told ≡ true → HoldsNetwork (old.file name) net)
-    → IfOk r (λ printed. IsAnswer packets_in net query weights None new printed.status printed.text) → IfOk r (λ printed. IsAnswered old new (Packets name query weights) printed.status printed.text)
-packets_answered (Ok printed) old new name query weights net holds answer = (net, holds, answer)
-packets_answered (Err refusal) old new name query weights net holds answer = tt
-
--- and where there is no name to store under, no store is refused
-unstored : (old new : ShelfSeen) (name query : List ℕ) (weights : Option (List ℕ)) (problem : Problem) (refusal : Refusal) → FromStore old new problem None refusal → FromCommand old new (Packets name query weights) refusal
+-- where there is no name to store under, no store is refused
+unstored : (old new : ShelfSeen) (name query : List ℕ) (weights : Option (List ℕ)) (problem : Problem) (refusal : Refusal) → FromStore None old new problem refusal → FromCommand old new (Packets name query weights) refusal
 unstored old new name query weights problem NotWritten cause = let none : None ≡ Some cause.1.0 = cause.1.1 in cc
 unstored old new name query weights problem (CannotWrite named) cause = let none : None ≡ Some named.now = cause.0 in cc
 unstored old new name query weights problem Memory cause = inl cause
 unstored old new name query weights problem refusal cause = elim cause [ ]
 
 pub packets_refused : (r : Result Printed Refusal) (old later new : ShelfSeen) (name query : List ℕ) (weights : Option (List ℕ)) (net : Net) → later ≡ old → (old.told ≡ true → HoldsNetwork (old.file name) net)
-    → IfErr r (λ refusal. FromAnswering later new net query weights None refusal) → IfErr r (λ refusal. FromCommand old new (Packets name query weights) refusal)
+    → IfErr r (λ refusal. FromAnswering FromDecision (FromStore None) later new net query weights refusal) → IfErr r (λ refusal. FromCommand old new (Packets name query weights) refusal)
 packets_refused (Ok printed) old later new name query weights net same holds cause = tt
-packets_refused (Err refusal) old later new name query weights net same holds cause = elim (subst (λ (s : ShelfSeen). FromAnswering s new net query weights None refusal) same cause) [
+packets_refused (Err refusal) old later new name query weights net same holds cause = elim (subst (λ (s : ShelfSeen). FromAnswering FromDecision (FromStore None) s new net query weights refusal) same cause) [
   | inl texts ↦ inr (net, holds, texts.0, texts.1)
   | inr store ↦ unstored old new name query weights (problem_of net store.0 store.1) refusal store.3
 ]
@@ -410,6 +411,7 @@ words_memory held (Some (Play name script k)) = inl refl
 words_memory held (Some (Gen seed size)) = (refl, tt)
 words_memory held (Some (Exact name query weights file)) = inl refl
 words_memory held (Some (CheckExact name query file weights)) = inl refl
+words_memory held (Some (Tolerate name query most weights file)) = inl refl
 words_memory held (Some (Protect name)) = inl refl
 words_memory held (Some (Packets name query weights)) = inl refl
 words_memory held (Some (Stack hex)) = (refl, tt)
@@ -433,9 +435,6 @@ fails_not (fault.EmptyGroup p) net h = cc
 fails_not (fault.BadOperation p) net h = cc
 fails_not (fault.OverLimit p limit) net h = cc
 fails_not (fault.BadNumber p) net h = cc
-
-longer : {X : Type 0} (xs : List X) (x : X) → xs ++ x ∷ [] ≡ xs → ⊥
-longer xs x e = let count : length (xs ++ x ∷ []) ≡ length xs = ap length e in let more = length-append xs (x ∷ []) in absurd (omega (arith, count, more))
 
 kept_is : (status : ℕ) → nat_eq status 10 ≡ false → kept status ≡ 11
 kept_is status is = rw is refl
@@ -510,29 +509,50 @@ decision_ends held name text given file net query vector refusal holds asked cau
 
 -- and so does one whose certificate isn't stored
 store_ends : (old new : ShelfSeen) (name text : List ℕ) (given file : Option (List ℕ)) (net : Net) (query : Query) (vector : List (List Part)) (refusal : Refusal) → HoldsNetwork (old.file name) net → IsAsked net text given query vector
-    → IsCalm old new → FromStore old new (problem_of net query vector) file refusal → Ends old (Verify name text given file) refusal
+    → IsCalm old new → FromStore file old new (problem_of net query vector) refusal → Ends old (Verify name text given file) refusal
 store_ends old new name text given file net query vector NotWritten holds asked calm cause = (refl, inr (net, holds, (query, vector, asked, inr (inr (inr (inr (refl, cause.1, cause.2)))))))
 store_ends old new name text given file net query vector (CannotWrite named) holds asked calm cause = absurd (longer old.failed (Store, named.now) (sym cause.1 ∙ calm))
 store_ends old new name text given file net query vector Memory holds asked calm cause = (refl, inl refl)
 store_ends old new name text given file net query vector refusal holds asked calm cause = elim cause [ ]
 
--- an exact answer that can't be shown ends with its refusal
+-- an exact answer that can't be shown ends with its refusal, and so does one whose tree isn't stored
 unsplit_ends : (held : ShelfSeen) (name text : List ℕ) (given file : Option (List ℕ)) (net : Net) (query : Query) (vector : List (List Part)) (refusal : Refusal) → HoldsNetwork (held.file name) net → IsAsked net text given query vector
     → FromSplitting (problem_of net query vector) refusal → Ends held (Exact name text given file) refusal
-unsplit_ends held name text given file net query vector (Overflow w terms) holds asked cause =
-    (refl, inr (net, holds, (query, vector, asked, inr (inr (inl (none.Overflow cause.1.0 cause.1.1 cause.1.2 w, cause.1.3, refl))))))
-unsplit_ends held name text given file net query vector (TooLong effort) holds asked cause = (refl, inr (net, holds, (query, vector, asked, inr (inr (inl (none.TooLong cause.0 effort, cause.1, refl))))))
-unsplit_ends held name text given file net query vector ManyNodes holds asked cause = (refl, inr (net, holds, (query, vector, asked, inr (inr (inl (none.NodeLimit cause.0, cause.1, refl))))))
-unsplit_ends held name text given file net query vector Memory holds asked cause = (refl, inl refl)
-unsplit_ends held name text given file net query vector refusal holds asked cause = elim cause [ ]
+unsplit_ends held name text given file net query vector refusal holds asked cause = let due = unsplit_due (problem_of net query vector) refusal cause in (
+  due.0,
+  elim due.1 [
+    | inl want ↦ inl want
+    | inr ends ↦ inr (net, holds, (query, vector, asked, inr (inr (inl ends))))
+  ],
+)
 
--- and so does one whose tree isn't stored
 tree_store_ends : (old new : ShelfSeen) (name text : List ℕ) (given file : Option (List ℕ)) (net : Net) (query : Query) (vector : List (List Part)) (refusal : Refusal) → HoldsNetwork (old.file name) net → IsAsked net text given query vector
-    → IsCalm old new → FromTreeStore old new (problem_of net query vector) file refusal → Ends old (Exact name text given file) refusal
+    → IsCalm old new → FromTreeStore file old new (problem_of net query vector) refusal → Ends old (Exact name text given file) refusal
 tree_store_ends old new name text given file net query vector TreeNotWritten holds asked calm cause = (refl, inr (net, holds, (query, vector, asked, inr (inr (inr (refl, cause.1, cause.2))))))
 tree_store_ends old new name text given file net query vector (CannotWrite named) holds asked calm cause = absurd (longer old.failed (Store, named.now) (sym cause.1 ∙ calm))
 tree_store_ends old new name text given file net query vector Memory holds asked calm cause = (refl, inl refl)
 tree_store_ends old new name text given file net query vector refusal holds asked calm cause = elim cause [ ]
+
+-- where it can't be told how many failures it takes, and where the trees aren't stored that tell it
+untold_ends : (held : ShelfSeen) (name text : List ℕ) (most : ℕ) (given file : Option (List ℕ)) (net : Net) (query : Query) (vector : List (List Part)) (refusal : Refusal) → HoldsNetwork (held.file name) net → IsAsked net text given query vector
+    → FromTolerating most (problem_of net query vector) refusal → Ends held (Tolerate name text most given file) refusal
+untold_ends held name text most given file net query vector refusal holds asked cause = let due = untold_due most (problem_of net query vector) refusal cause in (
+  due.0,
+  elim due.1 [
+    | inl want ↦ inl want
+    | inr ends ↦ inr (net, holds, (query, vector, asked, inr (inr (inl ends))))
+  ],
+)
+
+trees_store_ends : (old new : ShelfSeen) (name text : List ℕ) (most : ℕ) (given file : Option (List ℕ)) (net : Net) (query : Query) (vector : List (List Part)) (refusal : Refusal) → HoldsNetwork (old.file name) net → IsAsked net text given query vector
+    → IsCalm old new → FromTreesStore most file old new (problem_of net query vector) refusal → Ends old (Tolerate name text most given file) refusal
+trees_store_ends old new name text most given file net query vector refusal holds asked calm cause = let due = trees_due most file old new (problem_of net query vector) refusal calm cause in (
+  due.0,
+  elim due.1 [
+    | inl want ↦ inl want
+    | inr large ↦ inr (net, holds, (query, vector, asked, inr (inr (inr large))))
+  ],
+)
 
 one_weighing : (given : Option (List ℕ)) (v u : List (List Part)) → WeighsBy given v → WeighsBy given u → v ≡ u
 one_weighing None v u first second = first ∙ sym second
@@ -643,7 +663,7 @@ refused_ends : (old new : ShelfSeen) (command : Command) (refusal : Refusal) →
 refused_ends old new (Verify name text given file) refusal t can calm (inl network) = wanting old (Verify name text given file) refusal (network_wants old new name refusal can.0 t can.1 calm network)
 refused_ends old new (Verify name text given file) refusal t can calm (inr (inl cause)) =
     let same : cause.0 ≡ can.0 = one_network (old.file name) cause.0 can.0 (cause.1 t) can.1 in
-    elim (subst (λ net. FromTexts net text given refusal) same cause.2) [
+    elim (subst (λ net. FromAsked FromDecision net text given refusal) same cause.2) [
       | inl bad ↦ wanting old (Verify name text given file) refusal (texts_want can.0 text given can.2.0 can.2.1 refusal can.2.2 bad)
       | inr undecided ↦ decision_ends old name text given file can.0 undecided.0 undecided.1 refusal can.1 undecided.2 undecided.3
     ]
@@ -668,7 +688,7 @@ refused_ends old new (Gen seed size) refusal t can calm cause = ring_ends old se
 refused_ends old new (Exact name text given file) refusal t can calm (inl network) = wanting old (Exact name text given file) refusal (network_wants old new name refusal can.0 t can.1 calm network)
 refused_ends old new (Exact name text given file) refusal t can calm (inr (inl cause)) =
     let same : cause.0 ≡ can.0 = one_network (old.file name) cause.0 can.0 (cause.1 t) can.1 in
-    elim (subst (λ net. AreBadTexts net text given refusal ⊎ ForAsked net text given (λ problem. FromSplitting problem refusal)) same cause.2) [
+    elim (subst (λ net. FromAsked FromSplitting net text given refusal) same cause.2) [
       | inl bad ↦ wanting old (Exact name text given file) refusal (texts_want can.0 text given can.2.0 can.2.1 refusal can.2.2 bad)
       | inr unsplit ↦ unsplit_ends old name text given file can.0 unsplit.0 unsplit.1 refusal can.1 unsplit.2 unsplit.3
     ]
@@ -684,6 +704,17 @@ refused_ends old new (CheckExact name text file given) refusal t can calm (inr (
     let same : cause.0 ≡ can.0 = one_network (old.file name) cause.0 can.0 (cause.1 t) can.1 in
     let asked = subst (λ net. ForAsked net text given (λ problem. FromTree old new problem file refusal)) same cause.2 in
     wanting old (CheckExact name text file given) refusal (tree_wants old new can.0 text file given asked.0 asked.1 can.2.0 can.2.1 refusal t calm can.2.2 can.2.3 asked.2 asked.3)
+refused_ends old new (Tolerate name text most given file) refusal t can calm (inl network) =
+    wanting old (Tolerate name text most given file) refusal (network_wants old new name refusal can.0 t can.1 calm network)
+refused_ends old new (Tolerate name text most given file) refusal t can calm (inr (inl cause)) =
+    let same : cause.0 ≡ can.0 = one_network (old.file name) cause.0 can.0 (cause.1 t) can.1 in
+    elim (subst (λ net. FromAsked (FromTolerating most) net text given refusal) same cause.2) [
+      | inl bad ↦ wanting old (Tolerate name text most given file) refusal (texts_want can.0 text given can.2.0 can.2.1 refusal can.2.2 bad)
+      | inr untold ↦ untold_ends old name text most given file can.0 untold.0 untold.1 refusal can.1 untold.2 untold.3
+    ]
+refused_ends old new (Tolerate name text most given file) refusal t can calm (inr (inr cause)) =
+    let asked = cause.2 in
+    trees_store_ends old new name text most given file cause.0 asked.0 asked.1 refusal (cause.1 t) asked.2 calm asked.3
 refused_ends old new (Protect name) refusal t can calm (inl network) = wanting old (Protect name) refusal (network_wants old new name refusal can.0 t can.1 calm network)
 refused_ends old new (Protect name) refusal t can calm (inr cause) = elim (plan_due cause.0 refusal cause.2) [
   | inl want ↦ wanting old (Protect name) refusal want
@@ -692,7 +723,7 @@ refused_ends old new (Protect name) refusal t can calm (inr cause) = elim (plan_
 refused_ends old new (Packets name text given) refusal t can calm (inl network) = wanting old (Packets name text given) refusal (network_wants old new name refusal can.0 t can.1 calm network)
 refused_ends old new (Packets name text given) refusal t can calm (inr cause) =
     let same : cause.0 ≡ can.0 = one_network (old.file name) cause.0 can.0 (cause.1 t) can.1 in
-    elim (subst (λ net. FromTexts net text given refusal) same cause.2) [
+    elim (subst (λ net. FromAsked FromDecision net text given refusal) same cause.2) [
       | inl bad ↦ wanting old (Packets name text given) refusal (texts_want can.0 text given can.2.0 can.2.1 refusal can.2.2 bad)
       | inr undecided ↦ decision_ends old name text given None can.0 undecided.0 undecided.1 refusal can.1 undecided.2 undecided.3
     ]
@@ -722,7 +753,8 @@ refused_completes words shelf_old shelf_new out_old out_new err_old err_new resu
 -- what is printed has a status of the command
 answered_ends : (old new : ShelfSeen) (command : Command) (status : ℕ) (text : List ℕ) → old.told ≡ true → IsAnswered old new command status text → IsStatus old command status
 answered_ends old new (Verify name query given file) status text t answer =
-    (answer.0, answer.1 t, (answer.2.query, answer.2.vector, answer.2.asked, answer_ends report_in (problem_of answer.0 answer.2.query answer.2.vector) file new status text answer.2.reported))
+    let asked = answer.2 in
+    (answer.0, answer.1 t, (asked.0, asked.1, asked.2, answer_ends report_in (problem_of answer.0 asked.0 asked.1) file new status text asked.3))
 answered_ends old new (Check name query file given) status text t answer = answer.6
 answered_ends old new (Play name script k) status text t answer = answer.5
 answered_ends old new (Gen seed size) status text t answer = inl answer.1
@@ -730,9 +762,13 @@ answered_ends old new (Exact name query given file) status text t answer =
     let asked = answer.2 in
     (answer.0, answer.1 t, (asked.0, asked.1, asked.2, exact_answer_ends (problem_of answer.0 asked.0 asked.1) file new status text asked.3))
 answered_ends old new (CheckExact name query file given) status text t answer = answer.6
+answered_ends old new (Tolerate name query most given file) status text t answer =
+    let asked = answer.2 in
+    (answer.0, answer.1 t, (asked.0, asked.1, asked.2, tolerance_ends (problem_of answer.0 asked.0 asked.1) most file new status text asked.3))
 answered_ends old new (Protect name) status text t answer = inl answer.3
 answered_ends old new (Packets name query given) status text t answer =
-    (answer.0, answer.1 t, (answer.2.query, answer.2.vector, answer.2.asked, answer_ends packets_in (problem_of answer.0 answer.2.query answer.2.vector) None new status text answer.2.reported))
+    let asked = answer.2 in
+    (answer.0, answer.1 t, (asked.0, asked.1, asked.2, answer_ends packets_in (problem_of answer.0 asked.0 asked.1) None new status text asked.3))
 answered_ends old new (Stack hex) status text t answer = inl answer.1
 
 pub answered_completes : (words : List (List ℕ)) (shelf_old shelf_new : ShelfSeen) (out_old out_new err_old err_new : SinkSeen) (result status : ℕ) (text : List ℕ)

@@ -41,7 +41,7 @@ use Rattle.wi_accept.specs.Trees.{IsDecidedExactly}
 use Rattle.wi_app.specs.Asked.{ForAsked}
 use Rattle.wi_app.specs.Exact.{IsAcceptedTree, IsReportedExactly, IsTreeStored}
 use Rattle.wi_app.specs.Certificates.{IsAcceptedText, IsCertificateFile, IsStored}
-use Rattle.wi_app.specs.Decided.{IsAnswer, report_in}
+use Rattle.wi_app.specs.Decided.{IsReported, report_in}
 use Rattle.wi_app.specs.Edges.{Says, SaysWhy, kept}
 use Rattle.wi_app.specs.Run.{AreAnswered, CanBeAnswered, Completes, Does, IsAnswered, IsStatus, HoldsNetwork}
 use Rattle.wi_app.specs.Shelves.{IsCalm, OthersStand}
@@ -147,14 +147,17 @@ can_check : (old new : ShelfSeen) (name text file : List ℕ) (weights : Option 
     → IsAnswered old new (Verify name text weights (Some file)) status report → CanBeAnswered new (Check name text file weights)
 can_check old new name text file weights status report apart told still stand answer = (answer.0, subst (λ f. HoldsNetwork f answer.0) (sym (stand name other)) (answer.1 told), (stored.0, certificate, held, accepted))
   where
-    asked : IsAnswer report_in answer.0 text weights (Some file) new status report
+    asked : ForAsked answer.0 text weights (λ problem. IsReported report_in problem (Some file) new status report)
     asked = answer.2
 
-    problem : Problem
-    problem = problem_of answer.0 asked.query asked.vector
+    reported : IsReported report_in (problem_of answer.0 asked.0 asked.1) (Some file) new status report
+    reported = asked.3
 
-    stored : IsStored (Some file) new problem asked.reported.answer
-    stored = asked.reported.stored
+    problem : Problem
+    problem = problem_of answer.0 asked.0 asked.1
+
+    stored : IsStored (Some file) new problem reported.answer
+    stored = reported.stored
 
     certificate : Certificate
     certificate = stored.1.certificate
@@ -165,14 +168,14 @@ can_check old new name text file weights status report apart told still stand an
     held : IsCertificateFile new file stored.0
     held = record {
       held = stored.2;
-      short = text_short problem asked.reported.answer certificate stored.0 stored.1.is.problem_is asked.reported.holds asked.reported.shown stored.1.is.made.shows stored.1.text stored.1.short;
+      short = text_short problem reported.answer certificate stored.0 stored.1.is.problem_is reported.holds reported.shown stored.1.is.made.shows stored.1.text stored.1.short;
     }
 
     accepted : IsAcceptedText answer.0 text weights stored.0 certificate
     accepted = record {
-      query = asked.query;
-      vector = asked.vector;
-      asked = asked.asked;
+      query = asked.0;
+      vector = asked.1;
+      asked = asked.2;
       problem_is = stored.1.is.problem_is;
       reads = stored.1.text;
       accepted = stored.1.is.accepted;

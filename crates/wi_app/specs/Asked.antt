@@ -53,3 +53,7 @@ IsBadWeights weights refusal = ⊥
 -- the text of the query is the cause; or, that being a query, the text of the weights
 abbrev pub AreBadTexts : Net → List ℕ → Option (List ℕ) → Refusal → Type 0
 AreBadTexts net text weights refusal = IsBadQuery net text refusal ⊎ ((query : Query) × IsQuery net text query × IsBadWeights weights refusal)
+
+-- the texts are the cause, or else what both ask, for which there is such a cause
+abbrev pub FromAsked : (Problem → Refusal → Type 0) → Net → List ℕ → Option (List ℕ) → Refusal → Type 0
+FromAsked Undecided net text weights refusal = AreBadTexts net text weights refusal ⊎ ForAsked net text weights (λ problem. Undecided problem refusal)

@@ -50,11 +50,11 @@ pub record IsTooLargeToWrite (problem : Problem) : Type 0 where
   pub long : 268000000 < length (closed_text certificate)
 
 -- a certificate is to be stored under the name, if there is one, and can't be
-abbrev pub FromStore : ShelfSeen → ShelfSeen → Problem → Option (List ℕ) → Refusal → Type 0
-FromStore old new problem file NotWritten = IsCalm old new × IsNamed file × IsTooLargeToWrite problem
-FromStore old new problem file (CannotWrite named) = StoreFailed file named.now old new
-FromStore old new problem file Memory = IsCalm old new
-FromStore old new problem file refusal = ⊥
+abbrev pub FromStore : Option (List ℕ) → ShelfSeen → ShelfSeen → Problem → Refusal → Type 0
+FromStore file old new problem NotWritten = IsCalm old new × IsNamed file × IsTooLargeToWrite problem
+FromStore file old new problem (CannotWrite named) = StoreFailed file named.now old new
+FromStore file old new problem Memory = IsCalm old new
+FromStore file old new problem refusal = ⊥
 
 -- ---- checked
 -- bytes are the text of a certificate against which nothing speaks, for what texts ask of a network

@@ -1,19 +1,15 @@
 -- What is decided: the report on what texts ask of a network, and why there is none.
 use Rattle.std.specs.Prelude.{◌≡◌, ◌⊎◌, ℕ, List, ◌++◌, length, Option}
 use Rattle.wi_base.specs.Shelf.{ShelfSeen}
-use Rattle.wi_net.specs.Net.{Net}
 use Rattle.wi_world.specs.declared.answer.Word.{Word}
 use Rattle.wi_world.specs.declared.answer.Word.TheVariants.{Yes, No, Inconclusive}
-use Rattle.wi_query.specs.declared.query.Query.{Query}
-use Rattle.wi_quantity.specs.declared.vector.Part.{Part}
 use Rattle.wi_quantity.specs.Weighing.{components}
 use Rattle.wi_trace.specs.declared.answer.Answer.{Answer}
-use Rattle.wi_build.specs.Problems.{Problem, problem_of}
+use Rattle.wi_build.specs.Problems.{Problem}
 use Rattle.wi_accept.specs.Answers.{IsDecided}
 use Rattle.wi_decide.specs.Refusals.{IsOverflowing, IsTooLong, IsUnrefused}
 use Rattle.wi_report.specs.Reports.{report_of}
 use Rattle.wi_report.specs.Packets.{packets_of}
-use Rattle.wi_app.specs.Asked.{AreBadTexts, ForAsked, IsAsked}
 use Rattle.wi_app.specs.Certificates.{IsStored}
 use Rattle.wi_app.specs.declared.refusal.Refusal.{Refusal}
 use Rattle.wi_app.specs.declared.refusal.Refusal.TheVariants.{Overflow, TooLong, Memory}
@@ -42,13 +38,6 @@ pub record IsReported (printed : Problem → Answer → List ℕ) (problem : Pro
   pub status_is : status ≡ status_for answer.word
   pub text_is : text ≡ printed problem answer
 
--- the text, by what is printed, of what texts ask of a network
-pub record IsAnswer (printed : Problem → Answer → List ℕ) (net : Net) (text : List ℕ) (weights file : Option (List ℕ)) (shelf : ShelfSeen) (status : ℕ) (report : List ℕ) : Type 0 where
-  pub query : Query
-  pub vector : List (List Part)
-  pub asked : IsAsked net text weights query vector
-  pub reported : IsReported printed (problem_of net query vector) file shelf status report
-
 -- there is an answer, but a summary's weight doesn't fit, or else the least run is too long
 abbrev pub FromDecision : Problem → Refusal → Type 0
 FromDecision problem (Overflow w terms) = IsOverflowing problem (components w) × (terms ≡ length problem.vector)
@@ -59,7 +48,3 @@ FromDecision problem refusal = ⊥
 -- the status with which it then ends
 abbrev pub EndsUndecided : Problem → ℕ → Type 0
 EndsUndecided problem status = ((status ≡ 6) × ((w : List ℕ) × IsOverflowing problem w)) ⊎ ((status ≡ 7) × ((effort : ℕ) × IsTooLong problem effort))
-
--- the texts are the cause, or else what both ask
-abbrev pub FromTexts : Net → List ℕ → Option (List ℕ) → Refusal → Type 0
-FromTexts net text weights refusal = AreBadTexts net text weights refusal ⊎ ForAsked net text weights (λ problem. FromDecision problem refusal)

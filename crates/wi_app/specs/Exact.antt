@@ -64,19 +64,23 @@ status_without none.Memory = 11
 abbrev pub EndsUnsplit : Problem → ℕ → Type 0
 EndsUnsplit problem status = (refused : ExactRefused) × IsInexact problem 10000 refused × (status ≡ status_without refused)
 
--- an exact answer is shown by a tree that is too large to be written
+-- a tree is too large to be written
+abbrev pub IsLarge : TreeCertificate → Type 0
+IsLarge tree = 268435456 < length (tree_text tree)
+
+-- an exact answer is shown by such a tree
 pub record IsTreeTooLarge (problem : Problem) : Type 0 where
   pub answer : Answer
   pub tree : TreeCertificate
   pub is : IsShownExactly problem answer tree
-  pub long : 268435456 < length (tree_text tree)
+  pub large : IsLarge tree
 
 -- a tree is to be stored under the name, if there is one, and can't be
-abbrev pub FromTreeStore : ShelfSeen → ShelfSeen → Problem → Option (List ℕ) → Refusal → Type 0
-FromTreeStore old new problem file TreeNotWritten = IsCalm old new × IsNamed file × IsTreeTooLarge problem
-FromTreeStore old new problem file (CannotWrite named) = StoreFailed file named.now old new
-FromTreeStore old new problem file Memory = IsCalm old new
-FromTreeStore old new problem file refusal = ⊥
+abbrev pub FromTreeStore : Option (List ℕ) → ShelfSeen → ShelfSeen → Problem → Refusal → Type 0
+FromTreeStore file old new problem TreeNotWritten = IsCalm old new × IsNamed file × IsTreeTooLarge problem
+FromTreeStore file old new problem (CannotWrite named) = StoreFailed file named.now old new
+FromTreeStore file old new problem Memory = IsCalm old new
+FromTreeStore file old new problem refusal = ⊥
 
 -- ---- checked
 -- bytes are the text of a tree against which nothing speaks, for what texts ask of a network

@@ -5,6 +5,7 @@ pub mod Asked
 pub mod Certificates
 pub mod Decided
 pub mod Exact
+pub mod Tolerance
 pub mod Generated
 pub mod Protection
 pub mod OnWire

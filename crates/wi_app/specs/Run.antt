@@ -17,21 +17,22 @@ use Rattle.wi_report.specs.Reports.{accepted_text}
 use Rattle.wi_accept.specs.Answers.{word_of}
 use Rattle.wi_cert.specs.declared.certificate.Certificate.{Certificate}
 use Rattle.wi_cert.specs.declared.tree.TreeCertificate.{TreeCertificate}
-use Rattle.wi_words.specs.Commands.{Command, Verify, Check, Play, Gen, Exact, CheckExact, Protect, Packets, Stack, command_of}
+use Rattle.wi_words.specs.Commands.{Command, Verify, Check, Play, Gen, Exact, CheckExact, Tolerate, Protect, Packets, Stack, command_of}
 use Rattle.wi_build.specs.Problems.{Problem}
 use Rattle.wi_query.specs.declared.query.Query.{Query}
 use Rattle.wi_quantity.specs.declared.vector.Part.{Part}
-use Rattle.wi_app.specs.Asked.{AreBadTexts, ForAsked, IsAsked}
+use Rattle.wi_app.specs.Asked.{AreBadTexts, ForAsked, FromAsked, IsAsked}
 use Rattle.wi_app.specs.Certificates.{FromCertificate, FromStore, IsAcceptedText, IsCertificateFile, IsNamed, IsTooLargeToWrite}
-use Rattle.wi_app.specs.Decided.{EndsUndecided, FromTexts, IsAnswer, packets_in, report_in}
+use Rattle.wi_app.specs.Decided.{EndsUndecided, FromDecision, IsReported, packets_in, report_in}
 use Rattle.wi_app.specs.Exact.{EndsUnsplit, FromSplitting, FromTree, FromTreeStore, IsAcceptedTree, IsReportedExactly, IsTreeTooLarge}
+use Rattle.wi_app.specs.Tolerance.{AreTreesTooLarge, EndsUntold, FromTolerating, FromTreesStore, IsToldWith}
 use Rattle.wi_app.specs.Generated.{ForRing, FromRing, IsSummary}
 use Rattle.wi_app.specs.Protection.{FromPlan, HasNoProtection, IsProtecting}
 use Rattle.wi_app.specs.OnWire.{FromHex, IsShownHex, ShowsNoStack}
 use Rattle.wi_app.specs.Edges.{Untouched, PutAll, PutPart, PutNothing, SaysWhy}
-use Rattle.wi_app.specs.Shelves.{AllStand, FetchFailed, IsCalm, OthersStand}
+use Rattle.wi_app.specs.Shelves.{AllStand, FetchFailed, IsCalm, IsOfTwo, OthersStand, StandBut}
 use Rattle.wi_app.specs.declared.refusal.Refusal.{Refusal}
-use Rattle.wi_app.specs.declared.refusal.Refusal.TheVariants.{Usage, CannotRead, CannotWrite, Network, Script as BadScript, LongScript, CannotPrint, Memory}
+use Rattle.wi_app.specs.declared.refusal.Refusal.TheVariants.{Usage, CannotRead, CannotWrite, CannotWriteBelow, NoMemoryBelow, Network, Script as BadScript, LongScript, CannotPrint, Memory}
 
 -- ---- answers
 -- the lines of the states of the moving world while bytes, which are a script of the network, are played with at most k risk
@@ -50,10 +51,13 @@ abbrev pub HoldsNetwork : Option (List ℕ) → Net → Type 0
 HoldsNetwork None net = ⊥
 HoldsNetwork (Some bytes) net = network_of bytes ≡ Ok net
 
+-- texts ask something of the network whose file is held under a name, and this is so of the problem that they ask
+abbrev pub ForTexts : ShelfSeen → List ℕ → List ℕ → Option (List ℕ) → (Problem → Type 0) → Type 0
+ForTexts shelf name query weights P = (net : Net) × (shelf.told ≡ true → HoldsNetwork (shelf.file name) net) × ForAsked net query weights P
+
 -- an answer to a command: where the shelf tells, over the files that it holds under the names, and with what it then holds
 abbrev pub IsAnswered : ShelfSeen → ShelfSeen → Command → ℕ → List ℕ → Type 0
-IsAnswered old new (Verify name query weights file) status text =
-    (net : Net) × (old.told ≡ true → HoldsNetwork (old.file name) net) × IsAnswer report_in net query weights file new status text
+IsAnswered old new (Verify name query weights file) status text = ForTexts old name query weights (λ problem. IsReported report_in problem file new status text)
 IsAnswered old new (Check name query file weights) status text =
     (net : Net) × (bytes : List ℕ) × (c : Certificate) × (old.told ≡ true → HoldsNetwork (old.file name) net) × IsCertificateFile old file bytes
     × IsAcceptedText net query weights bytes c × (status ≡ 0) × (text ≡ accepted_text (word_of c.shown.claim))
@@ -61,15 +65,14 @@ IsAnswered old new (Play name script k) status text =
     (net : Net) × (bytes : List ℕ) × (old.told ≡ true → HoldsNetwork (old.file name) net) × (old.told ≡ true → old.file script ≡ Some bytes)
     × IsPlay net k bytes text × (status ≡ 0)
 IsAnswered old new (Gen seed size) status text = IsSummary seed size text × (status ≡ 0)
-IsAnswered old new (Exact name query weights file) status text =
-    (net : Net) × (old.told ≡ true → HoldsNetwork (old.file name) net) × ForAsked net query weights (λ problem. IsReportedExactly problem file new status text)
+IsAnswered old new (Exact name query weights file) status text = ForTexts old name query weights (λ problem. IsReportedExactly problem file new status text)
 IsAnswered old new (CheckExact name query file weights) status text =
     (net : Net) × (bytes : List ℕ) × (t : TreeCertificate) × (old.told ≡ true → HoldsNetwork (old.file name) net) × IsCertificateFile old file bytes
     × IsAcceptedTree net query weights bytes t × (status ≡ 0) × (text ≡ accepted_text (word_of t.shown.claim))
+IsAnswered old new (Tolerate name query most weights file) status text = ForTexts old name query weights (λ problem. IsToldWith problem most file new status text)
 IsAnswered old new (Protect name) status text =
     (bytes : List ℕ) × (old.told ≡ true → old.file name ≡ Some bytes) × IsProtecting bytes text × (status ≡ 0)
-IsAnswered old new (Packets name query weights) status text =
-    (net : Net) × (old.told ≡ true → HoldsNetwork (old.file name) net) × IsAnswer packets_in net query weights None new status text
+IsAnswered old new (Packets name query weights) status text = ForTexts old name query weights (λ problem. IsReported packets_in problem None new status text)
 IsAnswered old new (Stack hex) status text = IsShownHex hex text × (status ≡ 0)
 
 -- no words are answered but those of a command
@@ -77,11 +80,12 @@ abbrev pub AreAnswered : ShelfSeen → ShelfSeen → Option Command → ℕ → 
 AreAnswered old new None status text = ⊥
 AreAnswered old new (Some command) status text = IsAnswered old new command status text
 
--- the name under which a command stores
-abbrev pub stored_by : Option Command → Option (List ℕ)
-stored_by (Some (Verify name query weights file)) = file
-stored_by (Some (Exact name query weights file)) = file
-stored_by _ = None
+-- a command may store under a name
+abbrev pub IsStoredBy : Option Command → List ℕ → Type 0
+IsStoredBy (Some (Verify name query weights file)) under = file ≡ Some under
+IsStoredBy (Some (Exact name query weights file)) under = file ≡ Some under
+IsStoredBy (Some (Tolerate name query most weights file)) under = IsOfTwo file under
+IsStoredBy _ under = ⊥
 
 -- ---- causes of refusals. Old and new are the shelf before and after; what it tells of a file is said where it tells
 -- the file that is held has this fault
@@ -109,35 +113,39 @@ FromScript old new net name k (BadScript refused) =
 FromScript old new net name k Memory = IsCalm old new
 FromScript old new net name k refusal = ⊥
 
+-- texts that ask something of a network: its file is the cause, or, that being a network's, the texts, or what both ask, or its answer
+-- is to be stored and can't be
+abbrev pub FromAsking : (Problem → Refusal → Type 0) → (ShelfSeen → ShelfSeen → Problem → Refusal → Type 0) → ShelfSeen → ShelfSeen → List ℕ → List ℕ → Option (List ℕ) → Refusal → Type 0
+FromAsking Undecided Unstored old new name query weights refusal =
+    FromNetwork old new name refusal
+    ⊎ ((net : Net) × (old.told ≡ true → HoldsNetwork (old.file name) net) × FromAsked Undecided net query weights refusal × IsCalm old new)
+    ⊎ ForTexts old name query weights (λ problem. Unstored old new problem refusal)
+
 -- the network file is the cause, or, that being a network's, what is asked of it, or another file; or what is asked of a ring; or the
 -- text that is to be bytes
 abbrev pub FromCommand : ShelfSeen → ShelfSeen → Command → Refusal → Type 0
-FromCommand old new (Verify name query weights file) refusal =
-    FromNetwork old new name refusal
-    ⊎ ((net : Net) × (old.told ≡ true → HoldsNetwork (old.file name) net) × FromTexts net query weights refusal × IsCalm old new)
-    ⊎ ((net : Net) × (old.told ≡ true → HoldsNetwork (old.file name) net) × ForAsked net query weights (λ problem. FromStore old new problem file refusal))
+FromCommand old new (Verify name query weights file) refusal = FromAsking FromDecision (FromStore file) old new name query weights refusal
 FromCommand old new (Check name query file weights) refusal =
     FromNetwork old new name refusal
     ⊎ ((net : Net) × (old.told ≡ true → HoldsNetwork (old.file name) net) × AreBadTexts net query weights refusal × IsCalm old new)
-    ⊎ ((net : Net) × (old.told ≡ true → HoldsNetwork (old.file name) net) × ForAsked net query weights (λ problem. FromCertificate old new problem file refusal))
+    ⊎ ForTexts old name query weights (λ problem. FromCertificate old new problem file refusal)
 FromCommand old new (Play name script k) refusal =
     FromNetwork old new name refusal
     ⊎ ((net : Net) × (old.told ≡ true → HoldsNetwork (old.file name) net) × FromScript old new net script k refusal)
 FromCommand old new (Gen seed size) refusal = IsCalm old new × FromRing seed size refusal
-FromCommand old new (Exact name query weights file) refusal =
-    FromNetwork old new name refusal
-    ⊎ ((net : Net) × (old.told ≡ true → HoldsNetwork (old.file name) net) × (AreBadTexts net query weights refusal ⊎ ForAsked net query weights (λ problem. FromSplitting problem refusal)) × IsCalm old new)
-    ⊎ ((net : Net) × (old.told ≡ true → HoldsNetwork (old.file name) net) × ForAsked net query weights (λ problem. FromTreeStore old new problem file refusal))
+FromCommand old new (Exact name query weights file) refusal = FromAsking FromSplitting (FromTreeStore file) old new name query weights refusal
 FromCommand old new (CheckExact name query file weights) refusal =
     FromNetwork old new name refusal
     ⊎ ((net : Net) × (old.told ≡ true → HoldsNetwork (old.file name) net) × AreBadTexts net query weights refusal × IsCalm old new)
-    ⊎ ((net : Net) × (old.told ≡ true → HoldsNetwork (old.file name) net) × ForAsked net query weights (λ problem. FromTree old new problem file refusal))
+    ⊎ ForTexts old name query weights (λ problem. FromTree old new problem file refusal)
+FromCommand old new (Tolerate name query most weights file) refusal =
+    FromAsking (FromTolerating most) (FromTreesStore most file) old new name query weights refusal
 FromCommand old new (Protect name) refusal =
     FromNetwork old new name refusal
     ⊎ ((bytes : List ℕ) × (old.told ≡ true → old.file name ≡ Some bytes) × FromPlan bytes refusal × IsCalm old new)
 FromCommand old new (Packets name query weights) refusal =
     FromNetwork old new name refusal
-    ⊎ ((net : Net) × (old.told ≡ true → HoldsNetwork (old.file name) net) × FromTexts net query weights refusal × IsCalm old new)
+    ⊎ ((net : Net) × (old.told ≡ true → HoldsNetwork (old.file name) net) × FromAsked FromDecision net query weights refusal × IsCalm old new)
 FromCommand old new (Stack hex) refusal = IsCalm old new × FromHex hex refusal
 
 -- the words are the cause, which are no command, or what they ask for
@@ -147,9 +155,12 @@ FromWords old new None Memory = IsCalm old new
 FromWords old new None refusal = ⊥
 FromWords old new (Some command) refusal = FromCommand old new command refusal
 
--- what a refusal leaves of files: all, but for the one that couldn't be stored, of which nothing is known
+-- what a refusal leaves of files: all, but for the one that couldn't be stored, of which nothing is known, and for the first of two where
+-- the second couldn't be
 abbrev pub IsLeft : Refusal → ShelfSeen → ShelfSeen → Type 0
 IsLeft (CannotWrite name) old new = OthersStand (Some name.now) old new
+IsLeft (CannotWriteBelow name) old new = StandBut (IsOfTwo (Some name.now)) old new
+IsLeft (NoMemoryBelow name) old new = OthersStand (Some name.now) old new
 IsLeft refusal old new = AllStand old new
 
 -- ---- what is done
@@ -194,6 +205,7 @@ CanBeAnswered shelf (Play name script k) = (net : Net) × HoldsNetwork (shelf.fi
 CanBeAnswered shelf (Gen seed size) = Unit {0}
 CanBeAnswered shelf (Exact name text weights file) = CanBeAsked shelf name text weights
 CanBeAnswered shelf (CheckExact name text file weights) = (net : Net) × HoldsNetwork (shelf.file name) net × ((bytes : List ℕ) × (t : TreeCertificate) × IsCertificateFile shelf file bytes × IsAcceptedTree net text weights bytes t)
+CanBeAnswered shelf (Tolerate name text most weights file) = CanBeAsked shelf name text weights
 CanBeAnswered shelf (Protect name) = (net : Net) × HoldsNetwork (shelf.file name) net
 CanBeAnswered shelf (Packets name text weights) = CanBeAsked shelf name text weights
 CanBeAnswered shelf (Stack hex) = Unit {0}
@@ -207,13 +219,13 @@ MayEnd problem file status =
     ⊎ EndsUndecided problem status
     ⊎ ((status ≡ 14) × IsNamed file × IsTooLargeToWrite problem)
 
--- how it may end where an exact answer is asked for: with yes or no, or with a refusal that is due
-abbrev pub MayEndExactly : Problem → Option (List ℕ) → ℕ → Type 0
-MayEndExactly problem file status =
+-- how it may end where an answer without doubt is asked for: with yes or no, or with a refusal that is due
+abbrev pub MayEndExactly : (ℕ → Type 0) → Type 0 → Option (List ℕ) → ℕ → Type 0
+MayEndExactly Untold Large file status =
     (status ≡ 0)
     ⊎ (status ≡ 1)
-    ⊎ EndsUnsplit problem status
-    ⊎ ((status ≡ 14) × IsNamed file × IsTreeTooLarge problem)
+    ⊎ Untold status
+    ⊎ ((status ≡ 14) × IsNamed file × Large)
 
 -- the statuses with which texts may end that are asked of a network
 abbrev pub IsAskedStatus : ShelfSeen → List ℕ → List ℕ → Option (List ℕ) → Option (List ℕ) → ℕ → Type 0
@@ -225,8 +237,11 @@ IsStatus shelf (Verify name text weights file) status = IsAskedStatus shelf name
 IsStatus shelf (Check name text file weights) status = status ≡ 0
 IsStatus shelf (Play name script k) status = status ≡ 0
 IsStatus shelf (Gen seed size) status = (status ≡ 0) ⊎ ForRing seed size (λ problem. EndsUndecided problem status)
-IsStatus shelf (Exact name text weights file) status = (net : Net) × HoldsNetwork (shelf.file name) net × ForAsked net text weights (λ problem. MayEndExactly problem file status)
+IsStatus shelf (Exact name text weights file) status =
+    (net : Net) × HoldsNetwork (shelf.file name) net × ForAsked net text weights (λ problem. MayEndExactly (EndsUnsplit problem) (IsTreeTooLarge problem) file status)
 IsStatus shelf (CheckExact name text file weights) status = status ≡ 0
+IsStatus shelf (Tolerate name text most weights file) status =
+    (net : Net) × HoldsNetwork (shelf.file name) net × ForAsked net text weights (λ problem. MayEndExactly (EndsUntold problem most) (AreTreesTooLarge problem most) file status)
 IsStatus shelf (Protect name) status = (status ≡ 0) ⊎ ((status ≡ 15) × ((bytes : List ℕ) × (shelf.file name ≡ Some bytes) × HasNoProtection bytes))
 IsStatus shelf (Packets name text weights) status = IsAskedStatus shelf name text weights None status
 IsStatus shelf (Stack hex) status = (status ≡ 0) ⊎ ((status ≡ 16) × ShowsNoStack hex)

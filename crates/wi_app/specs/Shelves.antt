@@ -1,15 +1,27 @@
 -- What becomes of a shelf. Old and new are the shelf before and after; what it tells of a file is said where it tells.
-use Rattle.std.specs.Prelude.{◌≡◌, ◌≢◌, ℕ, List, [], ◌∷◌, ◌++◌, Option, Some}
+use Rattle.std.specs.Prelude.{◌≡◌, ◌⊎◌, ℕ, List, [], ◌∷◌, ◌++◌, codes, Option, Some, option_map}
 use Rattle.wi_base.specs.declared.shelf.CallKind.TheVariants.{Fetch, Store}
 use Rattle.wi_base.specs.Shelf.{ShelfSeen}
 
+-- every file stands, but for those of such names
+abbrev pub StandBut : (List ℕ → Type 0) → ShelfSeen → ShelfSeen → Type 0
+StandBut P old new = (name : List ℕ) → (P name → ⊥) → new.file name ≡ old.file name
+
 -- every file stands, but for that of this name if there is one
 abbrev pub OthersStand : Option (List ℕ) → ShelfSeen → ShelfSeen → Type 0
-OthersStand file old new = (name : List ℕ) → file ≢ Some name → new.file name ≡ old.file name
+OthersStand file old new = StandBut (λ name. file ≡ Some name) old new
 
 -- every file stands
 abbrev pub AllStand : ShelfSeen → ShelfSeen → Type 0
 AllStand old new = (name : List ℕ) → new.file name ≡ old.file name
+
+-- where a command stores two files, the name of the second
+abbrev pub below_name : List ℕ → List ℕ
+below_name name = name ++ codes ".below"
+
+-- a name is that of one of the two
+abbrev pub IsOfTwo : Option (List ℕ) → List ℕ → Type 0
+IsOfTwo file name = (file ≡ Some name) ⊎ (option_map below_name file ≡ Some name)
 
 -- no call on the shelf failed
 abbrev pub IsCalm : ShelfSeen → ShelfSeen → Type 0

@@ -14,13 +14,15 @@ use Rattle.wi_report.specs.CertificateFaults.{bad_line_text, certificate_fault_t
 use Rattle.wi_report.specs.Stacks.{stack_refused_text}
 use Rattle.wi_wire.specs.declared.refused.StackRefused.TheVariants as stack
 use Rattle.wi_app.specs.declared.refusal.Refusal.{Refusal}
-use Rattle.wi_app.specs.declared.refusal.Refusal.TheVariants.{Usage, CannotRead, CannotWrite, Network, Query, Weights, Overflow, TooLong, Script, LongScript, LargeCertificate, BadLine, NotAccepted, NotWritten, ManyNodes, TreeNotWritten, Plan, Unprotected, LargeNetwork, NotHex, BadStack, CannotPrint, Memory}
+use Rattle.wi_app.specs.declared.refusal.Refusal.TheVariants.{Usage, CannotRead, CannotWrite, CannotWriteBelow, NoMemoryBelow, Network, Query, Weights, Overflow, TooLong, Script, LongScript, LargeCertificate, BadLine, NotAccepted, NotWritten, ManyNodes, TreeNotWritten, Plan, Unprotected, LargeNetwork, NotHex, BadStack, CannotPrint, Memory}
 
 -- what is said
 abbrev pub text_of : Refusal → List ℕ
-text_of Usage = codes "usage: whatif verify NETWORK QUERY [--weights W] [--certificate FILE]\n       whatif check NETWORK QUERY CERTIFICATE [--weights W]\n       whatif play NETWORK SCRIPT K\n       whatif gen SEED SIZE\n       whatif exact NETWORK QUERY [--weights W] [--certificate FILE]\n       whatif check-exact NETWORK QUERY CERTIFICATE [--weights W]\n       whatif protect PLAN\n       whatif packets NETWORK QUERY [--weights W]\n       whatif stack HEX\n"
+text_of Usage = codes "usage: whatif verify NETWORK QUERY [--weights W] [--certificate FILE]\n       whatif check NETWORK QUERY CERTIFICATE [--weights W]\n       whatif play NETWORK SCRIPT K\n       whatif gen SEED SIZE\n       whatif exact NETWORK QUERY [--weights W] [--certificate FILE]\n       whatif check-exact NETWORK QUERY CERTIFICATE [--weights W]\n       whatif tolerate NETWORK QUERY LIMIT [--weights W] [--certificate FILE]\n       whatif protect PLAN\n       whatif packets NETWORK QUERY [--weights W]\n       whatif stack HEX\n"
 text_of (CannotRead name) = codes "whatif: cannot read " ++ name.now ++ codes "\n"
 text_of (CannotWrite name) = codes "whatif: cannot write " ++ name.now ++ codes "\n"
+text_of (CannotWriteBelow name) = codes "whatif: cannot write " ++ name.now ++ codes ".below\n"
+text_of (NoMemoryBelow name) = codes "whatif: out of memory\n"
 text_of (Network f) = fault_text f
 text_of (Query said) = said
 text_of (Weights f) = weight_fault_text f
@@ -53,6 +55,7 @@ IsPutTogether TreeNotWritten = ⊥
 IsPutTogether LargeNetwork = ⊥
 IsPutTogether NotHex = ⊥
 IsPutTogether CannotPrint = ⊥
+IsPutTogether (NoMemoryBelow name) = ⊥
 IsPutTogether Memory = ⊥
 IsPutTogether _ = Unit {0}
 
@@ -61,6 +64,8 @@ abbrev pub status_of : Refusal → ℕ
 status_of Usage = 9
 status_of (CannotRead name) = 10
 status_of (CannotWrite name) = 10
+status_of (CannotWriteBelow name) = 10
+status_of (NoMemoryBelow name) = 11
 status_of (Network fault.Memory) = 11
 status_of (Network f) = 3
 status_of (Query said) = 4

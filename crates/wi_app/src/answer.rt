@@ -3,8 +3,8 @@
 ghost use Rattle.std.specs.Prelude.{◌≡◌, Some, map, string_bytes, IfOk, IfErr};
 ghost use Rattle.wi_words.specs.Commands.{IsFit, command_of};
 ghost use Rattle.wi_words.specs.Shown.{shown};
-ghost use Rattle.wi_app.specs.Run.{AreAnswered, FromCommand, FromWords, IsAnswered, IsLeft, stored_by};
-ghost use Rattle.wi_app.specs.Shelves.{IsCalm, OthersStand};
+ghost use Rattle.wi_app.specs.Run.{AreAnswered, FromCommand, FromWords, IsAnswered, IsLeft, IsStoredBy};
+ghost use Rattle.wi_app.specs.Shelves.{IsCalm, StandBut};
 
 use crate::check::check;
 use crate::check_exact::check_exact;
@@ -15,6 +15,7 @@ use crate::protect::protect;
 use crate::refusal::Refusal;
 use crate::ring::summary_of_ring;
 use crate::stack::stack;
+use crate::tolerate::tolerate;
 use crate::verify::verify;
 use std::alloc::Global;
 use wi_base::Shelf;
@@ -35,7 +36,7 @@ pub fn answer_to_words<'a, S: Shelf>(
     shelf: &mut S,
 ) -> Result<Printed, Refusal<'a>>
     ensures told { (S.seen shelf.new).told ≡ (S.seen shelf.old).told }
-    ensures others { OthersStand (stored_by (command_of (map string_bytes words.now))) (S.seen shelf.old) (S.seen shelf.new) }
+    ensures others { StandBut (IsStoredBy (command_of (map string_bytes words.now))) (S.seen shelf.old) (S.seen shelf.new) }
     ensures left { IfErr result (λ refusal. IsLeft refusal (S.seen shelf.old) (S.seen shelf.new)) }
     ensures calm { IfOk result (λ _. IsCalm (S.seen shelf.old) (S.seen shelf.new)) }
     ensures answered { IfOk result (λ printed. AreAnswered (S.seen shelf.old) (S.seen shelf.new) (command_of (map string_bytes words.now)) printed.status printed.text) }
@@ -55,7 +56,7 @@ fn answer_to<'a, S: Shelf>(
 ) -> Result<Printed, Refusal<'a>>
     requires { IsFit (shown command) }
     ensures told { (S.seen shelf.new).told ≡ (S.seen shelf.old).told }
-    ensures others { OthersStand (stored_by (Some (shown command.entry))) (S.seen shelf.old) (S.seen shelf.new) }
+    ensures others { StandBut (IsStoredBy (Some (shown command.entry))) (S.seen shelf.old) (S.seen shelf.new) }
     ensures left { IfErr result (λ refusal. IsLeft refusal (S.seen shelf.old) (S.seen shelf.new)) }
     ensures calm { IfOk result (λ _. IsCalm (S.seen shelf.old) (S.seen shelf.new)) }
     ensures answered { IfOk result (λ printed. IsAnswered (S.seen shelf.old) (S.seen shelf.new) (shown command.entry) printed.status printed.text) }
@@ -88,6 +89,13 @@ fn answer_to<'a, S: Shelf>(
             certificate,
             weights,
         } => check_exact(alloc, network, query, certificate, weights, shelf),
+        Command::Tolerate {
+            network,
+            query,
+            most,
+            weights,
+            certificate,
+        } => tolerate(alloc, network, query, most, weights, certificate, shelf),
         Command::Protect { plan } => protect(alloc, plan, shelf),
         Command::Packets {
             network,

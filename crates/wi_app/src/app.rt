@@ -2,8 +2,8 @@
 //! over the system's files and streams. What is printed goes out in one call; where that fails, a front of it may stand there.
 ghost use Rattle.std.specs.Prelude.{◌≡◌, ◌<◌, ◌-◌, ◌^◌, map, string_bytes};
 ghost use Rattle.wi_words.specs.Commands.{command_of};
-ghost use Rattle.wi_app.specs.Run.{Completes, Does, Prints, stored_by};
-ghost use Rattle.wi_app.specs.Shelves.{OthersStand};
+ghost use Rattle.wi_app.specs.Run.{Completes, Does, IsStoredBy, Prints};
+ghost use Rattle.wi_app.specs.Shelves.{StandBut};
 
 use crate::answer::{Printed, answer_to_words};
 use crate::refusal::{Refusal, say};
@@ -22,7 +22,7 @@ pub fn run<S: Shelf, O: Sink, E: Sink>(
     requires out { (O.seen out.old).faults < 2 ^ 64 - 1 }
     requires err { (E.seen err.old).faults < 2 ^ 64 - 1 }
     ensures tells { ((S.seen shelf.new).told ≡ (S.seen shelf.old).told) × ((O.seen out.new).told ≡ (O.seen out.old).told) × ((E.seen err.new).told ≡ (E.seen err.old).told) }
-    ensures others { OthersStand (stored_by (command_of (map string_bytes words.now))) (S.seen shelf.old) (S.seen shelf.new) }
+    ensures others { StandBut (IsStoredBy (command_of (map string_bytes words.now))) (S.seen shelf.old) (S.seen shelf.new) }
     ensures does { Does (map string_bytes words.now) (S.seen shelf.old) (S.seen shelf.new) (O.seen out.old) (O.seen out.new) (E.seen err.old) (E.seen err.new) result }
     ensures completes { Completes (map string_bytes words.now) (S.seen shelf.old) (S.seen shelf.new) (O.seen out.old) (O.seen out.new) (E.seen err.old) (E.seen err.new) result }
 {

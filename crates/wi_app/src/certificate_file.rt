@@ -1,6 +1,5 @@
-//! A certificate is made whole before it is stored, so that nothing is half written for want of memory. It is read in parts, each
-//! of which is let go before the next: only the certificate's numbers are kept. A file over the limit is told so whatever its
-//! lines are, so after a bad line the rest is still asked for and counted.
+//! A certificate is read in parts, each of which is let go before the next: only the certificate's numbers are kept. A file over the
+//! limit is told so whatever its lines are, so after a bad line the rest is still asked for and counted.
 ghost use Rattle.std.specs.Prelude.{◌≡◌, ◌≤◌, ℕ, List, true, Some, IfOk, IfErr, OnOk, vec_len};
 ghost use Rattle.wi_cert.specs.Reading.{fed, unread};
 ghost use Rattle.wi_cert.specs.Sheets.{certificates};
@@ -13,8 +12,9 @@ ghost use Rattle.wi_app.specs.Shelves.{AllStand, IsCalm, OthersStand};
 ghost use Rattle.wi_app.specs.private.Stages.{FromParts, IsKept, IsNotKept};
 
 use crate::refusal::Refusal;
+use crate::store::store;
 use std::alloc::Global;
-use wi_base::{FetchRefused, Shelf, StoreRefused};
+use wi_base::{FetchRefused, Shelf};
 use wi_cert::{Certificate, DecodeRefused, EncodeRefused, Feeder, encode_within};
 
 /// The most bytes that a certificate's lines from `heads` on have where it is written.
@@ -46,11 +46,7 @@ pub fn store_certificate<'a, S: Shelf>(
         Err(EncodeRefused::TooLong) => return Err(Refusal::NotWritten),
         Err(EncodeRefused::Memory) => return Err(Refusal::Memory),
     };
-    match shelf.store(name, text.as_slice()) {
-        Ok(()) => Ok(()),
-        Err(StoreRefused::Failed) => Err(Refusal::CannotWrite(name)),
-        Err(StoreRefused::Memory) => Err(Refusal::Memory),
-    }
+    store(name, text.as_slice(), shelf)
 }
 
 /// The certificate in a file.

@@ -6,10 +6,10 @@ ghost use Rattle.wi_cert.specs.Trees.{IsTreeWritable};
 ghost use Rattle.wi_build.specs.Problems.{Problem, problem_of};
 ghost use Rattle.wi_branch.specs.Exactly.{IsInexact};
 ghost use Rattle.wi_app.specs.Asked.{ForAsked};
-ghost use Rattle.wi_app.specs.Exact.{FromSplitting, IsReportedExactly, IsShownExactly, IsTreeStored};
+ghost use Rattle.wi_app.specs.Exact.{FromSplitting, FromTreeStore, IsReportedExactly, IsShownExactly, IsTreeStored};
 ghost use Rattle.wi_app.specs.Run.{FromCommand, IsAnswered, IsLeft};
 ghost use Rattle.wi_app.specs.Shelves.{IsCalm, OthersStand};
-ghost use Rattle.wi_app.specs.private.Stages.{FromAnsweringExactly, FromDecidingExactly, IsTreeNotKept};
+ghost use Rattle.wi_app.specs.private.Stages.{FromAnswering, FromDeciding, IsTreeNotKept};
 
 use crate::answer::Printed;
 use crate::fetch::network;
@@ -65,7 +65,7 @@ fn answer_exactly<'a, S: Shelf>(
     ensures left { IfErr result (λ refusal. IsLeft refusal (S.seen shelf.old) (S.seen shelf.new)) }
     ensures calm { IfOk result (λ _. IsCalm (S.seen shelf.old) (S.seen shelf.new)) }
     ensures answered { IfOk result (λ printed. ForAsked net.now query.now (option_map (λ s. s.now) weights.entry) (λ problem. IsReportedExactly problem (option_map (λ s. s.now) file.entry) (S.seen shelf.new) printed.status printed.text)) }
-    ensures refused { IfErr result (λ refusal. FromAnsweringExactly (S.seen shelf.old) (S.seen shelf.new) net.now query.now (option_map (λ s. s.now) weights.entry) (option_map (λ s. s.now) file.entry) refusal) }
+    ensures refused { IfErr result (FromAnswering FromSplitting (FromTreeStore (option_map (λ s. s.now) file.entry)) (S.seen shelf.old) (S.seen shelf.new) net.now query.now (option_map (λ s. s.now) weights.entry)) }
 {
     let asked = read_texts(alloc, net, query, weights)?;
     let printed = report_exactly(alloc, net, &asked.query, &asked.vector, file, shelf);
@@ -88,7 +88,7 @@ fn report_exactly<'a, S: Shelf>(
     ensures left { IfErr result (λ refusal. IsLeft refusal (S.seen shelf.old) (S.seen shelf.new)) }
     ensures calm { IfOk result (λ _. IsCalm (S.seen shelf.old) (S.seen shelf.new)) }
     ensures reported { IfOk result (λ printed. IsReportedExactly (problem_of net.now query.now vector.now) (option_map (λ s. s.now) file.entry) (S.seen shelf.new) printed.status printed.text) }
-    ensures refused { IfErr result (λ refusal. FromDecidingExactly (S.seen shelf.old) (S.seen shelf.new) (problem_of net.now query.now vector.now) (option_map (λ s. s.now) file.entry) refusal) }
+    ensures refused { IfErr result (FromDeciding FromSplitting (FromTreeStore (option_map (λ s. s.now) file.entry)) (S.seen shelf.old) (S.seen shelf.new) (problem_of net.now query.now vector.now)) }
 {
     let (answer, tree) = decided_exactly(alloc, net, query, vector)?;
     let nodes = tree.nodes.as_slice().len();
@@ -119,8 +119,8 @@ fn decided_exactly<'a>(
     }
 }
 
-// Why there is no exact answer. So many terms of weights are shown.
-fn refusal_for<'a>(refused: ExactRefused, terms: usize) -> Refusal<'a>
+/// Why there is no exact answer. So many terms of weights are shown.
+pub fn refusal_for<'a>(refused: ExactRefused, terms: usize) -> Refusal<'a>
     ensures { (problem : Problem) → IsInexact problem 10000 refused → terms ≡ length problem.vector → FromSplitting problem result }
 {
     match refused {

@@ -16,8 +16,11 @@ mod protect;
 mod refusal;
 mod ring;
 mod stack;
+mod store;
 mod texts;
+mod tolerate;
 mod tree_file;
+mod trees_file;
 mod verify;
 
 pub use app::run;

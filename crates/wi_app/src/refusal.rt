@@ -26,7 +26,7 @@ pub const NODE_LIMIT: u32 = 10_000;
 
 // What is said where the words are no command.
 const USAGE: &[u8] =
-    b"usage: whatif verify NETWORK QUERY [--weights W] [--certificate FILE]\n       whatif check NETWORK QUERY CERTIFICATE [--weights W]\n       whatif play NETWORK SCRIPT K\n       whatif gen SEED SIZE\n       whatif exact NETWORK QUERY [--weights W] [--certificate FILE]\n       whatif check-exact NETWORK QUERY CERTIFICATE [--weights W]\n       whatif protect PLAN\n       whatif packets NETWORK QUERY [--weights W]\n       whatif stack HEX\n";
+    b"usage: whatif verify NETWORK QUERY [--weights W] [--certificate FILE]\n       whatif check NETWORK QUERY CERTIFICATE [--weights W]\n       whatif play NETWORK SCRIPT K\n       whatif gen SEED SIZE\n       whatif exact NETWORK QUERY [--weights W] [--certificate FILE]\n       whatif check-exact NETWORK QUERY CERTIFICATE [--weights W]\n       whatif tolerate NETWORK QUERY LIMIT [--weights W] [--certificate FILE]\n       whatif protect PLAN\n       whatif packets NETWORK QUERY [--weights W]\n       whatif stack HEX\n";
 
 // What is said where memory ran out.
 const NO_MEMORY: &[u8] = b"whatif: out of memory\n";
@@ -40,6 +40,10 @@ pub enum Refusal<'a> {
     CannotRead(&'a str),
     /// The call that was to store under this name failed.
     CannotWrite(&'a str),
+    /// The first of two trees is stored under this name, and the call that was to store the second failed.
+    CannotWriteBelow(&'a str),
+    /// The first of two trees is stored under this name, and memory ran out for the second.
+    NoMemoryBelow(&'a str),
     /// The network file has this fault.
     Network(NetFault),
     /// The text of the query has a fault, of which this is said.
@@ -108,6 +112,8 @@ pub fn status_of(refusal: &Refusal<'_>) -> u8
         Refusal::Usage => 9,
         Refusal::CannotRead(_) => 10,
         Refusal::CannotWrite(_) => 10,
+        Refusal::CannotWriteBelow(_) => 10,
+        Refusal::NoMemoryBelow(_) => 11,
         Refusal::CannotPrint => 10,
         Refusal::Script(ScriptRefused::Memory) => 11,
         Refusal::Script(_) => 12,
@@ -140,11 +146,27 @@ pub fn say<E: Sink>(alloc: Global, refusal: Refusal<'_>, err: &mut E) -> u8
     match refusal {
         Refusal::Usage => put(USAGE, status, err),
         Refusal::CannotRead(name) => {
-            put_made(cannot(alloc, "whatif: cannot read ", name), status, err)
+            put_made(
+                cannot(alloc, "whatif: cannot read ", name, "\n"),
+                status,
+                err,
+            )
         }
         Refusal::CannotWrite(name) => {
-            put_made(cannot(alloc, "whatif: cannot write ", name), status, err)
+            put_made(
+                cannot(alloc, "whatif: cannot write ", name, "\n"),
+                status,
+                err,
+            )
         }
+        Refusal::CannotWriteBelow(name) => {
+            put_made(
+                cannot(alloc, "whatif: cannot write ", name, ".below\n"),
+                status,
+                err,
+            )
+        }
+        Refusal::NoMemoryBelow(_) => put(NO_MEMORY, status, err),
         Refusal::Network(fault) => put_made(network_fault_text(alloc, fault), status, err),
         Refusal::Query(text) => put(text.as_bytes(), status, err),
         Refusal::Weights(fault) => put_made(weight_fault_text(alloc, &fault), status, err),
@@ -219,12 +241,12 @@ fn kept(status: u8) -> u8
 }
 
 // What is said of a call that failed, with the name of its file.
-fn cannot(alloc: Global, what: &str, name: &str) -> Result<Text, NoMemory>
-    ensures { IfOk result (λ text. text ≡ what.now ++ name.now ++ codes "\n") }
+fn cannot(alloc: Global, what: &str, name: &str, end: &str) -> Result<Text, NoMemory>
+    ensures { IfOk result (λ text. text ≡ what.now ++ name.now ++ end.now) }
 {
     let mut text = Text::new(alloc);
     text.put(what)?;
     text.put(name)?;
-    text.put("\n")?;
+    text.put(end)?;
     Ok(text)
 }

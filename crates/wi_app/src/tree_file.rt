@@ -1,5 +1,5 @@
-//! As of a certificate, a tree's text is made whole before it is stored, and read in parts, each of which is let go before the next.
-//! Of what was read only the tree's numbers are kept. A feeder of trees is taken and given back, so none is at hand after a refusal.
+//! As a certificate, a tree is read in parts, each of which is let go before the next, and of what was read only the tree's numbers are
+//! kept. A feeder of trees is taken and given back, so none is at hand after a refusal.
 ghost use Rattle.std.specs.Prelude.{◌≡◌, ℕ, List, Some, IfOk, IfErr, OnOk};
 ghost use Rattle.wi_cert.specs.Reading.{fed, unread};
 ghost use Rattle.wi_cert.specs.Trees.{IsTreeText, IsTreeWritable, trees};
@@ -8,15 +8,29 @@ ghost use Rattle.wi_app.specs.Certificates.{IsCertificateFile};
 ghost use Rattle.wi_app.specs.Exact.{FromTree, IsTreeStored};
 ghost use Rattle.wi_app.specs.Run.{IsLeft};
 ghost use Rattle.wi_app.specs.Shelves.{AllStand, IsCalm, OthersStand};
-ghost use Rattle.wi_app.specs.private.Stages.{FromParts, IsTreeNotKept};
+ghost use Rattle.wi_app.specs.private.Stages.{FromParts, IsNotMade, IsTreeNotKept, IsTreeToStore};
 
 use crate::certificate_file::{READ_LIMIT, next_part};
 use crate::refusal::Refusal;
+use crate::store::store;
 use std::alloc::Global;
-use wi_base::{Shelf, StoreRefused};
+use wi_base::Shelf;
 use wi_cert::{DecodeRefused, EncodeRefused, TreeCertificate, TreeFeeder, encode_tree_within};
 
-/// Stores a tree's text under a name, if it isn't too long.
+/// A tree's text, if it isn't too large to be written.
+pub fn tree_bytes<'a>(alloc: Global, tree: &TreeCertificate) -> Result<Vec<u8>, Refusal<'a>>
+    requires { IsTreeWritable tree.now }
+    ensures text { IfOk result (λ bytes. IsTreeToStore tree.now bytes.items) }
+    ensures refused { IfErr result (IsNotMade tree.now) }
+{
+    match encode_tree_within(alloc, tree, READ_LIMIT as usize) {
+        Ok(bytes) => Ok(bytes),
+        Err(EncodeRefused::TooLong) => Err(Refusal::TreeNotWritten),
+        Err(EncodeRefused::Memory) => Err(Refusal::Memory),
+    }
+}
+
+/// Stores a tree's text under a name, if it isn't too large.
 pub fn store_tree<'a, S: Shelf>(
     alloc: Global,
     tree: &TreeCertificate,
@@ -31,16 +45,10 @@ pub fn store_tree<'a, S: Shelf>(
     ensures kept { OnOk result (IsTreeStored (Some name.now) (S.seen shelf.new) tree.now) }
     ensures refused { IfErr result (λ refusal. IsTreeNotKept (S.seen shelf.old) (S.seen shelf.new) (Some name.now) tree.now refusal) }
 {
-    let text = match encode_tree_within(alloc, tree, READ_LIMIT as usize) {
-        Ok(text) => text,
-        Err(EncodeRefused::TooLong) => return Err(Refusal::TreeNotWritten),
-        Err(EncodeRefused::Memory) => return Err(Refusal::Memory),
-    };
-    match shelf.store(name, text.as_slice()) {
-        Ok(()) => Ok(()),
-        Err(StoreRefused::Failed) => Err(Refusal::CannotWrite(name)),
-        Err(StoreRefused::Memory) => Err(Refusal::Memory),
-    }
+    let bytes = tree_bytes(alloc, tree)?;
+    let stored = store(name, bytes.as_slice(), shelf);
+    drop(bytes);
+    stored
 }
 
 /// The tree in a file.

@@ -6,7 +6,9 @@ ghost use Rattle.wi_world.specs.Moves.{AreBounds};
 ghost use Rattle.wi_words.specs.Commands.{Verify};
 ghost use Rattle.wi_cert.specs.Text.{IsWritable};
 ghost use Rattle.wi_build.specs.Problems.{problem_of};
-ghost use Rattle.wi_app.specs.Decided.{IsAnswer, IsReported, status_for};
+ghost use Rattle.wi_app.specs.Asked.{ForAsked};
+ghost use Rattle.wi_app.specs.Certificates.{FromStore};
+ghost use Rattle.wi_app.specs.Decided.{FromDecision, IsReported, status_for};
 ghost use Rattle.wi_app.specs.Run.{FromCommand, IsAnswered, IsLeft};
 ghost use Rattle.wi_app.specs.Shelves.{IsCalm, OthersStand};
 ghost use Rattle.wi_report.specs.Reports.{IsKnownRun};
@@ -74,8 +76,8 @@ pub fn answer<'a, S: Shelf>(
     ensures others { OthersStand (option_map (λ s. s.now) file.entry) (S.seen shelf.old) (S.seen shelf.new) }
     ensures left { IfErr result (λ refusal. IsLeft refusal (S.seen shelf.old) (S.seen shelf.new)) }
     ensures calm { IfOk result (λ _. IsCalm (S.seen shelf.old) (S.seen shelf.new)) }
-    ensures answered { IfOk result (λ printed. IsAnswer (printed_by content) net.now query.now (option_map (λ s. s.now) weights.entry) (option_map (λ s. s.now) file.entry) (S.seen shelf.new) printed.status printed.text) }
-    ensures refused { IfErr result (λ refusal. FromAnswering (S.seen shelf.old) (S.seen shelf.new) net.now query.now (option_map (λ s. s.now) weights.entry) (option_map (λ s. s.now) file.entry) refusal) }
+    ensures answered { IfOk result (λ printed. ForAsked net.now query.now (option_map (λ s. s.now) weights.entry) (λ problem. IsReported (printed_by content) problem (option_map (λ s. s.now) file.entry) (S.seen shelf.new) printed.status printed.text)) }
+    ensures refused { IfErr result (FromAnswering FromDecision (FromStore (option_map (λ s. s.now) file.entry)) (S.seen shelf.old) (S.seen shelf.new) net.now query.now (option_map (λ s. s.now) weights.entry)) }
 {
     let asked = read_texts(alloc, net, query, weights)?;
     let printed = reported(
@@ -107,7 +109,7 @@ fn reported<'a, S: Shelf>(
     ensures left { IfErr result (λ refusal. IsLeft refusal (S.seen shelf.old) (S.seen shelf.new)) }
     ensures calm { IfOk result (λ _. IsCalm (S.seen shelf.old) (S.seen shelf.new)) }
     ensures reported { IfOk result (λ printed. IsReported (printed_by content) (problem_of net.now query.now vector.now) (option_map (λ s. s.now) file.entry) (S.seen shelf.new) printed.status printed.text) }
-    ensures refused { IfErr result (λ refusal. FromDeciding (S.seen shelf.old) (S.seen shelf.new) (problem_of net.now query.now vector.now) (option_map (λ s. s.now) file.entry) refusal) }
+    ensures refused { IfErr result (FromDeciding FromDecision (FromStore (option_map (λ s. s.now) file.entry)) (S.seen shelf.old) (S.seen shelf.new) (problem_of net.now query.now vector.now)) }
 {
     let (answer, certificate) = decided(alloc, net, query, vector)?;
     let text = text_by(alloc, net, query, vector, &answer, content);

@@ -20,6 +20,7 @@ use Rattle.wi_trace.specs.declared.answer.Answer.{Answer}
 use Rattle.wi_text.specs.Names.{shown}
 use Rattle.wi_report.specs.Shown.{label_shown}
 use Rattle.wi_report.specs.Reports.{report_of, exact_report_of}
+use Rattle.wi_report.specs.Tolerances.{none_up_to_text, tolerance_report_of}
 use Rattle.wi_report.specs.RefusedDecisions.{overflow_text}
 
 abbrev label : ℕ → Label
@@ -80,6 +81,14 @@ exactly = refl
 exactly_none : exact_report_of net bounds 2 none 15 ≡ codes "answer: no\nnodes: 15\n"
 unfolding digits
 exactly_none = refl
+
+takes_one : tolerance_report_of net bounds 2 1 found 3 ≡ codes "least: 1\nanswer: yes\nweight: 4 12\neffort: 10\nfailed: a.b#b.a\nnodes: 3\nlinks: 4\nx.o#a.x | ip1\na.c#c.a | 30 s10 ip1 | group 2 member 1\nc.b#b.c | s10 ip1 | group 1 member 1\nb.y#y.b | ip1 | group 1 member 1\n"
+unfolding digits
+takes_one = refl
+
+takes_more : none_up_to_text 12 ≡ codes "least: none up to 12\n"
+unfolding digits
+takes_more = refl
 
 too_much_effort : overflow_text 0 (weight 0 0 27670116110564327421) ≡ codes "overflow: component 1 is 27670116110564327421\n"
 unfolding digits

@@ -5,6 +5,7 @@ pub mod PlanFaults
 pub mod QueryFaults
 pub mod WeightFaults
 pub mod Reports
+pub mod Tolerances
 pub mod Summaries
 pub mod Packets
 pub mod Stacks

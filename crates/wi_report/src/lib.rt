@@ -13,6 +13,7 @@ mod shown;
 mod stacks;
 mod state_lines;
 mod summaries;
+mod tolerances;
 mod weight_faults;
 
 pub use certificate_faults::{bad_line_text, certificate_fault_text};
@@ -26,4 +27,5 @@ pub use script_faults::script_fault_text;
 pub use stacks::{stack_refused_text, stack_text};
 pub use state_lines::states;
 pub use summaries::summary;
+pub use tolerances::{none_up_to_text, tolerance_report};
 pub use weight_faults::weight_fault_text;

@@ -60,12 +60,12 @@ pub fn exact_report(
     report_in(Mode::Exact(nodes), alloc, net, query, vector, answer)
 }
 
-// How an answer was found, which one line of its report tells.
+/// How an answer was found, which one line of its report tells.
 #[derive(Clone, Copy)]
-enum Mode {
-    // While links fail and are repaired under way: the line tells whether there is a run.
+pub(crate) enum Mode {
+    /// While links fail and are repaired under way: the line tells whether there is a run.
     Moving,
-    // For links that stay as they are, by a tree of so many nodes.
+    /// For links that stay as they are, by a tree of so many nodes.
     Exact(usize),
 }
 
@@ -83,17 +83,26 @@ fn report_in(
     ensures { IfOk result (λ text. text ≡ report_with (mode_line mode) net.now query.now.bounds (length vector.now) answer.now) }
 {
     let mut text = Text::new(alloc);
-    put_answered(answer.word, &mut text)?;
-    put_found(
-        mode,
-        alloc,
-        net,
-        &query.bounds,
-        vector.len(),
-        answer,
-        &mut text,
-    )?;
+    put_report(mode, alloc, net, query, vector, answer, &mut text)?;
     Ok(text)
+}
+
+/// Adds the report on an answer that was found in this way.
+pub(crate) fn put_report(
+    mode: Mode,
+    alloc: Global,
+    net: &Network,
+    query: &Query,
+    vector: &Vector,
+    answer: &Answer,
+    text: &mut Text,
+) -> Result<(), NoMemory>
+    requires bounds { AreBounds net.now query.now.bounds }
+    requires run { IfSome answer.now.run (IsKnownRun net.now) }
+    ensures { OnOk result (text.new ≡ text.old ++ report_with (mode_line mode) net.now query.now.bounds (length vector.now) answer.now) }
+{
+    put_answered(answer.word, text)?;
+    put_found(mode, alloc, net, &query.bounds, vector.len(), answer, text)
 }
 
 /// Adds the line of the answer's word.

@@ -212,7 +212,7 @@ fn places_of_faults(rt: HostRuntime) -> Result<(), Fail> {
 
 // What is said of words that are no command.
 const USAGE: &str =
-    "9<><usage: whatif verify NETWORK QUERY [--weights W] [--certificate FILE]\n       whatif check NETWORK QUERY CERTIFICATE [--weights W]\n       whatif play NETWORK SCRIPT K\n       whatif gen SEED SIZE\n       whatif exact NETWORK QUERY [--weights W] [--certificate FILE]\n       whatif check-exact NETWORK QUERY CERTIFICATE [--weights W]\n       whatif protect PLAN\n       whatif packets NETWORK QUERY [--weights W]\n       whatif stack HEX\n>";
+    "9<><usage: whatif verify NETWORK QUERY [--weights W] [--certificate FILE]\n       whatif check NETWORK QUERY CERTIFICATE [--weights W]\n       whatif play NETWORK SCRIPT K\n       whatif gen SEED SIZE\n       whatif exact NETWORK QUERY [--weights W] [--certificate FILE]\n       whatif check-exact NETWORK QUERY CERTIFICATE [--weights W]\n       whatif tolerate NETWORK QUERY LIMIT [--weights W] [--certificate FILE]\n       whatif protect PLAN\n       whatif packets NETWORK QUERY [--weights W]\n       whatif stack HEX\n>";
 
 const NO_COMMANDS: &[&[&str]] = &[
     &[],
@@ -223,6 +223,12 @@ const NO_COMMANDS: &[&[&str]] = &[
     &["whatif", "verify", "n", "q", "w"],
     &["whatif", "check", "n", "q"],
     &["whatif", "verify", "-n", "q"],
+    &["whatif", "tolerate", "n", "q"],
+    &["whatif", "tolerate", "n", "q", "65536"],
+    &["whatif", "tolerate", "n", "q", "01"],
+    &["whatif", "tolerate", "n", "q", "+1"],
+    &["whatif", "tolerate", "n", "q", ""],
+    &["whatif", "tolerate", "n", "q", "1", "c"],
     &["whatif", "protect"],
     &["whatif", "protect", "n", "m"],
     &["whatif", "verify", "n", "--weights"],

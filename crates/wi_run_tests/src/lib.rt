@@ -29,3 +29,5 @@ mod ring;
 mod rings;
 #[cfg(test)]
 mod samples;
+#[cfg(test)]
+mod tolerate;

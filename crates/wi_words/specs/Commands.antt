@@ -1,6 +1,6 @@
 -- What the words of a command line are. Which words a command takes, and what it makes of them, is said by the definitions
 -- of the crate clap for simple commands.
-use Rattle.std.specs.Prelude.{ℕ, ◌-◌, ◌^◌, ◌≤◌, ◌&&◌, nat_le, Bool, true, false, codes, if◌then◌else◌, List, [], ◌∷◌, Option, Some, None}
+use Rattle.std.specs.Prelude.{ℕ, ◌-◌, ◌^◌, ◌≤◌, ◌&&◌, nat_le, Bool, true, false, codes, if◌then◌else◌, List, [], ◌∷◌, ◌++◌, Option, Some, None}
 use Rattle.std.specs.Option.{option_map, option_and_then}
 use Rattle.std.specs.Str.{bytes_eq}
 use Rattle.std.specs.Str.Parse.{digits_value}
@@ -18,9 +18,17 @@ operand id = record (new_rule id) { required = true; action = Some Set }
 abbrev pub option : Text → Rule
 option name = record (new_rule name) { long = Some name; action = Some Set }
 
+-- a shape with an option added
+abbrev pub with_option : Text → Shape → Shape
+with_option name shape = record shape { rules = shape.rules ++ option name ∷ [] }
+
+-- a shape with the options `--weights W` and `--certificate FILE` added
+abbrev pub with_options : Shape → Shape
+with_options shape = with_option (codes "certificate") (with_option (codes "weights") shape)
+
 -- `NAME NETWORK QUERY [--weights W] [--certificate FILE]`
 abbrev pub asking : Text → Shape
-asking name = record (new_shape name) { rules = operand (codes "NETWORK") ∷ operand (codes "QUERY") ∷ option (codes "weights") ∷ option (codes "certificate") ∷ [] }
+asking name = with_options (record (new_shape name) { rules = operand (codes "NETWORK") ∷ operand (codes "QUERY") ∷ [] })
 
 -- `NAME NETWORK QUERY CERTIFICATE [--weights W]`
 abbrev pub checking : Text → Shape
@@ -46,6 +54,10 @@ play = record (new_shape (codes "play")) { rules = operand (codes "NETWORK") ∷
 abbrev pub gen : Shape
 gen = record (new_shape (codes "gen")) { rules = operand (codes "SEED") ∷ operand (codes "SIZE") ∷ [] }
 
+-- `tolerate NETWORK QUERY LIMIT [--weights W] [--certificate FILE]`
+abbrev pub tolerate : Shape
+tolerate = with_options (record (new_shape (codes "tolerate")) { rules = operand (codes "NETWORK") ∷ operand (codes "QUERY") ∷ operand (codes "LIMIT") ∷ [] })
+
 -- `protect PLAN`
 abbrev pub protect : Shape
 protect = record (new_shape (codes "protect")) { rules = operand (codes "PLAN") ∷ [] }
@@ -61,7 +73,7 @@ stack = record (new_shape (codes "stack")) { rules = operand (codes "HEX") ∷ [
 -- the program's commands, one of which has to be given
 abbrev pub program : App
 program =
-    with_subcommand (with_subcommand (with_subcommand (with_subcommand (with_subcommand (with_subcommand (with_subcommand (with_subcommand (with_subcommand (record { top = record (new_shape (codes "whatif")) { subcommand_required = true }; subs = [] }) verify) check) play) gen) exact) check_exact) protect) packets) stack
+    with_subcommand (with_subcommand (with_subcommand (with_subcommand (with_subcommand (with_subcommand (with_subcommand (with_subcommand (with_subcommand (with_subcommand (record { top = record (new_shape (codes "whatif")) { subcommand_required = true }; subs = [] }) verify) check) play) gen) exact) check_exact) tolerate) protect) packets) stack
 
 -- clap takes the words: its parse has no fault
 abbrev pub is_empty : {X : Type 0} → List X → Bool
@@ -80,6 +92,7 @@ pub data Command : Type 0 where
   Gen : (seed size : ℕ) → Command
   Exact : (network query : Text) (weights certificate : Option Text) → Command
   CheckExact : (network query certificate : Text) (weights : Option Text) → Command
+  Tolerate : (network query : Text) (most : ℕ) (weights certificate : Option Text) → Command
   Protect : (plan : Text) → Command
   Packets : (network query : Text) (weights : Option Text) → Command
   Stack : (hex : Text) → Command
@@ -122,6 +135,11 @@ play_of rows =
 abbrev pub gen_of : List Row → Option Command
 gen_of rows = option_and_then (λ seed. option_map (λ size. Gen seed size) (option_and_then size_in (first_of (codes "SIZE") rows))) (option_and_then seed_in (first_of (codes "SEED") rows))
 
+abbrev pub tolerate_of : List Row → Option Command
+tolerate_of rows =
+    option_and_then (λ network. option_and_then (λ query. option_map (λ most. Tolerate network query most (first_of (codes "weights") rows) (first_of (codes "certificate") rows)) (option_and_then most_failed (first_of (codes "LIMIT") rows))) (first_of (codes "QUERY") rows))
+    (first_of (codes "NETWORK") rows)
+
 abbrev pub protect_of : List Row → Option Command
 protect_of rows = option_map (λ plan. Protect plan) (first_of (codes "PLAN") rows)
 
@@ -139,6 +157,7 @@ command_named met =
     else if bytes_eq met.0 (codes "gen") then gen_of met.1
     else if bytes_eq met.0 (codes "exact") then asked_of Exact met.1
     else if bytes_eq met.0 (codes "check-exact") then checked_of CheckExact met.1
+    else if bytes_eq met.0 (codes "tolerate") then tolerate_of met.1
     else if bytes_eq met.0 (codes "protect") then protect_of met.1
     else if bytes_eq met.0 (codes "packets") then packets_of met.1
     else if bytes_eq met.0 (codes "stack") then stack_of met.1

@@ -4,7 +4,7 @@ ghost use Rattle.std.specs.Prelude.{◌≡◌, IfOk, false};
 ghost use Rattle.clap.specs.Words.{app_of, rule_of, shape_of};
 ghost use Rattle.clap.specs.Simple.{with_subcommand};
 ghost use Rattle.clap.specs.declared.builder.command.Command.TheViews.{out-Command as fields_of};
-ghost use Rattle.wi_words.specs.Commands.{asking, check, check_exact, checking, exact, gen, operand, option, packets, play, program, protect, stack, verify};
+ghost use Rattle.wi_words.specs.Commands.{asking, check, check_exact, checking, exact, gen, operand, option, packets, play, program, protect, stack, tolerate, verify, with_options};
 
 use clap::{Arg, ArgAction, Command};
 use std::alloc::{AllocError, Global};
@@ -25,6 +25,17 @@ fn option<'a>(alloc: Global, name: &'a str) -> Arg<'a>
     Arg::new(alloc, name).long(name).action(ArgAction::Set)
 }
 
+// A command with the options `--weights W` and `--certificate FILE` added.
+fn with_options<'a>(alloc: Global, command: Command<'a>) -> Result<Command<'a>, AllocError>
+    ensures shape { IfOk result (λ c. shape_of c ≡ with_options (shape_of command.entry)) }
+    ensures local { (fields_of command.entry).has_globals ≡ false → IfOk result (λ c. (fields_of c).has_globals ≡ false) }
+{
+    let weights = option(alloc, "weights");
+    let certificate = option(alloc, "certificate");
+    let command = command.arg(weights)?.arg(certificate)?;
+    Ok(command)
+}
+
 // `NAME NETWORK QUERY [--weights W] [--certificate FILE]`
 fn asking<'a>(alloc: Global, name: &'a str) -> Result<Command<'a>, AllocError>
     ensures shape { IfOk result (λ c. shape_of c ≡ asking name.entry.now) }
@@ -32,14 +43,8 @@ fn asking<'a>(alloc: Global, name: &'a str) -> Result<Command<'a>, AllocError>
 {
     let network = operand(alloc, "NETWORK");
     let query = operand(alloc, "QUERY");
-    let weights = option(alloc, "weights");
-    let certificate = option(alloc, "certificate");
-    let command = Command::new(alloc, name)
-        .arg(network)?
-        .arg(query)?
-        .arg(weights)?
-        .arg(certificate)?;
-    Ok(command)
+    let command = Command::new(alloc, name).arg(network)?.arg(query)?;
+    with_options(alloc, command)
 }
 
 // `NAME NETWORK QUERY CERTIFICATE [--weights W]`
@@ -83,6 +88,21 @@ fn generate<'a>(alloc: Global) -> Result<Command<'a>, AllocError>
     let size = operand(alloc, "SIZE");
     let command = Command::new(alloc, "gen").arg(seed)?.arg(size)?;
     Ok(command)
+}
+
+// `tolerate NETWORK QUERY LIMIT [--weights W] [--certificate FILE]`
+fn tolerate<'a>(alloc: Global) -> Result<Command<'a>, AllocError>
+    ensures shape { IfOk result (λ c. shape_of c ≡ tolerate) }
+    ensures local { IfOk result (λ c. (fields_of c).has_globals ≡ false) }
+{
+    let network = operand(alloc, "NETWORK");
+    let query = operand(alloc, "QUERY");
+    let most = operand(alloc, "LIMIT");
+    let command = Command::new(alloc, "tolerate")
+        .arg(network)?
+        .arg(query)?
+        .arg(most)?;
+    with_options(alloc, command)
 }
 
 // `protect PLAN`
@@ -147,12 +167,13 @@ fn with_trying<'a>(alloc: Global, whole: Command<'a>) -> Result<Command<'a>, All
     Ok(whole.subcommand(play)?.subcommand(generate)?)
 }
 
-// A program with the command on failover designs added.
-fn with_protect<'a>(alloc: Global, whole: Command<'a>) -> Result<Command<'a>, AllocError>
-    ensures { IfOk result (λ c. app_of c ≡ with_subcommand (app_of whole.entry) protect) }
+// A program with the commands on failover designs added.
+fn with_designs<'a>(alloc: Global, whole: Command<'a>) -> Result<Command<'a>, AllocError>
+    ensures { IfOk result (λ c. app_of c ≡ with_subcommand (with_subcommand (app_of whole.entry) tolerate) protect) }
 {
+    let tolerate = tolerate(alloc)?;
     let protect = protect(alloc)?;
-    whole.subcommand(protect)
+    Ok(whole.subcommand(tolerate)?.subcommand(protect)?)
 }
 
 // A program with the commands on label stacks added.
@@ -170,5 +191,5 @@ pub fn program<'a>(alloc: Global) -> Result<Command<'a>, AllocError>
 {
     let whole = Command::new(alloc, "whatif").subcommand_required(true);
     let whole = with_trying(alloc, with_asking(alloc, whole)?)?;
-    with_wire(alloc, with_protect(alloc, with_exact(alloc, whole)?)?)
+    with_wire(alloc, with_designs(alloc, with_exact(alloc, whole)?)?)
 }

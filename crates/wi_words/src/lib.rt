@@ -59,6 +59,16 @@ pub enum Command<'a> {
         certificate: &'a str,
         weights: Option<&'a str>,
     },
+    /// `tolerate NETWORK QUERY LIMIT [--weights W] [--certificate FILE]`: the name of the network file, the text of the query, the
+    /// most failures that are asked for, the text of the weights, and the name under which the first tree is to be stored. The
+    /// second one is stored under that name followed by `.below`.
+    Tolerate {
+        network: &'a str,
+        query: &'a str,
+        most: u32,
+        weights: Option<&'a str>,
+        certificate: Option<&'a str>,
+    },
     /// `protect PLAN`: the name of the network file that has the plan.
     Protect {
         plan: &'a str,

@@ -4,7 +4,7 @@ ghost use Rattle.std.specs.Prelude.{◌≡◌, ◌≤◌, ◌^◌, true, None, I
 ghost use Rattle.std.specs.Str.Parse.{digits_value};
 ghost use Rattle.wi_text.specs.Characters.{is_number};
 ghost use Rattle.clap.specs.Words.{first_of, found_of, rows_of, subcommand_rows_of};
-ghost use Rattle.wi_words.specs.Commands.{Check, CheckExact, Exact, IsFit, Verify, asked_of, checked_of, command_named, gen_of, most_failed, number_within, packets_of, play_of, protect_of, seed_in, size_in, stack_of};
+ghost use Rattle.wi_words.specs.Commands.{Check, CheckExact, Exact, IsFit, Verify, asked_of, checked_of, command_named, gen_of, most_failed, number_within, packets_of, play_of, protect_of, seed_in, size_in, stack_of, tolerate_of};
 ghost use Rattle.wi_words.specs.Shown.{shown};
 
 use crate::Command;
@@ -142,6 +142,22 @@ fn gen_of<'a>(matches: &ArgMatches<'a>) -> Option<Command<'a>>
     Some(Command::Gen { seed, size })
 }
 
+fn tolerate_of<'a>(matches: &ArgMatches<'a>) -> Option<Command<'a>>
+    ensures command { option_map shown result ≡ tolerate_of (rows_of (found_of matches.now)) }
+    ensures fit { IfSome result (λ c. IsFit (shown c)) }
+{
+    let network = value_of(matches, "NETWORK")?;
+    let query = value_of(matches, "QUERY")?;
+    let most = most_failed(value_of(matches, "LIMIT")?)?;
+    Some(Command::Tolerate {
+        network,
+        query,
+        most,
+        weights: value_of(matches, "weights"),
+        certificate: value_of(matches, "certificate"),
+    })
+}
+
 fn protect_of<'a>(matches: &ArgMatches<'a>) -> Option<Command<'a>>
     ensures command { option_map shown result ≡ protect_of (rows_of (found_of matches.now)) }
     ensures fit { IfSome result (λ c. IsFit (shown c)) }
@@ -184,6 +200,7 @@ fn command_named<'a>(name: &str, matches: &ArgMatches<'a>) -> Option<Command<'a>
         "gen" => gen_of(matches),
         "exact" => asked_of(matches, true),
         "check-exact" => checked_of(matches, true),
+        "tolerate" => tolerate_of(matches),
         "protect" => protect_of(matches),
         "packets" => packets_of(matches),
         "stack" => stack_of(matches),

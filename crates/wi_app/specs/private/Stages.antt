@@ -1,5 +1,6 @@
 -- The causes and the outcomes of the steps within a command.
-use Rattle.std.specs.Prelude.{◌≡◌, ◌⊎◌, ℕ, ◌<◌, ◌≤◌, true, List, ◌++◌, length, codes, Option, Some, None, Ok}
+use Rattle.std.specs.Prelude.{◌≡◌, ◌⊎◌, ℕ, ◌<◌, ◌≤◌, true, List, [], ◌∷◌, ◌++◌, length, codes, Option, Some, None, Ok}
+use Rattle.wi_base.specs.declared.shelf.CallKind.TheVariants.{Store}
 use Rattle.wi_base.specs.Shelf.{ShelfSeen, IsLonger}
 use Rattle.wi_net.specs.Net.{Net}
 use Rattle.wi_netjson.specs.File.{network_of}
@@ -14,18 +15,18 @@ use Rattle.wi_accept.specs.Causes.{IsAccepted, IsRefusal}
 use Rattle.wi_app.specs.declared.verify.Content.{Content}
 use Rattle.wi_app.specs.declared.verify.Content.TheVariants.{Report, ReportAndPackets}
 use Rattle.wi_app.specs.declared.refusal.Refusal.{Refusal}
-use Rattle.wi_app.specs.declared.refusal.Refusal.TheVariants.{CannotRead, CannotWrite, Network, LargeNetwork, Script as BadScript, LargeCertificate, NotAccepted, NotWritten, TreeNotWritten, BadStack, Memory}
-use Rattle.wi_app.specs.Asked.{AreBadTexts, ForAsked}
-use Rattle.wi_app.specs.Certificates.{FromCertificate, FromStore, IsNamed}
-use Rattle.wi_app.specs.Decided.{FromDecision, FromTexts, packets_in, report_in}
+use Rattle.wi_app.specs.declared.refusal.Refusal.TheVariants.{CannotRead, CannotWrite, CannotWriteBelow, NoMemoryBelow, Network, LargeNetwork, Script as BadScript, LargeCertificate, NotAccepted, NotWritten, TreeNotWritten, BadStack, Memory}
+use Rattle.wi_app.specs.Asked.{AreBadTexts, ForAsked, FromAsked}
+use Rattle.wi_app.specs.Certificates.{FromCertificate, IsNamed}
+use Rattle.wi_app.specs.Decided.{packets_in, report_in}
 use Rattle.wi_cert.specs.declared.tree.TreeCertificate.{TreeCertificate}
-use Rattle.wi_cert.specs.Trees.{tree_text}
+use Rattle.wi_cert.specs.Trees.{IsTreeText}
 use Rattle.wi_accept.specs.Trees.{IsDecidedExactly, IsTreeAccepted, IsTreeRefusal}
-use Rattle.wi_app.specs.Exact.{FromSplitting, FromTree, FromTreeStore}
+use Rattle.wi_app.specs.Exact.{FromTree, IsLarge}
 use Rattle.wi_app.specs.Protection.{FromPlan}
 use Rattle.wi_app.specs.OnWire.{IsRefusedStack}
 use Rattle.wi_app.specs.Run.{IsBadScript}
-use Rattle.wi_app.specs.Shelves.{FetchFailed, IsCalm, StoreFailed}
+use Rattle.wi_app.specs.Shelves.{FetchFailed, IsCalm, StoreFailed, below_name}
 
 -- ---- play
 -- the bytes of the script are the cause
@@ -59,19 +60,34 @@ FromStack bytes (BadStack refused) = IsRefusedStack bytes refused
 FromStack bytes Memory = Unit {0}
 FromStack bytes refusal = ⊥
 
+-- ---- what is asked of a network
+-- the texts are the cause, or what both ask, or its answer is to be stored and can't be
+abbrev pub FromAnswering : (Problem → Refusal → Type 0) → (ShelfSeen → ShelfSeen → Problem → Refusal → Type 0) → ShelfSeen → ShelfSeen → Net → List ℕ → Option (List ℕ) → Refusal → Type 0
+FromAnswering Undecided Unstored old new net text weights refusal =
+    (FromAsked Undecided net text weights refusal × IsCalm old new) ⊎ ForAsked net text weights (λ problem. Unstored old new problem refusal)
+
+-- what is asked is the cause, or its answer is to be stored and can't be
+abbrev pub FromDeciding : (Problem → Refusal → Type 0) → (ShelfSeen → ShelfSeen → Problem → Refusal → Type 0) → ShelfSeen → ShelfSeen → Problem → Refusal → Type 0
+FromDeciding Undecided Unstored old new problem refusal = (Undecided problem refusal × IsCalm old new) ⊎ Unstored old new problem refusal
+
+-- the call that was to store under a name failed, or found no memory
+abbrev pub IsUnstored : ShelfSeen → ShelfSeen → List ℕ → Refusal → Type 0
+IsUnstored old new name (CannotWrite named) = StoreFailed (Some name) named.now old new
+IsUnstored old new name Memory = IsCalm old new
+IsUnstored old new name refusal = ⊥
+
+-- the same of two names, of which the first then has these bytes where the second fails
+abbrev pub AreUnstoredBytes : ShelfSeen → ShelfSeen → List ℕ → List ℕ → Refusal → Type 0
+AreUnstoredBytes old new name bytes (CannotWriteBelow named) =
+    (named.now ≡ name) × (new.told ≡ true → new.file name ≡ Some bytes) × (new.failed ≡ old.failed ++ (Store, below_name name) ∷ [])
+AreUnstoredBytes old new name bytes (NoMemoryBelow named) = (named.now ≡ name) × (new.told ≡ true → new.file name ≡ Some bytes) × IsCalm old new
+AreUnstoredBytes old new name bytes refusal = IsUnstored old new name refusal
+
 -- ---- verify and packets
 -- what is printed of an answer
 abbrev pub printed_by : Content → Problem → Answer → List ℕ
 printed_by Report = report_in
 printed_by ReportAndPackets = packets_in
-
--- the texts are the cause, or what both ask, or its certificate is to be stored and can't be
-abbrev pub FromAnswering : ShelfSeen → ShelfSeen → Net → List ℕ → Option (List ℕ) → Option (List ℕ) → Refusal → Type 0
-FromAnswering old new net text weights file refusal = (FromTexts net text weights refusal × IsCalm old new) ⊎ ForAsked net text weights (λ problem. FromStore old new problem file refusal)
-
--- what is asked is the cause, or its certificate is to be stored and can't be
-abbrev pub FromDeciding : ShelfSeen → ShelfSeen → Problem → Option (List ℕ) → Refusal → Type 0
-FromDeciding old new problem file refusal = (FromDecision problem refusal × IsCalm old new) ⊎ FromStore old new problem file refusal
 
 -- the certificate isn't too long to be written, and its text stands under the name, if there is one
 abbrev pub IsKept : Option (List ℕ) → ShelfSeen → Certificate → Type 0
@@ -109,19 +125,20 @@ IsNotBelieved problem c (NotAccepted fault terms) = (terms ≡ length problem.ve
 IsNotBelieved problem c Memory = Unit {0}
 IsNotBelieved problem c refusal = ⊥
 
--- ---- exact
--- the texts are the cause, or what both ask, or its tree is to be stored and can't be
-abbrev pub FromAnsweringExactly : ShelfSeen → ShelfSeen → Net → List ℕ → Option (List ℕ) → Option (List ℕ) → Refusal → Type 0
-FromAnsweringExactly old new net text weights file refusal =
-    ((AreBadTexts net text weights refusal ⊎ ForAsked net text weights (λ problem. FromSplitting problem refusal)) × IsCalm old new)
-    ⊎ ForAsked net text weights (λ problem. FromTreeStore old new problem file refusal)
+-- ---- exact and tolerate
+-- bytes are the text of a tree that isn't too large to be written
+abbrev pub IsTreeToStore : TreeCertificate → List ℕ → Type 0
+IsTreeToStore t bytes = IsTreeText t bytes × (length bytes ≤ 268435456)
 
-abbrev pub FromDecidingExactly : ShelfSeen → ShelfSeen → Problem → Option (List ℕ) → Refusal → Type 0
-FromDecidingExactly old new problem file refusal = (FromSplitting problem refusal × IsCalm old new) ⊎ FromTreeStore old new problem file refusal
+-- it is too large
+abbrev pub IsNotMade : TreeCertificate → Refusal → Type 0
+IsNotMade t TreeNotWritten = IsLarge t
+IsNotMade t Memory = Unit {0}
+IsNotMade t refusal = ⊥
 
 -- the tree is too large, or the call that was to store it failed
 abbrev pub IsTreeNotKept : ShelfSeen → ShelfSeen → Option (List ℕ) → TreeCertificate → Refusal → Type 0
-IsTreeNotKept old new file t TreeNotWritten = IsCalm old new × IsNamed file × (268435456 < length (tree_text t))
+IsTreeNotKept old new file t TreeNotWritten = IsCalm old new × IsNamed file × IsLarge t
 IsTreeNotKept old new file t (CannotWrite named) = StoreFailed file named.now old new
 IsTreeNotKept old new file t Memory = IsCalm old new
 IsTreeNotKept old new file t refusal = ⊥

@@ -44,3 +44,9 @@ returns-in-CheckExact-clause-answered g c = rw c.in-CheckExact.is c.check_exact.
 
 pub returns-in-CheckExact-clause-refused : goal.returns-in-CheckExact-clause-refused
 returns-in-CheckExact-clause-refused g c = rw c.in-CheckExact.is c.check_exact.ensures.refused
+
+pub returns-in-Tolerate-clause-answered : goal.returns-in-Tolerate-clause-answered
+returns-in-Tolerate-clause-answered g c = rw c.in-Tolerate.is c.tolerate.ensures.answered
+
+pub returns-in-Tolerate-clause-refused : goal.returns-in-Tolerate-clause-refused
+returns-in-Tolerate-clause-refused g c = rw c.in-Tolerate.is c.tolerate.ensures.refused

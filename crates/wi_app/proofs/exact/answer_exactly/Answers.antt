@@ -1,6 +1,7 @@
 use Rattle.std.proofs.Common.{inl, refl}
-use Rattle.wi_app.proofs.Exactly.{asked_exactly, asked_inexactly}
-use Rattle.wi_app.proofs.Outcomes.{err_as}
+use Rattle.std.specs.Prelude.{option_map}
+use Rattle.wi_app.specs.Exact.{FromSplitting, FromTreeStore, IsReportedExactly}
+use Rattle.wi_app.proofs.Outcomes.{asked_refused, asked_told, err_as}
 use Rattle.wi_app.proofs.exact.answer_exactly.Goals as goal
 
 pub returns-in_err-asked-clause-refused : goal.returns-in_err-asked-clause-refused
@@ -8,8 +9,8 @@ returns-in_err-asked-clause-refused g c = err_as _ _ _ c.from_residual.ensures.1
 
 pub returns-clause-answered : goal.returns-clause-answered
 returns-clause-answered g c =
-    asked_exactly c.report_exactly-printed.result _ _ _ _ (g.S.Shelf.seen c.report_exactly-printed.new.shelf) _ _ c.in_ok-asked.ensures.read c.report_exactly-printed.ensures.reported
+    asked_told c.report_exactly-printed.result (λ problem. IsReportedExactly problem (option_map (λ s. s.now) c.args.file) (g.S.Shelf.seen c.report_exactly-printed.new.shelf)) _ _ _ _ _ c.in_ok-asked.ensures.read c.report_exactly-printed.ensures.reported
 
 pub returns-clause-refused : goal.returns-clause-refused
 returns-clause-refused g c =
-    asked_inexactly c.report_exactly-printed.result (g.S.Shelf.seen c.args.shelf.now) (g.S.Shelf.seen c.report_exactly-printed.new.shelf) _ _ _ _ _ _ c.in_ok-asked.ensures.read c.report_exactly-printed.ensures.refused
+    asked_refused c.report_exactly-printed.result FromSplitting (FromTreeStore _) (g.S.Shelf.seen c.args.shelf.now) (g.S.Shelf.seen c.report_exactly-printed.new.shelf) _ _ _ _ _ c.in_ok-asked.ensures.read c.report_exactly-printed.ensures.refused

@@ -1,5 +1,6 @@
-use Rattle.wi_app.proofs.Outcomes.{left_later, others_later, same_shelf}
-use Rattle.wi_app.proofs.Exactly.{exact_answered, exact_refused}
+use Rattle.std.specs.Prelude.{option_map}
+use Rattle.wi_app.specs.Exact.{FromSplitting, FromTreeStore, IsReportedExactly}
+use Rattle.wi_app.proofs.Outcomes.{asking_answered, asking_refused, left_later, others_later, same_shelf}
 use Rattle.wi_app.proofs.exact.exact.Goals as goal
 
 pub returns-clause-others : goal.returns-clause-others
@@ -11,8 +12,9 @@ returns-clause-left g c =
     left_later c.answer_exactly-printed.result (g.S.Shelf.seen c.args.shelf.now) (g.S.Shelf.seen c.network.new.shelf) (g.S.Shelf.seen c.answer_exactly-printed.new.shelf) (same_shelf _ _ c.in_ok-net.ensures.told c.in_ok-net.ensures.files c.in_ok-net.ensures.calm) c.answer_exactly-printed.ensures.left
 
 pub returns-clause-answered : goal.returns-clause-answered
-returns-clause-answered g c = exact_answered _ (g.S.Shelf.seen c.args.shelf.now) (g.S.Shelf.seen c.answer_exactly-printed.new.shelf) c.args.name.now _ _ _ _ c.in_ok-net.ensures.held c.answer_exactly-printed.ensures.answered
+returns-clause-answered g c =
+    asking_answered _ (λ problem. IsReportedExactly problem (option_map (λ s. s.now) c.args.file) (g.S.Shelf.seen c.answer_exactly-printed.new.shelf)) (g.S.Shelf.seen c.args.shelf.now) c.args.name.now _ _ _ c.in_ok-net.ensures.held c.answer_exactly-printed.ensures.answered
 
 pub returns-clause-refused : goal.returns-clause-refused
 returns-clause-refused g c =
-    exact_refused _ (g.S.Shelf.seen c.args.shelf.now) (g.S.Shelf.seen c.network.new.shelf) (g.S.Shelf.seen c.answer_exactly-printed.new.shelf) c.args.name.now _ _ _ _ (same_shelf _ _ c.in_ok-net.ensures.told c.in_ok-net.ensures.files c.in_ok-net.ensures.calm) c.in_ok-net.ensures.held c.answer_exactly-printed.ensures.refused
+    asking_refused _ FromSplitting (FromTreeStore _) (g.S.Shelf.seen c.args.shelf.now) (g.S.Shelf.seen c.network.new.shelf) (g.S.Shelf.seen c.answer_exactly-printed.new.shelf) c.args.name.now _ _ _ (same_shelf _ _ c.in_ok-net.ensures.told c.in_ok-net.ensures.files c.in_ok-net.ensures.calm) c.in_ok-net.ensures.held c.answer_exactly-printed.ensures.refused

@@ -72,3 +72,7 @@ returns-in-Unprotected-clause-said g c =
 pub returns-in-LargeNetwork-clause-said : goal.returns-in-LargeNetwork-clause-said
 returns-in-LargeNetwork-clause-said g c =
     said_words _ _ _ (g.E.Sink.seen c.args.err.now) (g.E.Sink.seen c.put-in-LargeNetwork.new.err) _ c.in-LargeNetwork.is c.status_of-status.ensures c.put-in-LargeNetwork.ensures.said
+
+pub returns-in-CannotWriteBelow-clause-said : goal.returns-in-CannotWriteBelow-clause-said
+returns-in-CannotWriteBelow-clause-said g c =
+    said_made _ _ _ (g.E.Sink.seen c.args.err.now) (g.E.Sink.seen c.put_made-in-CannotWriteBelow.new.err) _ c.in-CannotWriteBelow.is c.status_of-status.ensures tt (c.put_made-in-CannotWriteBelow.ensures.said _ c.cannot-in-CannotWriteBelow.ensures)

@@ -1,6 +1,9 @@
 use Rattle.std.proofs.Common.{inl, refl}
+use Rattle.std.specs.Prelude.{option_map}
+use Rattle.wi_app.specs.Certificates.{FromStore}
+use Rattle.wi_app.specs.Decided.{FromDecision, IsReported}
 use Rattle.wi_app.specs.private.Stages.{printed_by}
-use Rattle.wi_app.proofs.Outcomes.{asked_answered, asked_refused, err_as}
+use Rattle.wi_app.proofs.Outcomes.{asked_refused, asked_told, err_as}
 use Rattle.wi_app.proofs.verify.answer.Goals as goal
 
 pub returns-in_err-asked-clause-refused : goal.returns-in_err-asked-clause-refused
@@ -8,8 +11,8 @@ returns-in_err-asked-clause-refused g c = err_as _ _ _ c.from_residual.ensures.1
 
 pub returns-clause-answered : goal.returns-clause-answered
 returns-clause-answered g c =
-    asked_answered c.reported-printed.result (printed_by c.args.content) _ _ _ _ (g.S.Shelf.seen c.reported-printed.new.shelf) _ _ c.in_ok-asked.ensures.read c.reported-printed.ensures.reported
+    asked_told c.reported-printed.result (λ problem. IsReported (printed_by c.args.content) problem (option_map (λ s. s.now) c.args.file) (g.S.Shelf.seen c.reported-printed.new.shelf)) _ _ _ _ _ c.in_ok-asked.ensures.read c.reported-printed.ensures.reported
 
 pub returns-clause-refused : goal.returns-clause-refused
 returns-clause-refused g c =
-    asked_refused c.reported-printed.result (g.S.Shelf.seen c.args.shelf.now) (g.S.Shelf.seen c.reported-printed.new.shelf) _ _ _ _ _ _ c.in_ok-asked.ensures.read c.reported-printed.ensures.refused
+    asked_refused c.reported-printed.result FromDecision (FromStore _) (g.S.Shelf.seen c.args.shelf.now) (g.S.Shelf.seen c.reported-printed.new.shelf) _ _ _ _ _ c.in_ok-asked.ensures.read c.reported-printed.ensures.refused

@@ -1,0 +1,179 @@
+//! The number is printed with the exact report there, and the two trees that show it are stored before. As of `exact`, what is printed is
+//! made first.
+ghost use Rattle.std.specs.Prelude.{◌≡◌, Ok, option_map, IfOk, IfErr, IfSome};
+ghost use Rattle.wi_world.specs.Moves.{AreBounds};
+ghost use Rattle.wi_words.specs.Commands.{Tolerate};
+ghost use Rattle.wi_cert.specs.Trees.{IsTreeWritable};
+ghost use Rattle.wi_build.specs.Problems.{problem_of};
+ghost use Rattle.wi_app.specs.Asked.{ForAsked};
+ghost use Rattle.wi_app.specs.Run.{FromCommand, IsAnswered, IsLeft};
+ghost use Rattle.wi_app.specs.Shelves.{IsCalm, IsOfTwo, StandBut};
+ghost use Rattle.wi_app.specs.Tolerance.{AreTreesStored, AreUnstored, FromTolerating, FromTreesStore, IsTold, IsToldWith, first_tree, second_tree, tolerance_status, tolerance_text};
+ghost use Rattle.wi_app.specs.private.Stages.{FromAnswering, FromDeciding};
+
+use crate::answer::Printed;
+use crate::exact::refusal_for;
+use crate::fetch::network;
+use crate::refusal::{NODE_LIMIT, Refusal};
+use crate::texts::read_texts;
+use crate::trees_file::store_trees;
+use std::alloc::Global;
+use wi_base::{NoMemory, Shelf};
+use wi_branch::{Tolerance, TolerateRefused, tolerate as tolerance_of};
+use wi_net::Network;
+use wi_quantity::Vector;
+use wi_query::Query;
+use wi_report::{none_up_to_text, tolerance_report};
+use wi_text::Text;
+
+/// How many failures it takes, if they are at most `most`, to a query of the network of a file; or why that isn't known. The query's own
+/// number isn't used. The trees that show it are stored under a name and that name followed by `.below`, if there is a name.
+pub fn tolerate<'a, S: Shelf>(
+    alloc: Global,
+    name: &'a str,
+    query: &str,
+    most: u32,
+    weights: Option<&str>,
+    file: Option<&'a str>,
+    shelf: &mut S,
+) -> Result<Printed, Refusal<'a>>
+    ensures told { (S.seen shelf.new).told ≡ (S.seen shelf.old).told }
+    ensures others { StandBut (IsOfTwo (option_map (λ s. s.now) file.entry)) (S.seen shelf.old) (S.seen shelf.new) }
+    ensures left { IfErr result (λ refusal. IsLeft refusal (S.seen shelf.old) (S.seen shelf.new)) }
+    ensures calm { IfOk result (λ _. IsCalm (S.seen shelf.old) (S.seen shelf.new)) }
+    ensures answered { IfOk result (λ printed. IsAnswered (S.seen shelf.old) (S.seen shelf.new) (Tolerate name.now query.now most (option_map (λ s. s.now) weights.entry) (option_map (λ s. s.now) file.entry)) printed.status printed.text) }
+    ensures refused { IfErr result (λ refusal. FromCommand (S.seen shelf.old) (S.seen shelf.new) (Tolerate name.now query.now most (option_map (λ s. s.now) weights.entry) (option_map (λ s. s.now) file.entry)) refusal) }
+{
+    let net = network(alloc, name, shelf)?;
+    let printed = tolerate_on(alloc, &net, query, most, weights, file, shelf);
+    drop(net);
+    printed
+}
+
+// The same, on the network of the file.
+fn tolerate_on<'a, S: Shelf>(
+    alloc: Global,
+    net: &Network,
+    query: &str,
+    most: u32,
+    weights: Option<&str>,
+    file: Option<&'a str>,
+    shelf: &mut S,
+) -> Result<Printed, Refusal<'a>>
+    ensures told { (S.seen shelf.new).told ≡ (S.seen shelf.old).told }
+    ensures others { StandBut (IsOfTwo (option_map (λ s. s.now) file.entry)) (S.seen shelf.old) (S.seen shelf.new) }
+    ensures left { IfErr result (λ refusal. IsLeft refusal (S.seen shelf.old) (S.seen shelf.new)) }
+    ensures calm { IfOk result (λ _. IsCalm (S.seen shelf.old) (S.seen shelf.new)) }
+    ensures answered { IfOk result (λ printed. ForAsked net.now query.now (option_map (λ s. s.now) weights.entry) (λ problem. IsToldWith problem most (option_map (λ s. s.now) file.entry) (S.seen shelf.new) printed.status printed.text)) }
+    ensures refused { IfErr result (FromAnswering (FromTolerating most) (FromTreesStore most (option_map (λ s. s.now) file.entry)) (S.seen shelf.old) (S.seen shelf.new) net.now query.now (option_map (λ s. s.now) weights.entry)) }
+{
+    let asked = read_texts(alloc, net, query, weights)?;
+    let printed = tolerate_for(alloc, net, &asked.query, &asked.vector, most, file, shelf);
+    drop(asked);
+    printed
+}
+
+// The same, for a query that was read.
+fn tolerate_for<'a, S: Shelf>(
+    alloc: Global,
+    net: &Network,
+    query: &Query,
+    vector: &Vector,
+    most: u32,
+    file: Option<&'a str>,
+    shelf: &mut S,
+) -> Result<Printed, Refusal<'a>>
+    requires { AreBounds net.now query.now.bounds }
+    ensures told { (S.seen shelf.new).told ≡ (S.seen shelf.old).told }
+    ensures others { StandBut (IsOfTwo (option_map (λ s. s.now) file.entry)) (S.seen shelf.old) (S.seen shelf.new) }
+    ensures left { IfErr result (λ refusal. IsLeft refusal (S.seen shelf.old) (S.seen shelf.new)) }
+    ensures calm { IfOk result (λ _. IsCalm (S.seen shelf.old) (S.seen shelf.new)) }
+    ensures told_with { IfOk result (λ printed. IsToldWith (problem_of net.now query.now vector.now) most (option_map (λ s. s.now) file.entry) (S.seen shelf.new) printed.status printed.text) }
+    ensures refused { IfErr result (FromDeciding (FromTolerating most) (FromTreesStore most (option_map (λ s. s.now) file.entry)) (S.seen shelf.old) (S.seen shelf.new) (problem_of net.now query.now vector.now)) }
+{
+    let found = tolerance(alloc, net, query, vector, most)?;
+    let text = text_for(alloc, net, query, vector, most, &found);
+    let printed = stored(alloc, &found, file, text, shelf);
+    drop(found);
+    printed
+}
+
+// How many failures it takes, or why that isn't known.
+fn tolerance<'a>(
+    alloc: Global,
+    net: &Network,
+    query: &Query,
+    vector: &Vector,
+    most: u32,
+) -> Result<Tolerance, Refusal<'a>>
+    requires { AreBounds net.now query.now.bounds }
+    ensures found { IfOk result (IsTold (problem_of net.now query.now vector.now) most) }
+    ensures refused { IfErr result (FromTolerating most (problem_of net.now query.now vector.now)) }
+{
+    match tolerance_of(alloc, net, query, vector, most, NODE_LIMIT) {
+        Ok(found) => Ok(found),
+        Err(TolerateRefused::Exact(_, refused)) => Err(refusal_for(refused, vector.len())),
+        Err(TolerateRefused::Memory) => Err(Refusal::Memory),
+    }
+}
+
+// What is printed of it.
+fn text_for(
+    alloc: Global,
+    net: &Network,
+    query: &Query,
+    vector: &Vector,
+    most: u32,
+    found: &Tolerance,
+) -> Result<Text, NoMemory>
+    requires bounds { AreBounds net.now query.now.bounds }
+    requires told { IsTold (problem_of net.now query.now vector.now) most found.now }
+    ensures { IfOk result (λ text. text ≡ tolerance_text (problem_of net.now query.now vector.now) most found.now) }
+{
+    match found {
+        Tolerance::At { k, answer, yes, .. } => {
+            let nodes = yes.nodes.as_slice().len();
+            tolerance_report(alloc, net, query, vector, *k, answer, nodes)
+        }
+        Tolerance::NoneUpTo { .. } => none_up_to_text(alloc, most),
+    }
+}
+
+// What is printed, once the trees are stored, if there is a name for them.
+fn stored<'a, S: Shelf>(
+    alloc: Global,
+    found: &Tolerance,
+    file: Option<&'a str>,
+    text: Result<Text, NoMemory>,
+    shelf: &mut S,
+) -> Result<Printed, Refusal<'a>>
+    requires first { IsTreeWritable (first_tree found.now) }
+    requires second { IfSome (second_tree found.now) IsTreeWritable }
+    ensures told { (S.seen shelf.new).told ≡ (S.seen shelf.old).told }
+    ensures others { StandBut (IsOfTwo (option_map (λ s. s.now) file.entry)) (S.seen shelf.old) (S.seen shelf.new) }
+    ensures left { IfErr result (λ refusal. IsLeft refusal (S.seen shelf.old) (S.seen shelf.new)) }
+    ensures calm { IfOk result (λ _. IsCalm (S.seen shelf.old) (S.seen shelf.new)) }
+    ensures status { IfOk result (λ printed. printed.status ≡ tolerance_status found.now) }
+    ensures text { IfOk result (λ printed. text ≡ Ok printed.text) }
+    ensures stored { IfOk result (λ _. AreTreesStored (option_map (λ s. s.now) file.entry) (S.seen shelf.new) (first_tree found.now) (second_tree found.now)) }
+    ensures refused { IfErr result (AreUnstored (S.seen shelf.old) (S.seen shelf.new) (option_map (λ s. s.now) file.entry) (first_tree found.now) (second_tree found.now)) }
+{
+    let text = text?;
+    if let Some(name) = file {
+        store_trees(alloc, found, name, shelf)?;
+    }
+    Ok(Printed {
+        status: tolerance_status(found),
+        text,
+    })
+}
+
+// The exit status.
+fn tolerance_status(found: &Tolerance) -> u8
+    ensures { result ≡ tolerance_status found.now }
+{
+    match found {
+        Tolerance::At { .. } => 0,
+        Tolerance::NoneUpTo { .. } => 1,
+    }
+}

@@ -59,7 +59,7 @@ pub record IsToldWith (problem : Problem) (most : ℕ) (file : Option (List ℕ)
   pub text_is : text ≡ tolerance_text problem most found
 
 -- ---- not told
--- of the first number that isn't fewer than it takes, as far as is known, this is so
+-- at a number up to so many this is so, and each smaller number is fewer than it takes
 abbrev pub AtFirst : Problem → ℕ → (Problem → Type 0) → Type 0
 AtFirst problem most P = (k : ℕ) × (k ≤ most) × ((j : ℕ) → j < k → IsTolerated (allowing problem) j) × P (allowing problem k)
 

@@ -1,0 +1,5 @@
+use Rattle.std.proofs.Common.{rules}
+use Rattle.wi_reduce.proofs.search.Search.follow_pop.Goals as goal
+
+pub returns : goal.returns
+returns c = search rules

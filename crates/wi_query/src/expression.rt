@@ -105,8 +105,13 @@ pub(crate) fn regex_of<A: Meant>(
     let _count = signs.len();
     let mut reading = Reading::new(alloc);
     for sign in signs {
-        let known = set_sign(alloc, net, sign)?;
-        reading = reading.after(alloc, known)?;
+        match set_sign(alloc, net, sign) {
+            Ok(known) => reading = reading.after(alloc, known)?,
+            Err(fault) => {
+                drop(reading);
+                return Err(fault);
+            }
+        }
     }
     match reading.finished(alloc)? {
         Some(regex) => Ok(regex),

@@ -238,11 +238,13 @@ impl Parser {
         ensures { IfOk result (λ on. after_in_links self.old token ≡ goes self.new on) }
     {
         match token {
-            Token::Word(_) => Ok(false),
+            Token::Word(name) => {
+                drop(name);
+                Ok(false)
+            }
             Token::Mark(Mark::Dot) => self.push_link_atom(LinkAtom::Any),
             Token::Mark(Mark::OpenSquare) => {
-                self.pairs = PairList::new(alloc);
-                self.stage = Stage::LinkList(Owner::Path);
+                self.begin_pairs(PairList::new(alloc), Owner::Path);
                 Ok(true)
             }
             Token::Mark(Mark::Less) => {
@@ -356,18 +358,30 @@ impl Parser {
     {
         match token {
             Token::Mark(Mark::OpenSquare) => {
-                self.pairs = PairList::known(alloc);
-                self.stage = Stage::LinkList(owner);
+                self.begin_pairs(PairList::known(alloc), owner);
                 true
             }
-            _ => false,
+            token => {
+                drop(token);
+                false
+            }
         }
+    }
+
+    // Goes on in a list of pairs.
+    fn begin_pairs(&mut self, pairs: PairList, owner: Owner)
+        ensures { self.new ≡ record self.old { stage = Stage.LinkList owner; pairs = pairs } }
+    {
+        drop(replace(&mut self.pairs, pairs));
+        self.stage = Stage::LinkList(owner);
     }
 
     /// The query that was read, if it may end here.
     pub(crate) fn finish(self) -> Option<Written>
         ensures { result ≡ finish self }
     {
+        drop(self.names);
+        drop(self.pairs);
         match (self.stage, self.number) {
             (Stage::BehindNumber | Stage::BehindDown | Stage::BehindUp, Some(number)) => {
                 Some(Written {
@@ -379,7 +393,15 @@ impl Parser {
                     up: self.up,
                 })
             }
-            _ => None,
+            (_, number) => {
+                drop(self.first);
+                drop(self.path);
+                drop(self.last);
+                drop(number);
+                drop(self.down);
+                drop(self.up);
+                None
+            }
         }
     }
 }

@@ -96,6 +96,7 @@ impl NameList {
     pub(crate) fn into_atom(self) -> LabelAtom
         ensures { result ≡ LabelAtom.List self.except self.items }
     {
+        drop(self.place);
         LabelAtom::List(self.except, Listed::of(self.items))
     }
 
@@ -121,7 +122,11 @@ impl NameList {
                 self.items.push(name)?;
                 Ok(Way::Ends)
             }
-            _ => Ok(Way::Nowhere),
+            (place, token) => {
+                drop(place);
+                drop(token);
+                Ok(Way::Nowhere)
+            }
         }
     }
 }
@@ -158,7 +163,11 @@ impl PairPlace {
                     to: End::Interface(router, interface),
                 }))
             }
-            _ => None,
+            (place, token) => {
+                drop(place);
+                drop(token);
+                None
+            }
         }
     }
 
@@ -183,7 +192,10 @@ impl PairPlace {
                 to: End::Router(router),
             }),
             PairPlace::Whole(pair) => Some(pair),
-            _ => None,
+            place => {
+                drop(place);
+                None
+            }
         }
     }
 }
@@ -245,6 +257,7 @@ impl PairList {
     pub(crate) fn into_atom(self) -> LinkAtom
         ensures { result ≡ LinkAtom.List self.except self.items }
     {
+        drop(self.place);
         LinkAtom::List(self.except, Listed::of(self.items))
     }
 
@@ -252,6 +265,7 @@ impl PairList {
     pub(crate) fn into_pairs(self) -> Listed<Pair>
         ensures { result ≡ self.items }
     {
+        drop(self.place);
         Listed::of(self.items)
     }
 

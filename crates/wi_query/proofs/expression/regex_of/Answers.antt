@@ -1,7 +1,6 @@
 -- The signs' tree is read.
 use Rattle.std.proofs.Common.{refl, arith}
 use Rattle.std.proofs.lemmas.Option.{slice_get_read}
-use Rattle.std.proofs.lemmas.Result.{err_from_is_err_and}
 use Rattle.wi_query.specs.Sets.{holds}
 use Rattle.wi_query.specs.Unknown.{unknown_in_sign}
 use Rattle.wi_query.proofs.Lists.{flat_at, flat_passed}
@@ -9,19 +8,18 @@ use Rattle.wi_query.proofs.Firsts.{first_in}
 use Rattle.wi_query.proofs.Trees.{sign_read, regex_is_read, something_is_read, few_positions}
 use Rattle.wi_query.proofs.expression.regex_of.Goals as goal
 
-pub returns-in_err-known-clause-refused : goal.returns-in_err-known-clause-refused
-returns-in_err-known-clause-refused g c =
-    let p = err_from_is_err_and c.from_residual.result c.from_residual.ensures.1 in
+pub returns-in-Err-clause-refused : goal.returns-in-Err-clause-refused
+returns-in-Err-clause-refused g c =
     let there = slice_get_read c.args.signs.now _ c.loop-sign.sign-index c.sign-item.result refl c.loop-sign-test.true c.sign-item.is in
-    rw (p.1, p.2) (first_in _ _ _ _ (flat_at (unknown_in_sign (g.A.Meant.unknown c.args.net.now)) c.args.signs.now c.loop-sign.sign-index c.sign-item.result _ c.loop-sign.invariant.known there) c.in_err-known.ensures.refused)
+    first_in _ _ _ _ (flat_at (unknown_in_sign (g.A.Meant.unknown c.args.net.now)) c.args.signs.now c.loop-sign.sign-index c.sign-item.result _ c.loop-sign.invariant.known there) c.in-Err.ensures.refused
 
 pub loop-sign-preserved : goal.loop-sign-preserved
 loop-sign-preserved g c =
     let there = slice_get_read c.args.signs.now _ c.loop-sign.sign-index c.sign-item.result refl c.loop-sign-test.true c.sign-item.is in
     record {
-      read = sign_read (g.A.Meant.marks c.args.net.now) c.args.signs.now c.loop-sign.sign-index c.sign-item.result c.in_ok-known.known c.loop-sign.reading c.in_ok-reading.reading
-          c.loop-sign.invariant.read there c.in_ok-known.ensures.made c.in_ok-reading.ensures;
-      known = flat_passed (unknown_in_sign (g.A.Meant.unknown c.args.net.now)) c.args.signs.now c.loop-sign.sign-index c.sign-item.result _ c.loop-sign.invariant.known there c.in_ok-known.ensures.known;
+      read = sign_read (g.A.Meant.marks c.args.net.now) c.args.signs.now c.loop-sign.sign-index c.sign-item.result c.in-Ok.known c.loop-sign.reading c.in_ok-reading-in-Ok.reading
+          c.loop-sign.invariant.read there c.in-Ok.ensures.made c.in_ok-reading-in-Ok.ensures;
+      known = flat_passed (unknown_in_sign (g.A.Meant.unknown c.args.net.now)) c.args.signs.now c.loop-sign.sign-index c.sign-item.result _ c.loop-sign.invariant.known there c.in-Ok.ensures.known;
     }
 
 pub unreachable-requires : goal.unreachable-requires

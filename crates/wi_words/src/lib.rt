@@ -16,7 +16,7 @@ use std::alloc::Global;
 use wi_base::NoMemory;
 
 /// What the program is asked to do.
-#[derive(Clone, Copy, Debug)]
+#[derive(Clone, Copy)]
 pub enum Command<'a> {
     /// `verify NETWORK QUERY [--weights W] [--certificate FILE]`: the name of the network file, the text of the query, that of the
     /// weights, and the name under which the certificate is to be stored.

@@ -18,6 +18,3 @@ pub use memory_sink::{FailingPut, MemorySink};
 pub use no_memory::NoMemory;
 pub use shelf::{CallKind, FetchRefused, Shelf, StoreRefused};
 pub use sink::{PutRefused, Sink};
-
-#[cfg(test)]
-mod tests;

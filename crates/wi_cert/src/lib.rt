@@ -36,6 +36,3 @@ pub use tree::{Node, TreeCertificate};
 pub use tree_feeder::{TreeFeeder, decode_tree};
 pub use tree_writer::{encode_tree, encode_tree_within};
 pub use writer::{encode, encode_within};
-
-#[cfg(test)]
-mod tests;

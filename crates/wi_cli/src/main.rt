@@ -1,25 +1,18 @@
 //! The program at its real edge: the words it was started with, the files of the system and the standard streams.
 #![tactic(auto)]
 
-mod file_shelf;
-mod stream_sink;
-#[cfg(test)]
-mod tests;
-mod transfer;
-
 ghost use Rattle.std.specs.Prelude.{◌≡◌, ◌<◌, ◌-◌, ◌^◌, codes, [], IfOk, IfErr, IsErr, IsOkAnd};
 ghost use Rattle.std.specs.IoError.{error_kind};
 ghost use Rattle.std.specs.Vec.Iter.{into_iter_items};
 ghost use Rattle.wi_app.specs.Edges.{Says};
 
-use crate::file_shelf::FileShelf;
-use crate::stream_sink::StreamSink;
 use std::alloc::Global;
 use std::env::{self, Args};
 use std::io::{self, ErrorKind};
 use std::process::ExitCode;
 use std::rt::Env;
 use wi_base::{NoMemory, PutRefused, Sink};
+use wi_system::{FileShelf, StreamSink};
 
 fn main(rt: HostRuntime) -> ExitCode {
     let mut err = StreamSink::new(rt.stderr());

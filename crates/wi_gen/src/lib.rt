@@ -13,6 +13,3 @@ mod texts;
 
 pub use laws::the_texts_have_no_fault;
 pub use making::{Generated, generate};
-
-#[cfg(test)]
-mod tests;

@@ -1,5 +1,6 @@
-//! Tests of headers, of networks, of network files and of plans in them that need only what `wi_labels`, `wi_net`, `wi_netjson`
-//! and `wi_planjson` offer to all: here they don't make those crates be proved a second time, since a crate that has tests is.
+//! Tests of headers, of networks, of network files, of plans in them and of headers on the wire that need only what `wi_labels`,
+//! `wi_net`, `wi_netjson`, `wi_planjson` and `wi_wire` offer to all: here they don't make those crates be proved a second time, since
+//! a crate that has tests is.
 #![tactic(auto)]
 
 #[cfg(test)]
@@ -22,3 +23,5 @@ mod risks;
 mod sets;
 #[cfg(test)]
 mod texts;
+#[cfg(test)]
+mod wire;

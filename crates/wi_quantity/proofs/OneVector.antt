@@ -1,7 +1,7 @@
 -- A text means one vector.
 use Rattle.std.proofs.Common.{◌≡◌, ℕ, List, [], ◌∷◌, Option, Some, map, refl, sym, ap, ◌∙◌}
 use Rattle.wi_quantity.specs.declared.vector.Part.{Part}
-use Rattle.wi_quantity.specs.Written.{Written, WrittenPart, parts_of, terms_of}
+use Rattle.wi_quantity.specs.Written.{Written, parts_of, terms_of}
 use Rattle.wi_quantity.specs.Faults.{Means, part_meant}
 use Rattle.wi_quantity.proofs.Readings.{one_way}
 

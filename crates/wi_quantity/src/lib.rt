@@ -16,6 +16,3 @@ pub use laws::{
 pub use read::read_weights;
 pub use share::{Weight, first_weight, hop_weight, step_weight};
 pub use vector::{Part, Vector};
-
-#[cfg(test)]
-mod tests;

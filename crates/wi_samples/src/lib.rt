@@ -8,7 +8,7 @@ mod sample;
 
 pub use doubles::doubling;
 pub use networks::{
-    BESIDE_Y, N1, N1_FIBER, N1_NEAR, N1_WITH_31, N2, N2_FIBER, N2_FIBER_WITH_31, N2_WITH_31, N3,
-    N4, N5, QUOTED, QUOTED_END,
+    BESIDE_Y, N1, N1_FIBER, N1_FIBER_WITH_31, N1_NEAR, N1_WITH_31, N2, N2_FIBER, N2_FIBER_WITH_31,
+    N2_WITH_31, N3, N4, N5, QUOTED, QUOTED_END,
 };
 pub use sample::{Line, RowOf, Sample, Way, add_class, fill, network};

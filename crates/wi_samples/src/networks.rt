@@ -37,6 +37,8 @@ const B_TO_Y_IN_G: Line = ("b", "y", "y", "b", 1, Some("g"));
 
 const LINKS: &[Line] = &[X_TO_A, A_TO_B, A_TO_C, C_TO_B, B_TO_Y];
 
+const LINKS_FIBER: &[Line] = &[X_TO_A, A_TO_B_IN_G, A_TO_C, C_TO_B, B_TO_Y_IN_G];
+
 const LINKS_TO_Z: &[Line] = &[X_TO_A, A_TO_B, A_TO_C, C_TO_B, B_TO_Y, B_TO_Z];
 
 const LINKS_TO_Z_FIBER: &[Line] = &[X_TO_A, A_TO_B_IN_G, A_TO_C, C_TO_B, B_TO_Y_IN_G, B_TO_Z];
@@ -85,7 +87,7 @@ pub const N1: Sample = Sample {
 
 /// `N1` where the links from a to b and from b to y are one risk group.
 pub const N1_FIBER: Sample = Sample {
-    links: &[X_TO_A, A_TO_B_IN_G, A_TO_C, C_TO_B, B_TO_Y_IN_G],
+    links: LINKS_FIBER,
     ..N1
 };
 
@@ -100,6 +102,12 @@ pub const N1_WITH_31: Sample = Sample {
     mpls: &["30", "31"],
     rows: &[HIGHER_AT_A, HIGHER_FROM_A, AT_C, HIGHER_FROM_C],
     ..N1
+};
+
+/// `N1_WITH_31` where the links from a to b and from b to y are one risk group.
+pub const N1_FIBER_WITH_31: Sample = Sample {
+    links: LINKS_FIBER,
+    ..N1_WITH_31
 };
 
 /// `N1` with a router z and link 5 from b to it. What came to b from c goes to y, else to z.

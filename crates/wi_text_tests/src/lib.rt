@@ -10,6 +10,8 @@ mod query;
 #[cfg(test)]
 mod regex;
 #[cfg(test)]
+mod ring;
+#[cfg(test)]
 mod syntax;
 #[cfg(test)]
 mod text;

@@ -4,4 +4,3 @@ pub mod HopLemmas
 pub mod WalkLemmas
 pub mod NeedsLemmas
 pub mod ReplayLemmas
-pub mod BoundsLemmas

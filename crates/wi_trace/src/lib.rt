@@ -19,6 +19,3 @@ pub use replays::{Trace, replay, replay_moving};
 pub use sets::{insert_all, nth};
 pub use start::is_start;
 pub use wi_world::{Run, Step, Verdict, Word};
-
-#[cfg(test)]
-mod tests;

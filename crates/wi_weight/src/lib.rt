@@ -6,6 +6,3 @@ mod kinds;
 
 pub use domain::Domain;
 pub use kinds::{Effort, Pair, Reach, Terms};
-
-#[cfg(test)]
-mod tests;

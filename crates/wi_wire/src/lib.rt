@@ -12,6 +12,3 @@ pub use laws::{bytes_begin_with_one_stack, entries_give_the_header_again};
 pub use refused::{NoValue, StackRefused};
 pub use stack::{read_stack, write_stack};
 pub use values::{entries_of, header_of};
-
-#[cfg(test)]
-mod tests;

@@ -1,10 +1,6 @@
 pub mod Answers
-pub mod Causes
 pub mod Exactly
 pub mod Tolerating
-pub mod Stores
 pub mod Protecting
-pub mod HexLemmas
 pub mod Outcomes
-pub mod Parts
 pub mod Written

@@ -1,13 +1,8 @@
 -- From what is found to what the program does.
-use Rattle.std.proofs.Common.{◌≡◌, ◌≢◌, ℕ, ◌<◌, ◌≤◌, nat_eq, ◌⊎◌, inl, inr, Bool, true, false, List, length, Option, Some, None, Result, Ok, Err, refl, sym, ap, subst, ◌∙◌, arith}
+use Rattle.std.proofs.Common.{◌≡◌, ◌≢◌, ℕ, ◌<◌, ◌≤◌, nat_eq, ◌⊎◌, inl, inr, true, false, List, length, Option, Some, None, Result, Ok, Err, refl, sym, subst, ◌∙◌, arith}
 use Rattle.std.specs.Prelude.{codes, IfOk, IfErr, OnOk}
-use Rattle.std.specs.Result.{IsErrAnd}
-use Rattle.std.specs.Str.{bytes_eq}
-use Rattle.std.proofs.lemmas.Slice.Eq.{bytes_eq-Decides}
 use Rattle.wi_base.specs.declared.shelf.CallKind.TheVariants.{Fetch, Store}
 use Rattle.wi_base.specs.declared.no_memory.NoMemory.{NoMemory}
-use mathlib.Core.Path.{fun_ext}
-use Rattle.wi_base.specs.declared.shelf.CallKind.{CallKind}
 use Rattle.wi_base.specs.Shelf.{ShelfSeen, IsLonger}
 use Rattle.wi_base.specs.Sink.{SinkSeen}
 use Rattle.wi_net.specs.Net.{Net}
@@ -35,6 +30,7 @@ use Rattle.wi_quantity.proofs.OneVector.{one_vector}
 use Rattle.wi_trace.specs.declared.answer.Answer.{Answer}
 use Rattle.wi_build.specs.Problems.{Problem, IsProblem, problem_of}
 use Rattle.wi_cert.specs.declared.certificate.Certificate.{Certificate}
+use Rattle.wi_cert.specs.declared.check_refused.CheckRefused.{CheckRefused}
 use Rattle.wi_cert.specs.Sheets.{certificates}
 use Rattle.wi_cert.specs.Text.{IsText, IsBadLine}
 use Rattle.wi_cert.proofs.TextLemmas.{one_text, text_is_decoded}
@@ -52,74 +48,38 @@ use Rattle.wi_gen.specs.Texts.{query_text, weights_text}
 use Rattle.wi_report.specs.Reports.{accepted_text}
 use Rattle.wi_report.specs.Summaries.{summary_of}
 use Rattle.wi_words.specs.Commands.{Command, Verify, Check, Play, Gen, Exact, CheckExact, Tolerate, Protect, Packets, Stack, command_of}
-use Rattle.wi_app.specs.Texts.{text_of, status_of, IsPutTogether}
-use Rattle.wi_app.specs.Edges.{Says, SaysWhy, kept}
-use Rattle.wi_app.specs.Shelves.{AllStand, IsCalm, OthersStand, StandBut}
-use Rattle.wi_app.specs.Asked.{AreBadTexts, ForAsked, FromAsked, IsAsked, IsBadQuery, IsBadWeights, WeighsBy}
-use Rattle.wi_app.specs.Certificates.{FromCertificate, FromStore, IsAcceptedText, IsCertificate, IsCertificateFile, IsStored}
+use Rattle.wi_outcome.specs.Texts.{text_of, status_of}
+use Rattle.wi_outcome.specs.Edges.{Says, SaysWhy, kept, Prints}
+use Rattle.wi_files.specs.Shelves.{AllStand, IsCalm, OthersStand}
+use Rattle.wi_files.specs.Asked.{AreBadTexts, IsAsked, IsBadQuery, IsBadWeights, WeighsBy}
+use Rattle.wi_app.specs.Asked.{ForAsked, FromAsked}
+use Rattle.wi_app.specs.Certificates.{FromFile, FromCertificate, FromStore, IsAcceptedText, IsCertificate, IsStored}
+use Rattle.wi_files.specs.Certificates.{FromLines, IsCertificateFile, IsKept, IsNotKept}
 use Rattle.wi_app.specs.Decided.{FromDecision, IsReported, packets_in, report_in, status_for}
 use Rattle.wi_app.specs.Exact.{FromSplitting, FromTree, FromTreeStore, IsAcceptedTree}
 use Rattle.wi_app.specs.Tolerance.{FromTolerating, FromTreesStore}
 use Rattle.wi_app.specs.Generated.{FromRing, IsSummary, IsSummed}
-use Rattle.wi_app.specs.OnWire.{FromHex, IsHex, IsRefusedStack, IsShownHex, IsShownStack, ShowsNoStack}
+use Rattle.wi_files.specs.OnWire.{FromHex, IsHex, IsRefusedStack, ShowsNoStack}
 use Rattle.wi_wire.specs.declared.refused.StackRefused.{StackRefused}
 use Rattle.wi_wire.specs.declared.refused.StackRefused.TheVariants.{Cut, Reserved, Memory as StackMemory}
-use Rattle.wi_app.specs.Run.{AreAnswered, IsAnswered, IsStatus, HoldsNetwork, IsPlay, FileHasFault, FromNetwork, IsBadScript, FromScript, ForTexts, FromAsking, FromCommand, FromWords, CanBeAnswered, IsLeft, Prints, Completes}
-use Rattle.wi_app.specs.private.Stages.{FromAnswering, FromBytes, FromChecking, FromDeciding, FromStack, IsBelieved, IsKept, IsNotBelieved, IsNotKept}
-use Rattle.wi_app.specs.declared.answer.Printed.{Printed}
-use Rattle.wi_app.specs.declared.refusal.Refusal.{Refusal}
-use Rattle.wi_app.specs.declared.refusal.Refusal.TheVariants.{CannotRead, CannotWrite, CannotWriteBelow, NoMemoryBelow, Network, Query as BadQuery, Weights as BadWeights, Overflow, TooLong, Script, LongScript, LargeCertificate, BadLine as BadCertificateLine, NotAccepted, NotWritten, TreeNotWritten, NotHex, BadStack, Memory}
+use Rattle.wi_app.specs.Run.{AreAnswered, IsAnswered, IsStatus, ForTexts, FromAsking, FromCommand, FromWords, CanBeAnswered, Completes}
+use Rattle.wi_files.specs.Networks.{HoldsNetwork, FileHasFault, FromNetwork}
+use Rattle.wi_files.specs.Scripts.{IsPlay, IsBadScript, FromScript}
+use Rattle.wi_app.specs.private.Stages.{FromAnswering, FromChecking, FromDeciding, IsBelieved, IsNotBelieved}
+use Rattle.wi_outcome.specs.declared.printed.Printed.{Printed}
+use Rattle.wi_outcome.specs.declared.refusal.Refusal.{Refusal}
+use Rattle.wi_outcome.specs.declared.refusal.Refusal.TheVariants.{CannotRead, CannotWrite, Network, Query as BadQuery, Weights as BadWeights, Overflow, TooLong, Script, LongScript, LargeCertificate, BadLine as BadCertificateLine, NotAccepted, NotWritten, TreeNotWritten, NotHex, BadStack, Memory}
 use Rattle.wi_app.proofs.Answers.{answer_ends}
-use Rattle.wi_app.proofs.Causes.{longer}
+use Rattle.wi_files.proofs.Causes.{longer}
 use Rattle.wi_app.proofs.Exactly.{exact_answer_ends, unsplit_due}
 use Rattle.wi_app.proofs.Tolerating.{tolerance_ends, trees_due, untold_due}
 use Rattle.wi_app.proofs.Protecting.{plan_due}
 
--- ---- from the parts of a command to the whole
+-- ---- what is printed with the status 0
 
-pub if_ok : {T E P : Type 0} (r : Result T E) → P → IfOk r (λ _. P)
-if_ok (Ok x) p = p
-if_ok (Err e) p = tt
-
-pub err_as : {T E : Type 0} (P : E → Type 0) (r : Result T E) (e : E) → IsErrAnd r (λ x. x ≡ e) → P e → IfErr r P
-err_as P (Ok x) e is holds = tt
-err_as P (Err x) e is holds = subst P (sym is) holds
-
--- what is seen of a shelf is what it tells, its files and its failed calls
-abbrev shelf : Bool → (List ℕ → Option (List ℕ)) → List (CallKind × List ℕ) → ShelfSeen
-shelf told file failed = record { told = told; file = file; failed = failed }
-
-pub same_shelf : (a b : ShelfSeen) → a.told ≡ b.told → ((name : List ℕ) → a.file name ≡ b.file name) → a.failed ≡ b.failed → a ≡ b
-same_shelf a b told file failed =
-    ap (λ (t : Bool). shelf t a.file a.failed) told
-    ∙ ap (λ (f : List ℕ → Option (List ℕ)). shelf b.told f a.failed) (fun_ext file)
-    ∙ ap (λ (calls : List (CallKind × List ℕ)). shelf b.told b.file calls) failed
-
--- where each file but one stands, and that one too, all do
-pub all_stand : (old new : ShelfSeen) (name : List ℕ) → ((other : List ℕ) → other ≢ name → new.file other ≡ old.file other) → new.file name ≡ old.file name → AllStand old new
-all_stand old new name others here other = by_test (bytes_eq other name) refl
-  where
-    by_test : (b : Bool) → bytes_eq other name ≡ b → new.file other ≡ old.file other
-    by_test true e = let same : other ≡ name = (bytes_eq-Decides other name).0 e in subst (λ n. new.file n ≡ old.file n) (sym same) here
-    by_test false e = others other (λ same. let yes : bytes_eq other name ≡ true = (bytes_eq-Decides other name).1 same in cc)
-
--- where all files stand before, and later each but some, each but these stands in the end
-pub others_later : (P : List ℕ → Type 0) (old later new : ShelfSeen) → later ≡ old → StandBut P later new → StandBut P old new
-others_later P old later new same stand = subst (λ s. StandBut P s new) same stand
-
-pub left_later : {T : Type 0} (r : Result T Refusal) (old later new : ShelfSeen) → later ≡ old → IfErr r (λ refusal. IsLeft refusal later new) → IfErr r (λ refusal. IsLeft refusal old new)
-left_later r old later new same left = subst (λ s. IfErr r (λ refusal. IsLeft refusal s new)) same left
-
--- where every file stands, each but one does, whatever is refused
-pub left_all : (old new : ShelfSeen) (refusal : Refusal) → AllStand old new → IsLeft refusal old new
-left_all old new (CannotWrite name) stand = λ other _. stand other
-left_all old new (CannotWriteBelow name) stand = λ other _. stand other
-left_all old new (NoMemoryBelow name) stand = λ other _. stand other
-left_all old new refusal stand = stand
-
-pub all_left : {T : Type 0} (r : Result T Refusal) (old new : ShelfSeen) → AllStand old new → IfErr r (λ refusal. IsLeft refusal old new)
-all_left (Ok x) old new stand = tt
-all_left (Err refusal) old new stand = left_all old new refusal stand
+pub with_status_0 : (r : Result Printed Refusal) (P : List ℕ → Type 0) → IfOk r (λ printed. printed.status ≡ 0) → IfOk r (λ printed. P printed.text) → IfOk r (λ printed. P printed.text × (printed.status ≡ 0))
+with_status_0 (Ok printed) P status shown = (shown, status)
+with_status_0 (Err refusal) P status shown = tt
 
 -- ---- what texts ask of a network
 
@@ -205,27 +165,6 @@ packets_refused (Err refusal) old later new name query weights net same holds ca
 pub no_other : (old later new : ShelfSeen) → AllStand old later → OthersStand None later new → AllStand old new
 no_other old later new before after name = after name (λ none. cc) ∙ before name
 
--- ---- stack
-
--- a stack is an answer to a command
-pub stack_answered : (r : Result Printed Refusal) (old new : ShelfSeen) (hex : List ℕ) → IfOk r (λ printed. printed.status ≡ 0) → IfOk r (λ printed. IsShownHex hex printed.text) → IfOk r (λ printed. IsAnswered old new (Stack hex) printed.status printed.text)
-stack_answered (Ok printed) old new hex status shown = (shown, status)
-stack_answered (Err refusal) old new hex status shown = tt
-
--- the stack of the bytes that a text is, or why there is none
-pub bytes_shown : (r : Result Printed Refusal) (hex bytes read : List ℕ) → read ≡ bytes → IsHex hex bytes → IfOk r (λ printed. IsShownStack read printed.text) → IfOk r (λ printed. IsShownHex hex printed.text)
-bytes_shown (Ok printed) hex bytes read same is shown = (bytes, is, subst (λ b. IsShownStack b printed.text) same shown)
-bytes_shown (Err refusal) hex bytes read same is shown = tt
-
-from_stack : (hex bytes : List ℕ) (refusal : Refusal) → IsHex hex bytes → FromStack bytes refusal → FromHex hex refusal
-from_stack hex bytes (BadStack refused) is cause = (bytes, is, cause)
-from_stack hex bytes Memory is cause = tt
-from_stack hex bytes refusal is cause = elim cause [ ]
-
-pub stack_refused : (r : Result Printed Refusal) (hex bytes read : List ℕ) → read ≡ bytes → IsHex hex bytes → IfErr r (λ refusal. FromStack read refusal) → IfErr r (λ refusal. FromHex hex refusal)
-stack_refused (Ok printed) hex bytes read same is cause = tt
-stack_refused (Err refusal) hex bytes read same is cause = from_stack hex bytes refusal is (subst (λ b. FromStack b refusal) same cause)
-
 -- ---- check
 
 -- a certificate that is accepted for what texts ask of a network is an answer to a command
@@ -258,6 +197,11 @@ pub file_believed : (r : Result Printed Refusal) (shelf : ShelfSeen) (problem : 
 file_believed (Ok printed) shelf problem file bytes c held reads believed text = (bytes, c, held, reads, believed, text)
 file_believed (Err refusal) shelf problem file bytes c held reads believed text = tt
 
+-- what is wrong with a file's lines is the cause
+pub lines_refused : (IsBad : List ℕ → ℕ → Type 0) (IsAgainst : CheckRefused → Type 0) (old new : ShelfSeen) (problem : Problem) (name : List ℕ) (refusal : Refusal) → FromLines IsBad old new name refusal → FromFile IsBad IsAgainst old new problem name refusal
+lines_refused IsBad IsAgainst old new problem name (NotAccepted fault terms) cause = elim cause [ ]
+lines_refused IsBad IsAgainst old new problem name refusal cause = cause
+
 not_believed : (old new : ShelfSeen) (problem : Problem) (file bytes : List ℕ) (c : Certificate) (refusal : Refusal) → IsProblem problem → IsCalm old new → IsCertificateFile old file bytes → IsText c bytes → IsNotBelieved problem c refusal
     → FromCertificate old new problem file refusal
 not_believed old new problem file bytes c (NotAccepted fault terms) is calm held reads cause = (calm, cause.0, record { problem_is = is; bytes = bytes; held = held; certificate = c; reads = reads; refusal = cause.1 })
@@ -274,45 +218,7 @@ pub certificate_refused : (r : Result Printed Refusal) (old new : ShelfSeen) (ne
 certificate_refused (Ok printed) old new net text file weights query vector asked cause = tt
 certificate_refused (Err refusal) old new net text file weights query vector asked cause = inr (query, vector, asked, cause)
 
--- ---- play
-
--- the states on a network are an answer to a command. The fetch of the network left the shelf as it was
-pub play_answered : (r : Result Printed Refusal) (old later new : ShelfSeen) (name script : List ℕ) (k : ℕ) (net : Net) → later ≡ old → (old.told ≡ true → HoldsNetwork (old.file name) net)
-    → IfOk r (λ printed. printed.status ≡ 0) → IfOk r (λ printed. (bytes : List ℕ) × (later.told ≡ true → later.file script ≡ Some bytes) × IsPlay net k bytes printed.text)
-    → IfOk r (λ printed. IsAnswered old new (Play name script k) printed.status printed.text)
-play_answered (Ok printed) old later new name script k net same holds status played =
-    (net, played.0, holds, subst (λ (s : ShelfSeen). s.told ≡ true → s.file script ≡ Some played.0) same played.1, played.2, status)
-play_answered (Err refusal) old later new name script k net same holds status played = tt
-
-pub play_refused : (r : Result Printed Refusal) (old later new : ShelfSeen) (name script : List ℕ) (k : ℕ) (net : Net) → later ≡ old → (old.told ≡ true → HoldsNetwork (old.file name) net)
-    → IfErr r (λ refusal. FromScript later new net script k refusal) → IfErr r (λ refusal. FromCommand old new (Play name script k) refusal)
-play_refused (Ok printed) old later new name script k net same holds cause = tt
-play_refused (Err refusal) old later new name script k net same holds cause = inr (net, holds, subst (λ (s : ShelfSeen). FromScript s new net script k refusal) same cause)
-
--- the states for the bytes of a file
-pub bytes_played : (r : Result Printed Refusal) (told : Bool) (file : Option (List ℕ)) (net : Net) (k : ℕ) (bytes read : List ℕ) → read ≡ bytes → (told ≡ true → file ≡ Some bytes) → IfOk r (λ printed. IsPlay net k read printed.text)
-    → IfOk r (λ printed. (b : List ℕ) × (told ≡ true → file ≡ Some b) × IsPlay net k b printed.text)
-bytes_played (Ok printed) told file net k bytes read same held play = (read, λ t. held t ∙ ap Some (sym same), play)
-bytes_played (Err refusal) told file net k bytes read same held play = tt
-
-from_bytes : (old new : ShelfSeen) (net : Net) (name : List ℕ) (k : ℕ) (bytes : List ℕ) (refusal : Refusal) → (old.told ≡ true → old.file name ≡ Some bytes) → length bytes ≤ 1048576 → IsCalm old new → FromBytes net k bytes refusal
-    → FromScript old new net name k refusal
-from_bytes old new net name k bytes (Script refused) held short calm cause = (calm, (bytes, held, short, cause))
-from_bytes old new net name k bytes Memory held short calm cause = calm
-from_bytes old new net name k bytes refusal held short calm cause = elim cause [ ]
-
-pub bytes_refused : (r : Result Printed Refusal) (old new : ShelfSeen) (net : Net) (name : List ℕ) (k : ℕ) (bytes read : List ℕ) → read ≡ bytes → (old.told ≡ true → old.file name ≡ Some bytes) → length bytes ≤ 1048576 → IsCalm old new
-    → IfErr r (λ refusal. FromBytes net k read refusal) → IfErr r (λ refusal. FromScript old new net name k refusal)
-bytes_refused (Ok printed) old new net name k bytes read same held short calm cause = tt
-bytes_refused (Err refusal) old new net name k bytes read same held short calm cause =
-    from_bytes old new net name k bytes refusal held short calm (subst (λ (b : List ℕ). FromBytes net k b refusal) same cause)
-
 -- ---- gen
-
--- a summary is an answer to a command
-pub ring_answered : (r : Result Printed Refusal) (old new : ShelfSeen) (seed size : ℕ) → IfOk r (λ printed. printed.status ≡ 0) → IfOk r (λ printed. IsSummary seed size printed.text) → IfOk r (λ printed. IsAnswered old new (Gen seed size) printed.status printed.text)
-ring_answered (Ok printed) old new seed size status summary = (summary, status)
-ring_answered (Err refusal) old new seed size status summary = tt
 
 -- what is asked of a network by texts is asked of a ring by its own, where they are these
 asked_of_ring : (seed size : ℕ) (net : Net) (text weights : List ℕ) (query : Query) (vector : List (List Part)) → net ≡ net_of (ring_of seed size) → text ≡ query_text (ring_of seed size) → weights ≡ weights_text
@@ -389,18 +295,6 @@ decided_believed (Err refusal) problem c accepted cause = no_cause refusal cause
     no_cause (NotAccepted fault terms) cause = absurd (accepted fault cause.1.cause)
     no_cause Memory cause = tt
     no_cause refusal cause = elim cause [ ]
-
--- ---- what is said of a refusal
-
-pub said_words : (refusal known : Refusal) (status : ℕ) (old new : SinkSeen) (result : ℕ) → refusal ≡ known → status ≡ status_of refusal → Says (text_of known) status old new result → SaysWhy refusal old new result
-said_words refusal known status old new result is status_is says =
-    inl (subst (λ (r : Refusal). Says (text_of r) (status_of refusal) old new result) (sym is) (subst (λ (s : ℕ). Says (text_of known) s old new result) status_is says))
-
-pub said_made : (refusal known : Refusal) (status : ℕ) (old new : SinkSeen) (result : ℕ) → refusal ≡ known → status ≡ status_of refusal → IsPutTogether known
-    → Says (text_of known) status old new result ⊎ Says (codes "whatif: out of memory\n") (kept status) old new result → SaysWhy refusal old new result
-said_made refusal known status old new result is status_is made (inl says) = said_words refusal known status old new result is status_is says
-said_made refusal known status old new result is status_is made (inr wants) =
-    inr (subst IsPutTogether (sym is) made, subst (λ (s : ℕ). Says (codes "whatif: out of memory\n") (kept s) old new result) status_is wants)
 
 -- memory may run out whatever the words are
 pub words_memory : (held : ShelfSeen) (command : Option Command) → FromWords held held command Memory
@@ -756,7 +650,7 @@ answered_ends old new (Verify name query given file) status text t answer =
     let asked = answer.2 in
     (answer.0, answer.1 t, (asked.0, asked.1, asked.2, answer_ends report_in (problem_of answer.0 asked.0 asked.1) file new status text asked.3))
 answered_ends old new (Check name query file given) status text t answer = answer.6
-answered_ends old new (Play name script k) status text t answer = answer.5
+answered_ends old new (Play name script k) status text t answer = answer.1
 answered_ends old new (Gen seed size) status text t answer = inl answer.1
 answered_ends old new (Exact name query given file) status text t answer =
     let asked = answer.2 in
@@ -765,7 +659,7 @@ answered_ends old new (CheckExact name query file given) status text t answer = 
 answered_ends old new (Tolerate name query most given file) status text t answer =
     let asked = answer.2 in
     (answer.0, answer.1 t, (asked.0, asked.1, asked.2, tolerance_ends (problem_of answer.0 asked.0 asked.1) most file new status text asked.3))
-answered_ends old new (Protect name) status text t answer = inl answer.3
+answered_ends old new (Protect name) status text t answer = inl answer.1
 answered_ends old new (Packets name query given) status text t answer =
     let asked = answer.2 in
     (answer.0, answer.1 t, (asked.0, asked.1, asked.2, answer_ends packets_in (problem_of answer.0 asked.0 asked.1) None new status text asked.3))

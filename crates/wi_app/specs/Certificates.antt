@@ -1,6 +1,6 @@
 -- Certificates as they are stored, and as they are checked.
 use Rattle.std.specs.Prelude.{◌≡◌, ℕ, ◌<◌, ◌≤◌, true, List, length, Option, Some, None}
-use Rattle.wi_base.specs.Shelf.{ShelfSeen, IsLonger}
+use Rattle.wi_base.specs.Shelf.{ShelfSeen}
 use Rattle.wi_net.specs.Net.{Net}
 use Rattle.wi_quantity.specs.declared.vector.Part.{Part}
 use Rattle.wi_query.specs.declared.query.Query.{Query}
@@ -13,10 +13,11 @@ use Rattle.wi_cert.specs.Text.{IsText, IsBadLine, closed_text}
 use Rattle.wi_accept.specs.Answers.{IsDecided, answer_of}
 use Rattle.wi_accept.specs.Causes.{IsAccepted, IsRefusal}
 use Rattle.wi_accept.specs.Makers.{IsMaker}
-use Rattle.wi_app.specs.Asked.{IsAsked}
-use Rattle.wi_app.specs.Shelves.{IsCalm, FetchFailed, StoreFailed}
-use Rattle.wi_app.specs.declared.refusal.Refusal.{Refusal}
-use Rattle.wi_app.specs.declared.refusal.Refusal.TheVariants.{CannotRead, CannotWrite, LargeCertificate, BadLine, NotAccepted, NotWritten, Memory}
+use Rattle.wi_outcome.specs.declared.refusal.Refusal.{Refusal}
+use Rattle.wi_outcome.specs.declared.refusal.Refusal.TheVariants.{CannotWrite, NotAccepted, NotWritten, Memory}
+use Rattle.wi_files.specs.Asked.{IsAsked}
+use Rattle.wi_files.specs.Certificates.{FromLines, IsCertificateFile, IsNamed}
+use Rattle.wi_files.specs.Shelves.{IsCalm, StoreFailed}
 
 -- ---- written
 -- a maker's certificate for an answer to a problem; nothing speaks against it
@@ -36,10 +37,6 @@ pub record IsCertificateText (problem : Problem) (answer : Answer) (bytes : List
 abbrev pub IsStored : Option (List ℕ) → ShelfSeen → Problem → Answer → Type 0
 IsStored None shelf problem answer = Unit {0}
 IsStored (Some name) shelf problem answer = (bytes : List ℕ) × IsCertificateText problem answer bytes × (shelf.told ≡ true → shelf.file name ≡ Some bytes)
-
--- there is a name to store under
-abbrev pub IsNamed : Option (List ℕ) → Type 0
-IsNamed file = (name : List ℕ) × (file ≡ Some name)
 
 -- an answer to the problem holds, and its certificate is too long to be written
 pub record IsTooLargeToWrite (problem : Problem) : Type 0 where
@@ -67,11 +64,6 @@ pub record IsAcceptedText (net : Net) (text : List ℕ) (weights : Option (List 
   pub accepted : IsAccepted (problem_of net query vector) c
   pub holds : IsDecided (problem_of net query vector) (answer_of (problem_of net query vector) c.shown)
 
--- bytes are the file's, if the shelf tells it, and they aren't too many
-pub record IsCertificateFile (shelf : ShelfSeen) (name bytes : List ℕ) : Type 0 where
-  pub held : shelf.told ≡ true → shelf.file name ≡ Some bytes
-  pub short : length bytes ≤ 268435456
-
 -- this speaks against the certificate in a file, and nothing before it
 pub record IsRefusedFile (shelf : ShelfSeen) (problem : Problem) (name : List ℕ) (fault : CheckRefused) : Type 0 where
   pub problem_is : IsProblem problem
@@ -81,14 +73,10 @@ pub record IsRefusedFile (shelf : ShelfSeen) (problem : Problem) (name : List �
   pub reads : IsText certificate bytes
   pub refusal : IsRefusal problem certificate fault
 
--- a file is the cause: it can't be read, is too large, has a bad line, or isn't believed
+-- a file is the cause: it has no certificate, or isn't believed
 abbrev pub FromFile : (List ℕ → ℕ → Type 0) → (CheckRefused → Type 0) → ShelfSeen → ShelfSeen → Problem → List ℕ → Refusal → Type 0
-FromFile IsBad IsAgainst old new problem name (CannotRead named) = FetchFailed named.now name old new
-FromFile IsBad IsAgainst old new problem name LargeCertificate = IsCalm old new × (old.told ≡ true → IsLonger (old.file name) 268435456)
-FromFile IsBad IsAgainst old new problem name (BadLine n) = IsCalm old new × ((bytes : List ℕ) × IsCertificateFile old name bytes × IsBad bytes n)
 FromFile IsBad IsAgainst old new problem name (NotAccepted fault terms) = IsCalm old new × (terms ≡ length problem.vector) × IsAgainst fault
-FromFile IsBad IsAgainst old new problem name Memory = IsCalm old new
-FromFile IsBad IsAgainst old new problem name refusal = ⊥
+FromFile IsBad IsAgainst old new problem name refusal = FromLines IsBad old new name refusal
 
 -- the certificate's file is
 abbrev pub FromCertificate : ShelfSeen → ShelfSeen → Problem → List ℕ → Refusal → Type 0

@@ -1,5 +1,5 @@
 -- Exact answers: the report on what texts ask of a network and why there is none, and the tree as it is stored and as it is checked.
-use Rattle.std.specs.Prelude.{◌≡◌, ℕ, ◌<◌, ◌≤◌, true, List, length, Option, Some, None}
+use Rattle.std.specs.Prelude.{◌≡◌, ℕ, List, length, Option}
 use Rattle.wi_base.specs.Shelf.{ShelfSeen}
 use Rattle.wi_net.specs.Net.{Net}
 use Rattle.wi_query.specs.declared.query.Query.{Query}
@@ -9,7 +9,7 @@ use Rattle.wi_build.specs.Problems.{Problem, IsProblem, problem_of}
 use Rattle.wi_cert.specs.declared.tree.TreeCertificate.{TreeCertificate}
 use Rattle.wi_cert.specs.declared.check_refused.CheckRefused.{CheckRefused}
 use Rattle.wi_cert.specs.Text.{IsBadLine}
-use Rattle.wi_cert.specs.Trees.{IsTreeText, tree_text, trees}
+use Rattle.wi_cert.specs.Trees.{IsTreeText, trees}
 use Rattle.wi_accept.specs.Answers.{answer_of}
 use Rattle.wi_accept.specs.Trees.{IsDecidedExactly, IsTreeAccepted, IsTreeRefusal}
 use Rattle.wi_branch.specs.declared.refused.ExactRefused.{ExactRefused}
@@ -17,12 +17,13 @@ use Rattle.wi_branch.specs.declared.refused.ExactRefused.TheVariants as none
 use Rattle.wi_branch.specs.declared.opened.Opened.{Opened}
 use Rattle.wi_branch.specs.Exactly.{IsExact, IsInexact}
 use Rattle.wi_report.specs.Reports.{exact_report_of}
-use Rattle.wi_app.specs.Asked.{IsAsked}
-use Rattle.wi_app.specs.Certificates.{FromFile, IsCertificateFile, IsNamed}
+use Rattle.wi_files.specs.Asked.{IsAsked}
+use Rattle.wi_files.specs.Certificates.{IsCertificateFile, IsLarge, IsNamed, IsTreeStored}
+use Rattle.wi_files.specs.Shelves.{IsCalm, StoreFailed}
+use Rattle.wi_app.specs.Certificates.{FromFile}
 use Rattle.wi_app.specs.Decided.{status_for}
-use Rattle.wi_app.specs.Shelves.{IsCalm, StoreFailed}
-use Rattle.wi_app.specs.declared.refusal.Refusal.{Refusal}
-use Rattle.wi_app.specs.declared.refusal.Refusal.TheVariants.{CannotWrite, ManyNodes, Overflow, TooLong, TreeNotWritten, Memory}
+use Rattle.wi_outcome.specs.declared.refusal.Refusal.{Refusal}
+use Rattle.wi_outcome.specs.declared.refusal.Refusal.TheVariants.{CannotWrite, ManyNodes, Overflow, TooLong, TreeNotWritten, Memory}
 
 -- ---- answered
 -- an answer to a problem that holds without doubt, with the tree of at most 10,000 nodes that shows it; nothing speaks against that
@@ -30,11 +31,6 @@ pub record IsShownExactly (problem : Problem) (answer : Answer) (tree : TreeCert
   pub problem_is : IsProblem problem
   pub exact : IsExact problem 10000 answer tree
   pub accepted : IsTreeAccepted problem tree
-
--- the tree's text stands under the name, if there is one
-abbrev pub IsTreeStored : Option (List ℕ) → ShelfSeen → TreeCertificate → Type 0
-IsTreeStored None shelf tree = Unit {0}
-IsTreeStored (Some name) shelf tree = (bytes : List ℕ) × IsTreeText tree bytes × (length bytes ≤ 268435456) × (shelf.told ≡ true → shelf.file name ≡ Some bytes)
 
 -- the report on such an answer, with its status; its tree stands under the name, if there is one
 pub record IsReportedExactly (problem : Problem) (file : Option (List ℕ)) (shelf : ShelfSeen) (status : ℕ) (text : List ℕ) : Type 0 where
@@ -63,10 +59,6 @@ status_without none.Memory = 11
 
 abbrev pub EndsUnsplit : Problem → ℕ → Type 0
 EndsUnsplit problem status = (refused : ExactRefused) × IsInexact problem 10000 refused × (status ≡ status_without refused)
-
--- a tree is too large to be written
-abbrev pub IsLarge : TreeCertificate → Type 0
-IsLarge tree = 268435456 < length (tree_text tree)
 
 -- an exact answer is shown by such a tree
 pub record IsTreeTooLarge (problem : Problem) : Type 0 where

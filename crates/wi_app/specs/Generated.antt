@@ -11,8 +11,8 @@ use Rattle.wi_report.specs.Summaries.{summary_of}
 use Rattle.wi_app.specs.Asked.{ForAsked}
 use Rattle.wi_app.specs.Certificates.{IsCertificate}
 use Rattle.wi_app.specs.Decided.{FromDecision}
-use Rattle.wi_app.specs.declared.refusal.Refusal.{Refusal}
-use Rattle.wi_app.specs.declared.refusal.Refusal.TheVariants.{Memory}
+use Rattle.wi_outcome.specs.declared.refusal.Refusal.{Refusal}
+use Rattle.wi_outcome.specs.declared.refusal.Refusal.TheVariants.{Memory}
 
 -- this holds of the problem that the texts of a ring ask of it
 abbrev pub ForRing : ℕ → ℕ → (Problem → Type 0) → Type 0

@@ -1,13 +1,8 @@
-pub mod Texts
-pub mod Edges
-pub mod Shelves
 pub mod Asked
 pub mod Certificates
 pub mod Decided
 pub mod Exact
 pub mod Tolerance
 pub mod Generated
-pub mod Protection
-pub mod OnWire
 pub mod Run
 pub mod private

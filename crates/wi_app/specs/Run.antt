@@ -1,18 +1,8 @@
 -- What the program does: the answers that it prints, why it refuses, and what it leaves.
-use Rattle.std.specs.Prelude.{◌≡◌, ◌⊎◌, ℕ, ◌<◌, ◌≤◌, true, List, length, Option, Some, None, Ok}
-use Rattle.wi_base.specs.Shelf.{ShelfSeen, IsLonger}
+use Rattle.std.specs.Prelude.{◌≡◌, ◌⊎◌, ℕ, ◌<◌, true, List, Option, Some, None}
+use Rattle.wi_base.specs.Shelf.{ShelfSeen}
 use Rattle.wi_base.specs.Sink.{SinkSeen}
 use Rattle.wi_net.specs.Net.{Net}
-use Rattle.wi_net.specs.Network.{IsNetwork}
-use Rattle.wi_netjson.specs.Reading.{Fails}
-use Rattle.wi_netjson.specs.File.{network_of}
-use Rattle.wi_netjson.specs.declared.fault.NetFault.{NetFault}
-use Rattle.wi_world.specs.declared.world.State.{State}
-use Rattle.wi_script.specs.declared.script.Script.{Script}
-use Rattle.wi_script.specs.declared.script.ScriptRefused.{ScriptRefused}
-use Rattle.wi_script.specs.Scripts.{IsScript, IsNoScript}
-use Rattle.wi_script.specs.Plays.{begin, states_of, IsNotPlayed}
-use Rattle.wi_report.specs.States.{states_shown}
 use Rattle.wi_report.specs.Reports.{accepted_text}
 use Rattle.wi_accept.specs.Answers.{word_of}
 use Rattle.wi_cert.specs.declared.certificate.Certificate.{Certificate}
@@ -21,36 +11,24 @@ use Rattle.wi_words.specs.Commands.{Command, Verify, Check, Play, Gen, Exact, Ch
 use Rattle.wi_build.specs.Problems.{Problem}
 use Rattle.wi_query.specs.declared.query.Query.{Query}
 use Rattle.wi_quantity.specs.declared.vector.Part.{Part}
-use Rattle.wi_app.specs.Asked.{AreBadTexts, ForAsked, FromAsked, IsAsked}
-use Rattle.wi_app.specs.Certificates.{FromCertificate, FromStore, IsAcceptedText, IsCertificateFile, IsNamed, IsTooLargeToWrite}
+use Rattle.wi_outcome.specs.Edges.{Prints, SaysWhy, Untouched}
+use Rattle.wi_outcome.specs.declared.refusal.Refusal.{Refusal}
+use Rattle.wi_outcome.specs.declared.refusal.Refusal.TheVariants.{Usage, Memory}
+use Rattle.wi_files.specs.Asked.{AreBadTexts, IsAsked}
+use Rattle.wi_files.specs.Certificates.{IsCertificateFile, IsNamed}
+use Rattle.wi_files.specs.Networks.{FromNetwork, HoldsNetwork}
+use Rattle.wi_files.specs.OnWire.{FromHex, IsShownHex, ShowsNoStack}
+use Rattle.wi_files.specs.Protection.{FromProtecting, HasNoProtection, IsProtected}
+use Rattle.wi_files.specs.Scripts.{FromPlaying, IsPlay, IsPlayed}
+use Rattle.wi_files.specs.Shelves.{IsCalm, IsLeft, IsOfTwo}
+use Rattle.wi_app.specs.Asked.{ForAsked, FromAsked}
+use Rattle.wi_app.specs.Certificates.{FromCertificate, FromStore, IsAcceptedText, IsTooLargeToWrite}
 use Rattle.wi_app.specs.Decided.{EndsUndecided, FromDecision, IsReported, packets_in, report_in}
 use Rattle.wi_app.specs.Exact.{EndsUnsplit, FromSplitting, FromTree, FromTreeStore, IsAcceptedTree, IsReportedExactly, IsTreeTooLarge}
-use Rattle.wi_app.specs.Tolerance.{AreTreesTooLarge, EndsUntold, FromTolerating, FromTreesStore, IsToldWith}
 use Rattle.wi_app.specs.Generated.{ForRing, FromRing, IsSummary}
-use Rattle.wi_app.specs.Protection.{FromPlan, HasNoProtection, IsProtecting}
-use Rattle.wi_app.specs.OnWire.{FromHex, IsShownHex, ShowsNoStack}
-use Rattle.wi_app.specs.Edges.{Untouched, PutAll, PutPart, PutNothing, SaysWhy}
-use Rattle.wi_app.specs.Shelves.{AllStand, FetchFailed, IsCalm, IsOfTwo, OthersStand, StandBut}
-use Rattle.wi_app.specs.declared.refusal.Refusal.{Refusal}
-use Rattle.wi_app.specs.declared.refusal.Refusal.TheVariants.{Usage, CannotRead, CannotWrite, CannotWriteBelow, NoMemoryBelow, Network, Script as BadScript, LongScript, CannotPrint, Memory}
+use Rattle.wi_app.specs.Tolerance.{AreTreesTooLarge, EndsUntold, FromTolerating, FromTreesStore, IsToldWith}
 
 -- ---- answers
--- the lines of the states of the moving world while bytes, which are a script of the network, are played with at most k risk
--- groups failed
-pub record IsPlay (net : Net) (k : ℕ) (bytes text : List ℕ) : Type 0 where
-  pub network : IsNetwork net
-  pub short : length bytes ≤ 1048576
-  pub script : Script
-  pub reads : IsScript net bytes script
-  pub states : List State
-  pub played : states_of net k (begin script) script.events ≡ Some states
-  pub text_is : text ≡ states_shown net states
-
--- the file that is held is the network's
-abbrev pub HoldsNetwork : Option (List ℕ) → Net → Type 0
-HoldsNetwork None net = ⊥
-HoldsNetwork (Some bytes) net = network_of bytes ≡ Ok net
-
 -- texts ask something of the network whose file is held under a name, and this is so of the problem that they ask
 abbrev pub ForTexts : ShelfSeen → List ℕ → List ℕ → Option (List ℕ) → (Problem → Type 0) → Type 0
 ForTexts shelf name query weights P = (net : Net) × (shelf.told ≡ true → HoldsNetwork (shelf.file name) net) × ForAsked net query weights P
@@ -61,17 +39,14 @@ IsAnswered old new (Verify name query weights file) status text = ForTexts old n
 IsAnswered old new (Check name query file weights) status text =
     (net : Net) × (bytes : List ℕ) × (c : Certificate) × (old.told ≡ true → HoldsNetwork (old.file name) net) × IsCertificateFile old file bytes
     × IsAcceptedText net query weights bytes c × (status ≡ 0) × (text ≡ accepted_text (word_of c.shown.claim))
-IsAnswered old new (Play name script k) status text =
-    (net : Net) × (bytes : List ℕ) × (old.told ≡ true → HoldsNetwork (old.file name) net) × (old.told ≡ true → old.file script ≡ Some bytes)
-    × IsPlay net k bytes text × (status ≡ 0)
+IsAnswered old new (Play name script k) status text = IsPlayed old name script k text × (status ≡ 0)
 IsAnswered old new (Gen seed size) status text = IsSummary seed size text × (status ≡ 0)
 IsAnswered old new (Exact name query weights file) status text = ForTexts old name query weights (λ problem. IsReportedExactly problem file new status text)
 IsAnswered old new (CheckExact name query file weights) status text =
     (net : Net) × (bytes : List ℕ) × (t : TreeCertificate) × (old.told ≡ true → HoldsNetwork (old.file name) net) × IsCertificateFile old file bytes
     × IsAcceptedTree net query weights bytes t × (status ≡ 0) × (text ≡ accepted_text (word_of t.shown.claim))
 IsAnswered old new (Tolerate name query most weights file) status text = ForTexts old name query weights (λ problem. IsToldWith problem most file new status text)
-IsAnswered old new (Protect name) status text =
-    (bytes : List ℕ) × (old.told ≡ true → old.file name ≡ Some bytes) × IsProtecting bytes text × (status ≡ 0)
+IsAnswered old new (Protect name) status text = IsProtected old name text × (status ≡ 0)
 IsAnswered old new (Packets name query weights) status text = ForTexts old name query weights (λ problem. IsReported packets_in problem None new status text)
 IsAnswered old new (Stack hex) status text = IsShownHex hex text × (status ≡ 0)
 
@@ -88,31 +63,6 @@ IsStoredBy (Some (Tolerate name query most weights file)) under = IsOfTwo file u
 IsStoredBy _ under = ⊥
 
 -- ---- causes of refusals. Old and new are the shelf before and after; what it tells of a file is said where it tells
--- the file that is held has this fault
-abbrev pub FileHasFault : Option (List ℕ) → NetFault → Type 0
-FileHasFault None fault = ⊥
-FileHasFault (Some bytes) fault = Fails fault (network_of bytes)
-
--- the network file is the cause
-abbrev pub FromNetwork : ShelfSeen → ShelfSeen → List ℕ → Refusal → Type 0
-FromNetwork old new name (CannotRead named) = FetchFailed named.now name old new
-FromNetwork old new name (Network fault) = IsCalm old new × (old.told ≡ true → FileHasFault (old.file name) fault)
-FromNetwork old new name Memory = IsCalm old new
-FromNetwork old new name refusal = ⊥
-
--- bytes aren't a script of the network, or are one with an event that isn't allowed
-abbrev pub IsBadScript : Net → ℕ → List ℕ → ScriptRefused → Type 0
-IsBadScript net k bytes refused = IsNoScript net bytes refused ⊎ ((script : Script) × IsScript net bytes script × IsNotPlayed net k script refused)
-
--- the script's file is the cause: over the limit it is told so, whatever its lines are
-abbrev pub FromScript : ShelfSeen → ShelfSeen → Net → List ℕ → ℕ → Refusal → Type 0
-FromScript old new net name k (CannotRead named) = FetchFailed named.now name old new
-FromScript old new net name k LongScript = IsCalm old new × (old.told ≡ true → IsLonger (old.file name) 1048576)
-FromScript old new net name k (BadScript refused) =
-    IsCalm old new × ((bytes : List ℕ) × (old.told ≡ true → old.file name ≡ Some bytes) × (length bytes ≤ 1048576) × IsBadScript net k bytes refused)
-FromScript old new net name k Memory = IsCalm old new
-FromScript old new net name k refusal = ⊥
-
 -- texts that ask something of a network: its file is the cause, or, that being a network's, the texts, or what both ask, or its answer
 -- is to be stored and can't be
 abbrev pub FromAsking : (Problem → Refusal → Type 0) → (ShelfSeen → ShelfSeen → Problem → Refusal → Type 0) → ShelfSeen → ShelfSeen → List ℕ → List ℕ → Option (List ℕ) → Refusal → Type 0
@@ -129,9 +79,7 @@ FromCommand old new (Check name query file weights) refusal =
     FromNetwork old new name refusal
     ⊎ ((net : Net) × (old.told ≡ true → HoldsNetwork (old.file name) net) × AreBadTexts net query weights refusal × IsCalm old new)
     ⊎ ForTexts old name query weights (λ problem. FromCertificate old new problem file refusal)
-FromCommand old new (Play name script k) refusal =
-    FromNetwork old new name refusal
-    ⊎ ((net : Net) × (old.told ≡ true → HoldsNetwork (old.file name) net) × FromScript old new net script k refusal)
+FromCommand old new (Play name script k) refusal = FromPlaying old new name script k refusal
 FromCommand old new (Gen seed size) refusal = IsCalm old new × FromRing seed size refusal
 FromCommand old new (Exact name query weights file) refusal = FromAsking FromSplitting (FromTreeStore file) old new name query weights refusal
 FromCommand old new (CheckExact name query file weights) refusal =
@@ -140,9 +88,7 @@ FromCommand old new (CheckExact name query file weights) refusal =
     ⊎ ForTexts old name query weights (λ problem. FromTree old new problem file refusal)
 FromCommand old new (Tolerate name query most weights file) refusal =
     FromAsking (FromTolerating most) (FromTreesStore most file) old new name query weights refusal
-FromCommand old new (Protect name) refusal =
-    FromNetwork old new name refusal
-    ⊎ ((bytes : List ℕ) × (old.told ≡ true → old.file name ≡ Some bytes) × FromPlan bytes refusal × IsCalm old new)
+FromCommand old new (Protect name) refusal = FromProtecting old new name refusal
 FromCommand old new (Packets name query weights) refusal =
     FromNetwork old new name refusal
     ⊎ ((net : Net) × (old.told ≡ true → HoldsNetwork (old.file name) net) × FromAsked FromDecision net query weights refusal × IsCalm old new)
@@ -155,22 +101,7 @@ FromWords old new None Memory = IsCalm old new
 FromWords old new None refusal = ⊥
 FromWords old new (Some command) refusal = FromCommand old new command refusal
 
--- what a refusal leaves of files: all, but for the one that couldn't be stored, of which nothing is known, and for the first of two where
--- the second couldn't be
-abbrev pub IsLeft : Refusal → ShelfSeen → ShelfSeen → Type 0
-IsLeft (CannotWrite name) old new = OthersStand (Some name.now) old new
-IsLeft (CannotWriteBelow name) old new = StandBut (IsOfTwo (Some name.now)) old new
-IsLeft (NoMemoryBelow name) old new = OthersStand (Some name.now) old new
-IsLeft refusal old new = AllStand old new
-
 -- ---- what is done
--- a report was printed, and nothing was said; or it wasn't, and it was said why
-abbrev pub Prints : ℕ → List ℕ → SinkSeen → SinkSeen → SinkSeen → SinkSeen → ℕ → Type 0
-Prints status text out_old out_new err_old err_new result =
-    (PutAll text out_old out_new × Untouched err_old err_new × (result ≡ status))
-    ⊎ (PutPart text out_old out_new × SaysWhy CannotPrint err_old err_new result)
-    ⊎ (PutNothing out_old out_new × SaysWhy Memory err_old err_new result)
-
 -- the program answered: no call on the shelf failed, and the report was printed
 pub record IsDone (words : List (List ℕ)) (shelf_old shelf_new : ShelfSeen) (out_old out_new err_old err_new : SinkSeen) (result : ℕ) : Type 0 where
   pub status : ℕ

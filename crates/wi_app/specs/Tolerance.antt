@@ -1,6 +1,5 @@
 -- How many failures it takes: the report on what texts ask of a network and why there is none, and the two trees as they are stored.
-use Rattle.std.specs.Prelude.{◌≡◌, ◌⊎◌, ℕ, ◌<◌, ◌≤◌, List, [], ◌∷◌, ◌++◌, length, Option, Some, None, option_map}
-use Rattle.wi_base.specs.declared.shelf.CallKind.TheVariants.{Store}
+use Rattle.std.specs.Prelude.{◌≡◌, ℕ, ◌<◌, ◌≤◌, List, length, Option, None}
 use Rattle.wi_base.specs.Shelf.{ShelfSeen}
 use Rattle.wi_build.specs.Problems.{Problem}
 use Rattle.wi_cert.specs.declared.tree.TreeCertificate.{TreeCertificate}
@@ -8,11 +7,9 @@ use Rattle.wi_branch.specs.Tolerance.{IsTolerated, TellsTolerance, asked_at}
 use Rattle.wi_branch.specs.declared.tolerance.Tolerance.{Tolerance}
 use Rattle.wi_branch.specs.declared.tolerance.Tolerance.TheVariants.{At, NoneUpTo}
 use Rattle.wi_report.specs.Tolerances.{none_up_to_text, tolerance_report_of}
-use Rattle.wi_app.specs.Certificates.{IsNamed}
-use Rattle.wi_app.specs.Exact.{EndsUnsplit, FromSplitting, IsLarge, IsTreeStored}
-use Rattle.wi_app.specs.Shelves.{IsCalm, StoreFailed, below_name}
-use Rattle.wi_app.specs.declared.refusal.Refusal.{Refusal}
-use Rattle.wi_app.specs.declared.refusal.Refusal.TheVariants.{CannotWrite, CannotWriteBelow, NoMemoryBelow, TreeNotWritten, Memory}
+use Rattle.wi_outcome.specs.declared.refusal.Refusal.{Refusal}
+use Rattle.wi_files.specs.Certificates.{AreTreesStored, AreUnstored, IsOneLarge}
+use Rattle.wi_app.specs.Exact.{EndsUnsplit, FromSplitting}
 
 -- ---- told
 -- the same problem, where so many risk groups may fail
@@ -41,15 +38,6 @@ abbrev pub second_tree : Tolerance → Option TreeCertificate
 second_tree (At k answer tree below) = below
 second_tree (NoneUpTo tree) = None
 
--- the text of the second tree, if there is one, stands under the second name, if there are names
-abbrev pub IsSecondStored : Option (List ℕ) → ShelfSeen → Option TreeCertificate → Type 0
-IsSecondStored file shelf None = Unit {0}
-IsSecondStored file shelf (Some tree) = IsTreeStored (option_map below_name file) shelf tree
-
--- both texts stand
-abbrev pub AreTreesStored : Option (List ℕ) → ShelfSeen → TreeCertificate → Option TreeCertificate → Type 0
-AreTreesStored file shelf first second = IsTreeStored file shelf first × IsSecondStored file shelf second
-
 -- what is printed where it is told, with its status; the trees stand under the name and the one made from it, if there is one
 pub record IsToldWith (problem : Problem) (most : ℕ) (file : Option (List ℕ)) (shelf : ShelfSeen) (status : ℕ) (text : List ℕ) : Type 0 where
   pub found : Tolerance
@@ -72,26 +60,10 @@ abbrev pub EndsUntold : Problem → ℕ → ℕ → Type 0
 EndsUntold problem most status = AtFirst problem most (λ asked. EndsUnsplit asked status)
 
 -- ---- not stored
--- one of the trees is too large to be written
-abbrev pub IsOneLarge : TreeCertificate → Option TreeCertificate → Type 0
-IsOneLarge first None = IsLarge first
-IsOneLarge first (Some second) = IsLarge first ⊎ IsLarge second
-
 pub record AreTreesTooLarge (problem : Problem) (most : ℕ) : Type 0 where
   pub found : Tolerance
   pub told : IsTold problem most found
   pub large : IsOneLarge (first_tree found) (second_tree found)
-
--- the trees are to be stored under the name, if there is one, and can't be: neither is where one is too large, and where the second
--- can't be, the first is
-abbrev pub AreUnstored : ShelfSeen → ShelfSeen → Option (List ℕ) → TreeCertificate → Option TreeCertificate → Refusal → Type 0
-AreUnstored old new file first second TreeNotWritten = IsCalm old new × IsNamed file × IsOneLarge first second
-AreUnstored old new file first second (CannotWrite named) = StoreFailed file named.now old new
-AreUnstored old new file first second (CannotWriteBelow named) =
-    (file ≡ Some named.now) × IsTreeStored file new first × (new.failed ≡ old.failed ++ (Store, below_name named.now) ∷ [])
-AreUnstored old new file first second (NoMemoryBelow named) = (file ≡ Some named.now) × IsTreeStored file new first × IsCalm old new
-AreUnstored old new file first second Memory = IsCalm old new
-AreUnstored old new file first second refusal = ⊥
 
 pub record FromTreesStore (most : ℕ) (file : Option (List ℕ)) (old new : ShelfSeen) (problem : Problem) (refusal : Refusal) : Type 0 where
   pub found : Tolerance

@@ -3,31 +3,21 @@
 ghost use Rattle.std.specs.Prelude.{◌≡◌, Some, map, string_bytes, IfOk, IfErr};
 ghost use Rattle.wi_words.specs.Commands.{IsFit, command_of};
 ghost use Rattle.wi_words.specs.Shown.{shown};
-ghost use Rattle.wi_app.specs.Run.{AreAnswered, FromCommand, FromWords, IsAnswered, IsLeft, IsStoredBy};
-ghost use Rattle.wi_app.specs.Shelves.{IsCalm, StandBut};
+ghost use Rattle.wi_app.specs.Run.{AreAnswered, FromCommand, FromWords, IsAnswered, IsStoredBy};
+ghost use Rattle.wi_files.specs.Shelves.{IsLeft, IsCalm, StandBut};
 
 use crate::check::check;
 use crate::check_exact::check_exact;
 use crate::exact::exact;
 use crate::packets::packets;
-use crate::play::play;
-use crate::protect::protect;
-use crate::refusal::Refusal;
 use crate::ring::summary_of_ring;
-use crate::stack::stack;
 use crate::tolerate::tolerate;
 use crate::verify::verify;
 use std::alloc::Global;
 use wi_base::Shelf;
-use wi_text::Text;
+use wi_files::{play, protect, stack};
+use wi_outcome::{Printed, Refusal};
 use wi_words::{Command, command_of};
-
-/// What is to be printed, with the exit status: 1 for a no, 2 for an inconclusive, and else 0.
-#[derive(Drop)]
-pub struct Printed {
-    pub status: u8,
-    pub text: Text,
-}
 
 /// What the words ask for, or why not.
 pub fn answer_to_words<'a, S: Shelf>(

@@ -2,13 +2,13 @@
 //! over the system's files and streams. What is printed goes out in one call; where that fails, a front of it may stand there.
 ghost use Rattle.std.specs.Prelude.{◌≡◌, ◌<◌, ◌-◌, ◌^◌, map, string_bytes};
 ghost use Rattle.wi_words.specs.Commands.{command_of};
-ghost use Rattle.wi_app.specs.Run.{Completes, Does, IsStoredBy, Prints};
-ghost use Rattle.wi_app.specs.Shelves.{StandBut};
+ghost use Rattle.wi_files.specs.Shelves.{StandBut};
+ghost use Rattle.wi_app.specs.Run.{Completes, Does, IsStoredBy};
 
-use crate::answer::{Printed, answer_to_words};
-use crate::refusal::{Refusal, say};
+use crate::answer::answer_to_words;
 use std::alloc::Global;
-use wi_base::{PutRefused, Shelf, Sink};
+use wi_base::{Shelf, Sink};
+use wi_outcome::{print, say};
 
 /// Does what the words say: it fetches from the shelf, stores a certificate if one is asked for, and prints on `out`; or says on
 /// `err` why not. It gives the exit status. The first word is the program's name.
@@ -29,20 +29,5 @@ pub fn run<S: Shelf, O: Sink, E: Sink>(
     match answer_to_words(alloc, words, shelf) {
         Ok(printed) => print(alloc, &printed, out, err),
         Err(refusal) => say(alloc, refusal, err),
-    }
-}
-
-// Prints a report, or says why not.
-fn print<O: Sink, E: Sink>(alloc: Global, printed: &Printed, out: &mut O, err: &mut E) -> u8
-    requires out { (O.seen out.old).faults < 2 ^ 64 - 1 }
-    requires err { (E.seen err.old).faults < 2 ^ 64 - 1 }
-    ensures out { (O.seen out.new).told ≡ (O.seen out.old).told }
-    ensures err { (E.seen err.new).told ≡ (E.seen err.old).told }
-    ensures printed { Prints printed.now.status printed.now.text (O.seen out.old) (O.seen out.new) (E.seen err.old) (E.seen err.new) result }
-{
-    match out.put(printed.text.as_bytes()) {
-        Ok(()) => printed.status,
-        Err(PutRefused::Failed) => say(alloc, Refusal::CannotPrint, err),
-        Err(PutRefused::Memory) => say(alloc, Refusal::Memory, err),
     }
 }

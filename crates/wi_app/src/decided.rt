@@ -7,11 +7,11 @@ ghost use Rattle.wi_decide.specs.Refusals.{IsUnrefused};
 ghost use Rattle.wi_app.specs.Certificates.{IsCertificate};
 ghost use Rattle.wi_app.specs.Decided.{FromDecision};
 
-use crate::refusal::Refusal;
 use std::alloc::Global;
 use wi_cert::Certificate;
 use wi_decide::{DecideRefused, decide};
 use wi_net::Network;
+use wi_outcome::Refusal;
 use wi_quantity::Vector;
 use wi_query::Query;
 use wi_trace::Answer;

@@ -2,14 +2,13 @@
 ghost use Rattle.std.specs.Prelude.{◌≡◌, option_map, IfOk, IfErr};
 ghost use Rattle.wi_words.specs.Commands.{Packets};
 ghost use Rattle.wi_app.specs.Run.{FromCommand, IsAnswered};
-ghost use Rattle.wi_app.specs.Shelves.{AllStand, IsCalm};
+ghost use Rattle.wi_files.specs.Shelves.{AllStand, IsCalm};
 
-use crate::answer::Printed;
-use crate::fetch::network;
-use crate::refusal::Refusal;
 use crate::verify::{Content, answer};
 use std::alloc::Global;
 use wi_base::Shelf;
+use wi_files::network;
+use wi_outcome::{Printed, Refusal};
 
 /// The report on a query of the network of a file, and the packets of the run that it shows, or why not. Runs are weighed by the
 /// weights, or by their effort alone.

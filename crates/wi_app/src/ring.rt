@@ -11,15 +11,14 @@ ghost use Rattle.wi_app.specs.Decided.{FromDecision};
 ghost use Rattle.wi_app.specs.Generated.{FromRing, IsSummary, IsSummed};
 ghost use Rattle.wi_app.specs.private.Stages.{IsBelieved, IsNotBelieved};
 
-use crate::answer::Printed;
 use crate::check::accepted_word;
 use crate::decided::decided;
-use crate::refusal::Refusal;
-use crate::texts::read_texts;
 use std::alloc::Global;
 use wi_cert::Certificate;
+use wi_files::read_texts;
 use wi_gen::{Generated, generate, the_texts_have_no_fault};
 use wi_net::Network;
+use wi_outcome::{Printed, Refusal};
 use wi_quantity::Vector;
 use wi_query::Query;
 use wi_report::summary;

@@ -1,26 +1,24 @@
 //! The number is printed with the exact report there, and the two trees that show it are stored before. As of `exact`, what is printed is
 //! made first.
-ghost use Rattle.std.specs.Prelude.{◌≡◌, Ok, option_map, IfOk, IfErr, IfSome};
+ghost use Rattle.std.specs.Prelude.{◌≡◌, Ok, Some, option_map, IfOk, IfErr, IfSome, OnOk};
 ghost use Rattle.wi_world.specs.Moves.{AreBounds};
 ghost use Rattle.wi_words.specs.Commands.{Tolerate};
 ghost use Rattle.wi_cert.specs.Trees.{IsTreeWritable};
 ghost use Rattle.wi_build.specs.Problems.{problem_of};
 ghost use Rattle.wi_app.specs.Asked.{ForAsked};
-ghost use Rattle.wi_app.specs.Run.{FromCommand, IsAnswered, IsLeft};
-ghost use Rattle.wi_app.specs.Shelves.{IsCalm, IsOfTwo, StandBut};
-ghost use Rattle.wi_app.specs.Tolerance.{AreTreesStored, AreUnstored, FromTolerating, FromTreesStore, IsTold, IsToldWith, first_tree, second_tree, tolerance_status, tolerance_text};
+ghost use Rattle.wi_app.specs.Run.{FromCommand, IsAnswered};
+ghost use Rattle.wi_files.specs.Shelves.{IsLeft, IsCalm, IsOfTwo, StandBut};
+ghost use Rattle.wi_files.specs.Certificates.{AreTreesStored, AreUnstored};
+ghost use Rattle.wi_app.specs.Tolerance.{FromTolerating, FromTreesStore, IsTold, IsToldWith, first_tree, second_tree, tolerance_status, tolerance_text};
 ghost use Rattle.wi_app.specs.private.Stages.{FromAnswering, FromDeciding};
 
-use crate::answer::Printed;
 use crate::exact::refusal_for;
-use crate::fetch::network;
-use crate::refusal::{NODE_LIMIT, Refusal};
-use crate::texts::read_texts;
-use crate::trees_file::store_trees;
 use std::alloc::Global;
 use wi_base::{NoMemory, Shelf};
 use wi_branch::{Tolerance, TolerateRefused, tolerate as tolerance_of};
+use wi_files::{network, read_texts, store_trees};
 use wi_net::Network;
+use wi_outcome::{NODE_LIMIT, Printed, Refusal};
 use wi_quantity::Vector;
 use wi_query::Query;
 use wi_report::{none_up_to_text, tolerance_report};
@@ -160,12 +158,34 @@ fn stored<'a, S: Shelf>(
 {
     let text = text?;
     if let Some(name) = file {
-        store_trees(alloc, found, name, shelf)?;
+        store_trees_of(alloc, found, name, shelf)?;
     }
     Ok(Printed {
         status: tolerance_status(found),
         text,
     })
+}
+
+// Stores the trees that tell it.
+fn store_trees_of<'a, S: Shelf>(
+    alloc: Global,
+    found: &Tolerance,
+    name: &'a str,
+    shelf: &mut S,
+) -> Result<(), Refusal<'a>>
+    requires first { IsTreeWritable (first_tree found.now) }
+    requires second { IfSome (second_tree found.now) IsTreeWritable }
+    ensures told { (S.seen shelf.new).told ≡ (S.seen shelf.old).told }
+    ensures others { StandBut (IsOfTwo (Some name.now)) (S.seen shelf.old) (S.seen shelf.new) }
+    ensures left { IfErr result (λ refusal. IsLeft refusal (S.seen shelf.old) (S.seen shelf.new)) }
+    ensures calm { OnOk result (IsCalm (S.seen shelf.old) (S.seen shelf.new)) }
+    ensures stored { OnOk result (AreTreesStored (Some name.now) (S.seen shelf.new) (first_tree found.now) (second_tree found.now)) }
+    ensures refused { IfErr result (AreUnstored (S.seen shelf.old) (S.seen shelf.new) (Some name.now) (first_tree found.now) (second_tree found.now)) }
+{
+    match found {
+        Tolerance::At { yes, below, .. } => { store_trees(alloc, yes, below.as_ref(), name, shelf) }
+        Tolerance::NoneUpTo { no } => store_trees(alloc, no, None, name, shelf),
+    }
 }
 
 // The exit status.

@@ -4,7 +4,7 @@
 ghost use Rattle.std.specs.Prelude.{◌≡◌, ◌<◌, ◌-◌, ◌^◌, codes, [], IfOk, IfErr, IsErr, IsOkAnd};
 ghost use Rattle.std.specs.IoError.{error_kind};
 ghost use Rattle.std.specs.Vec.Iter.{into_iter_items};
-ghost use Rattle.wi_app.specs.Edges.{Says};
+ghost use Rattle.wi_outcome.specs.Edges.{Says};
 
 use std::alloc::Global;
 use std::env::{self, Args};

@@ -1,4 +1,8 @@
-use Rattle.wi_app.proofs.Outcomes.{ring_answered, stack_answered}
+use Rattle.wi_files.specs.OnWire.{IsShownHex}
+use Rattle.wi_files.specs.Protection.{IsProtected}
+use Rattle.wi_files.specs.Scripts.{IsPlayed}
+use Rattle.wi_app.specs.Generated.{IsSummary}
+use Rattle.wi_app.proofs.Outcomes.{with_status_0}
 use Rattle.wi_app.proofs.answer.answer_to.Goals as goal
 
 pub returns-in-Verify-clause-refused : goal.returns-in-Verify-clause-refused
@@ -10,15 +14,20 @@ returns-in-Check-clause-answered g c = rw c.in-Check.is c.check.ensures.answered
 pub returns-in-Check-clause-refused : goal.returns-in-Check-clause-refused
 returns-in-Check-clause-refused g c = rw c.in-Check.is c.check.ensures.refused
 
+pub returns-in-Play-clause-answered : goal.returns-in-Play-clause-answered
+returns-in-Play-clause-answered g c =
+    rw c.in-Play.is (with_status_0 c.play.result (IsPlayed (g.S.Shelf.seen c.args.shelf.now) c.in-Play.network.now c.in-Play.script.now c.in-Play.k) c.play.ensures.status c.play.ensures.played)
+
 pub returns-in-Play-clause-refused : goal.returns-in-Play-clause-refused
 returns-in-Play-clause-refused g c = rw c.in-Play.is c.play.ensures.refused
 
 pub returns-in-Gen-clause-answered : goal.returns-in-Gen-clause-answered
 returns-in-Gen-clause-answered g c =
-    rw c.in-Gen.is (ring_answered c.summary_of_ring.result (g.S.Shelf.seen c.args.shelf.now) (g.S.Shelf.seen c.args.shelf.now) c.in-Gen.seed c.in-Gen.size c.summary_of_ring.ensures.status c.summary_of_ring.ensures.summary)
+    rw c.in-Gen.is (with_status_0 c.summary_of_ring.result (IsSummary c.in-Gen.seed c.in-Gen.size) c.summary_of_ring.ensures.status c.summary_of_ring.ensures.summary)
 
 pub returns-in-Protect-clause-answered : goal.returns-in-Protect-clause-answered
-returns-in-Protect-clause-answered g c = rw c.in-Protect.is c.protect.ensures.answered
+returns-in-Protect-clause-answered g c =
+    rw c.in-Protect.is (with_status_0 c.protect.result (IsProtected (g.S.Shelf.seen c.args.shelf.now) c.in-Protect.plan.now) c.protect.ensures.status c.protect.ensures.protected)
 
 pub returns-in-Protect-clause-refused : goal.returns-in-Protect-clause-refused
 returns-in-Protect-clause-refused g c = rw c.in-Protect.is c.protect.ensures.refused
@@ -31,7 +40,7 @@ returns-in-Packets-clause-refused g c = rw c.in-Packets.is c.packets.ensures.ref
 
 pub returns-in-Stack-clause-answered : goal.returns-in-Stack-clause-answered
 returns-in-Stack-clause-answered g c =
-    rw c.in-Stack.is (stack_answered c.stack.result (g.S.Shelf.seen c.args.shelf.now) (g.S.Shelf.seen c.args.shelf.now) c.in-Stack.hex.now c.stack.ensures.status c.stack.ensures.shown)
+    rw c.in-Stack.is (with_status_0 c.stack.result (IsShownHex c.in-Stack.hex.now) c.stack.ensures.status c.stack.ensures.shown)
 
 pub returns-in-Exact-clause-answered : goal.returns-in-Exact-clause-answered
 returns-in-Exact-clause-answered g c = rw c.in-Exact.is c.exact.ensures.answered

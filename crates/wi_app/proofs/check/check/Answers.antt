@@ -1,4 +1,5 @@
-use Rattle.wi_app.proofs.Outcomes.{check_answered, check_refused, same_shelf}
+use Rattle.wi_files.proofs.ShelfLemmas.{same_shelf}
+use Rattle.wi_app.proofs.Outcomes.{check_answered, check_refused}
 use Rattle.wi_app.proofs.check.check.Goals as goal
 
 pub returns-clause-answered : goal.returns-clause-answered

@@ -1,9 +1,16 @@
 use Rattle.wi_build.specs.Problems.{problem_of}
-use Rattle.wi_app.proofs.Outcomes.{err_as, file_believed, file_not_believed}
+use Rattle.wi_cert.specs.Sheets.{certificates}
+use Rattle.wi_cert.specs.Text.{IsBadLine}
+use Rattle.wi_app.specs.Certificates.{IsRefusedFile}
+use Rattle.wi_files.proofs.Causes.{err_as}
+use Rattle.wi_app.proofs.Outcomes.{file_believed, file_not_believed, lines_refused}
 use Rattle.wi_app.proofs.check.check_for.Goals as goal
 
 pub returns-in_err-certificate-clause-refused : goal.returns-in_err-certificate-clause-refused
-returns-in_err-certificate-clause-refused g c = err_as _ _ _ c.from_residual.ensures.1 (c.in_err-certificate.ensures.refused (problem_of c.args.net.now c.args.query.now c.args.vector.now))
+returns-in_err-certificate-clause-refused g c =
+    let problem = problem_of c.args.net.now c.args.query.now c.args.vector.now in
+    let old = g.S.Shelf.seen c.args.shelf.now in
+    err_as _ _ _ c.from_residual.ensures.1 (lines_refused (IsBadLine certificates) (IsRefusedFile old problem c.args.file.now) old (g.S.Shelf.seen c.fetch_certificate.new.shelf) problem c.args.file.now _ c.in_err-certificate.ensures.refused)
 
 pub returns-clause-believed : goal.returns-clause-believed
 returns-clause-believed g c =

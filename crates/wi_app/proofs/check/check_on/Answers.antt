@@ -1,5 +1,6 @@
 use Rattle.std.proofs.Common.{inl, refl}
-use Rattle.wi_app.proofs.Outcomes.{believed_accepted, certificate_refused, err_as}
+use Rattle.wi_files.proofs.Causes.{err_as}
+use Rattle.wi_app.proofs.Outcomes.{believed_accepted, certificate_refused}
 use Rattle.wi_app.proofs.check.check_on.Goals as goal
 
 pub returns-in_err-asked-clause-refused : goal.returns-in_err-asked-clause-refused

@@ -1,5 +1,6 @@
 use Rattle.std.proofs.Common.{◌∙◌}
-use Rattle.wi_app.proofs.Outcomes.{err_as, ring_is_read, ring_refused, ring_summed}
+use Rattle.wi_files.proofs.Causes.{err_as}
+use Rattle.wi_app.proofs.Outcomes.{ring_is_read, ring_refused, ring_summed}
 use Rattle.wi_app.proofs.ring.summary_of_generated.Goals as goal
 
 pub returns-in_err-asked-clause-refused : goal.returns-in_err-asked-clause-refused

@@ -1,6 +1,6 @@
 use Rattle.std.proofs.Common.{inl, refl}
 use Rattle.wi_build.specs.Problems.{problem_of}
-use Rattle.wi_app.proofs.Outcomes.{err_as}
+use Rattle.wi_files.proofs.Causes.{err_as}
 use Rattle.wi_app.proofs.Tolerating.{first_writable, second_writable, told_with, trees_refused}
 use Rattle.wi_app.proofs.tolerate.tolerate_for.Goals as goal
 

@@ -1,4 +1,4 @@
-use Rattle.wi_app.proofs.Outcomes.{err_as}
+use Rattle.wi_files.proofs.Causes.{err_as}
 use Rattle.wi_app.proofs.verify.stored.Goals as goal
 
 pub returns-in_err-store_certificate-clause-refused : goal.returns-in_err-store_certificate-clause-refused

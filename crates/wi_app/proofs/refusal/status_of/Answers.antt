@@ -1,5 +1,0 @@
-use Rattle.std.proofs.Common.{rules}
-use Rattle.wi_app.proofs.refusal.status_of.Goals as goal
-
-pub returns-in-Query : goal.returns-in-Query
-returns-in-Query c = search rules

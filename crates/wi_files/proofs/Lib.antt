@@ -1,0 +1,5 @@
+pub mod Causes
+pub mod ShelfLemmas
+mod Parts
+mod Playing
+mod HexLemmas

@@ -1,0 +1,85 @@
+-- Certificates and trees, as they are stored and as they are read.
+use Rattle.std.specs.Prelude.{◌≡◌, ◌⊎◌, ℕ, ◌<◌, ◌≤◌, true, List, [], ◌∷◌, ◌++◌, length, Option, Some, None, option_map}
+use Rattle.wi_base.specs.declared.shelf.CallKind.TheVariants.{Store}
+use Rattle.wi_base.specs.Shelf.{ShelfSeen, IsLonger}
+use Rattle.wi_cert.specs.declared.certificate.Certificate.{Certificate}
+use Rattle.wi_cert.specs.declared.tree.TreeCertificate.{TreeCertificate}
+use Rattle.wi_cert.specs.Text.{IsText, closed_text}
+use Rattle.wi_cert.specs.Trees.{IsTreeText, tree_text}
+use Rattle.wi_files.specs.Shelves.{FetchFailed, IsCalm, StoreFailed, below_name}
+use Rattle.wi_outcome.specs.declared.refusal.Refusal.{Refusal}
+use Rattle.wi_outcome.specs.declared.refusal.Refusal.TheVariants.{CannotRead, CannotWrite, CannotWriteBelow, NoMemoryBelow, LargeCertificate, BadLine, NotWritten, TreeNotWritten, Memory}
+
+-- ---- stored
+-- there is a name to store under
+abbrev pub IsNamed : Option (List ℕ) → Type 0
+IsNamed file = (name : List ℕ) × (file ≡ Some name)
+
+-- the certificate isn't too long to be written, and its text stands under the name, if there is one
+abbrev pub IsKept : Option (List ℕ) → ShelfSeen → Certificate → Type 0
+IsKept None shelf c = Unit {0}
+IsKept (Some name) shelf c = (bytes : List ℕ) × IsText c bytes × (length (closed_text c) ≤ 268000000) × (shelf.told ≡ true → shelf.file name ≡ Some bytes)
+
+-- it is too long, or the call that was to store it failed
+abbrev pub IsNotKept : ShelfSeen → ShelfSeen → Option (List ℕ) → Certificate → Refusal → Type 0
+IsNotKept old new file c NotWritten = IsCalm old new × IsNamed file × (268000000 < length (closed_text c))
+IsNotKept old new file c (CannotWrite named) = StoreFailed file named.now old new
+IsNotKept old new file c Memory = IsCalm old new
+IsNotKept old new file c refusal = ⊥
+
+-- ---- a tree stored
+-- the tree's text stands under the name, if there is one
+abbrev pub IsTreeStored : Option (List ℕ) → ShelfSeen → TreeCertificate → Type 0
+IsTreeStored None shelf tree = Unit {0}
+IsTreeStored (Some name) shelf tree = (bytes : List ℕ) × IsTreeText tree bytes × (length bytes ≤ 268435456) × (shelf.told ≡ true → shelf.file name ≡ Some bytes)
+
+-- a tree is too large to be written
+abbrev pub IsLarge : TreeCertificate → Type 0
+IsLarge tree = 268435456 < length (tree_text tree)
+
+-- the tree is too large, or the call that was to store it failed
+abbrev pub IsTreeNotKept : ShelfSeen → ShelfSeen → Option (List ℕ) → TreeCertificate → Refusal → Type 0
+IsTreeNotKept old new file t TreeNotWritten = IsCalm old new × IsNamed file × IsLarge t
+IsTreeNotKept old new file t (CannotWrite named) = StoreFailed file named.now old new
+IsTreeNotKept old new file t Memory = IsCalm old new
+IsTreeNotKept old new file t refusal = ⊥
+
+-- ---- two trees stored
+-- the text of the second tree, if there is one, stands under the second name, if there are names
+abbrev pub IsSecondStored : Option (List ℕ) → ShelfSeen → Option TreeCertificate → Type 0
+IsSecondStored file shelf None = Unit {0}
+IsSecondStored file shelf (Some tree) = IsTreeStored (option_map below_name file) shelf tree
+
+-- both texts stand
+abbrev pub AreTreesStored : Option (List ℕ) → ShelfSeen → TreeCertificate → Option TreeCertificate → Type 0
+AreTreesStored file shelf first second = IsTreeStored file shelf first × IsSecondStored file shelf second
+
+-- one of the trees is too large to be written
+abbrev pub IsOneLarge : TreeCertificate → Option TreeCertificate → Type 0
+IsOneLarge first None = IsLarge first
+IsOneLarge first (Some second) = IsLarge first ⊎ IsLarge second
+
+-- the trees are to be stored under the name, if there is one, and can't be: neither is where one is too large, and where the second
+-- can't be, the first is
+abbrev pub AreUnstored : ShelfSeen → ShelfSeen → Option (List ℕ) → TreeCertificate → Option TreeCertificate → Refusal → Type 0
+AreUnstored old new file first second TreeNotWritten = IsCalm old new × IsNamed file × IsOneLarge first second
+AreUnstored old new file first second (CannotWrite named) = StoreFailed file named.now old new
+AreUnstored old new file first second (CannotWriteBelow named) =
+    (file ≡ Some named.now) × IsTreeStored file new first × (new.failed ≡ old.failed ++ (Store, below_name named.now) ∷ [])
+AreUnstored old new file first second (NoMemoryBelow named) = (file ≡ Some named.now) × IsTreeStored file new first × IsCalm old new
+AreUnstored old new file first second Memory = IsCalm old new
+AreUnstored old new file first second refusal = ⊥
+
+-- ---- read
+-- bytes are the file's, if the shelf tells it, and they aren't too many
+pub record IsCertificateFile (shelf : ShelfSeen) (name bytes : List ℕ) : Type 0 where
+  pub held : shelf.told ≡ true → shelf.file name ≡ Some bytes
+  pub short : length bytes ≤ 268435456
+
+-- a file is the cause: it can't be read, is too large, or has a bad line
+abbrev pub FromLines : (List ℕ → ℕ → Type 0) → ShelfSeen → ShelfSeen → List ℕ → Refusal → Type 0
+FromLines IsBad old new name (CannotRead named) = FetchFailed named.now name old new
+FromLines IsBad old new name LargeCertificate = IsCalm old new × (old.told ≡ true → IsLonger (old.file name) 268435456)
+FromLines IsBad old new name (BadLine n) = IsCalm old new × ((bytes : List ℕ) × IsCertificateFile old name bytes × IsBad bytes n)
+FromLines IsBad old new name Memory = IsCalm old new
+FromLines IsBad old new name refusal = ⊥

@@ -1,0 +1,81 @@
+-- The causes and the outcomes of the steps within a reading or a storing.
+use Rattle.std.specs.Prelude.{◌≡◌, ℕ, ◌<◌, ◌≤◌, true, List, [], ◌∷◌, ◌++◌, length, codes, Some, Ok}
+use Rattle.wi_base.specs.declared.shelf.CallKind.TheVariants.{Store}
+use Rattle.wi_base.specs.Shelf.{ShelfSeen, IsLonger}
+use Rattle.wi_net.specs.Net.{Net}
+use Rattle.wi_netjson.specs.File.{network_of}
+use Rattle.wi_netjson.specs.Reading.{Fails}
+use Rattle.wi_netjson.specs.Written.{text_of}
+use Rattle.wi_cert.specs.declared.tree.TreeCertificate.{TreeCertificate}
+use Rattle.wi_cert.specs.Trees.{IsTreeText}
+use Rattle.wi_files.specs.Certificates.{IsLarge}
+use Rattle.wi_files.specs.OnWire.{IsRefusedStack}
+use Rattle.wi_files.specs.Protection.{FromPlan}
+use Rattle.wi_files.specs.Scripts.{IsBadScript}
+use Rattle.wi_files.specs.Shelves.{FetchFailed, IsCalm, StoreFailed, below_name}
+use Rattle.wi_outcome.specs.declared.refusal.Refusal.{Refusal}
+use Rattle.wi_outcome.specs.declared.refusal.Refusal.TheVariants.{CannotRead, CannotWrite, CannotWriteBelow, NoMemoryBelow, Network, LargeNetwork, Script as BadScript, LargeCertificate, TreeNotWritten, BadStack, Memory}
+
+-- ---- play
+-- the bytes of the script are the cause
+abbrev pub FromBytes : Net → ℕ → List ℕ → Refusal → Type 0
+FromBytes net k bytes (BadScript refused) = IsBadScript net k bytes refused
+FromBytes net k bytes Memory = Unit {0}
+FromBytes net k bytes refusal = ⊥
+
+-- ---- protect
+-- bytes are no network's, or their plan is the cause
+abbrev pub FromPlanFile : List ℕ → Refusal → Type 0
+FromPlanFile bytes (Network fault) = Fails fault (network_of bytes)
+FromPlanFile bytes refusal = FromPlan bytes refusal
+
+-- the text of a network as a file, and a line feed, with which it is the network's still
+pub record IsWritten (net : Net) (text : List ℕ) : Type 0 where
+  pub short : length (text_of net) ≤ 67108864
+  pub text_is : text ≡ text_of net ++ codes "\n"
+  pub again : length text ≤ 67108864 → network_of text ≡ Ok net
+
+-- it is too long
+abbrev pub FromWriting : Net → Refusal → Type 0
+FromWriting net LargeNetwork = 67108864 < length (text_of net)
+FromWriting net Memory = Unit {0}
+FromWriting net refusal = ⊥
+
+-- ---- stack
+-- bytes are the cause, which begin with no stack
+abbrev pub FromStack : List ℕ → Refusal → Type 0
+FromStack bytes (BadStack refused) = IsRefusedStack bytes refused
+FromStack bytes Memory = Unit {0}
+FromStack bytes refusal = ⊥
+
+-- ---- storing
+-- the call that was to store under a name failed, or found no memory
+abbrev pub IsUnstored : ShelfSeen → ShelfSeen → List ℕ → Refusal → Type 0
+IsUnstored old new name (CannotWrite named) = StoreFailed (Some name) named.now old new
+IsUnstored old new name Memory = IsCalm old new
+IsUnstored old new name refusal = ⊥
+
+-- the same of two names, of which the first then has these bytes where the second fails
+abbrev pub AreUnstoredBytes : ShelfSeen → ShelfSeen → List ℕ → List ℕ → Refusal → Type 0
+AreUnstoredBytes old new name bytes (CannotWriteBelow named) =
+    (named.now ≡ name) × (new.told ≡ true → new.file name ≡ Some bytes) × (new.failed ≡ old.failed ++ (Store, below_name name) ∷ [])
+AreUnstoredBytes old new name bytes (NoMemoryBelow named) = (named.now ≡ name) × (new.told ≡ true → new.file name ≡ Some bytes) × IsCalm old new
+AreUnstoredBytes old new name bytes refusal = IsUnstored old new name refusal
+
+-- bytes are the text of a tree that isn't too large to be written
+abbrev pub IsTreeToStore : TreeCertificate → List ℕ → Type 0
+IsTreeToStore t bytes = IsTreeText t bytes × (length bytes ≤ 268435456)
+
+-- it is too large
+abbrev pub IsNotMade : TreeCertificate → Refusal → Type 0
+IsNotMade t TreeNotWritten = IsLarge t
+IsNotMade t Memory = Unit {0}
+IsNotMade t refusal = ⊥
+
+-- ---- reading in parts
+-- a part couldn't be fetched, or there are too many bytes
+abbrev pub FromParts : ShelfSeen → ShelfSeen → List ℕ → Refusal → Type 0
+FromParts old new name (CannotRead named) = FetchFailed named.now name old new
+FromParts old new name LargeCertificate = IsCalm old new × (old.told ≡ true → IsLonger (old.file name) 268435456)
+FromParts old new name Memory = IsCalm old new
+FromParts old new name refusal = ⊥

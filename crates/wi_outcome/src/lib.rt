@@ -1,0 +1,8 @@
+//! How a command ends: what is printed, or why nothing is, with the exit status and with what is said.
+#![tactic(auto)]
+
+mod printed;
+mod refusal;
+
+pub use printed::{Printed, print};
+pub use refusal::{NODE_LIMIT, Refusal, say, status_of};

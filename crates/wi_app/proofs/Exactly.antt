@@ -23,21 +23,21 @@ use Rattle.wi_accept.specs.Trees.{IsDecidedExactly}
 use Rattle.wi_branch.specs.declared.refused.ExactRefused.TheVariants as none
 use Rattle.wi_report.specs.Reports.{IsKnownRun, accepted_text, exact_report_of}
 use Rattle.wi_words.specs.Commands.{CheckExact}
-use Rattle.wi_files.specs.Asked.{IsAsked}
-use Rattle.wi_files.specs.Certificates.{IsCertificateFile, IsTreeStored, IsTreeNotKept}
-use Rattle.wi_app.specs.Decided.{status_for}
-use Rattle.wi_app.specs.Exact.{EndsUnsplit, FromSplitting, FromTree, FromTreeStore, IsTreeTooLarge, IsAcceptedTree, IsReportedExactly, IsShownExactly}
-use Rattle.wi_app.specs.Run.{FromCommand, IsAnswered, MayEndExactly}
-use Rattle.wi_files.specs.Networks.{HoldsNetwork}
-use Rattle.wi_files.specs.Shelves.{IsCalm}
+use Rattle.std.proofs.lemmas.Bool.{and_parts}
+use Rattle.wi_world.specs.Moves.{follows, is_start, is_usable}
 use Rattle.wi_outcome.specs.Texts.{status_of}
 use Rattle.wi_outcome.specs.declared.printed.Printed.{Printed}
 use Rattle.wi_outcome.specs.declared.refusal.Refusal.{Refusal}
-use Rattle.wi_outcome.specs.declared.refusal.Refusal.TheVariants.{CannotWrite, ManyNodes, NotAccepted, Overflow, TooLong, TreeNotWritten, Memory}
+use Rattle.wi_outcome.specs.declared.refusal.Refusal.TheVariants.{CannotWrite, ManyNodes, Memory, NotAccepted, Overflow, TooLong, TreeNotWritten}
+use Rattle.wi_files.specs.Asked.{IsAsked}
+use Rattle.wi_files.specs.Certificates.{IsCertificateFile, IsTreeNotKept, IsTreeStored}
+use Rattle.wi_files.specs.Networks.{HoldsNetwork}
+use Rattle.wi_files.specs.Shelves.{IsCalm}
+use Rattle.wi_app.specs.Decided.{status_for}
+use Rattle.wi_app.specs.Exact.{EndsUnsplit, FromSplitting, FromTree, FromTreeStore, IsAcceptedTree, IsReportedExactly, IsShownExactly, IsTreeTooLarge}
+use Rattle.wi_app.specs.Run.{FromCommand, IsAnswered, MayEndExactly}
 use Rattle.wi_app.specs.private.Stages.{FromCheckingExactly, FromDeciding, IsTreeBelieved, IsTreeNotBelieved}
 use Rattle.wi_app.proofs.Answers.{start_known}
-use Rattle.std.proofs.lemmas.Bool.{and_parts}
-use Rattle.wi_world.specs.Moves.{follows, is_start, is_usable}
 
 -- ---- what an exact answer is like
 

@@ -48,32 +48,32 @@ use Rattle.wi_gen.specs.Texts.{query_text, weights_text}
 use Rattle.wi_report.specs.Reports.{accepted_text}
 use Rattle.wi_report.specs.Summaries.{summary_of}
 use Rattle.wi_words.specs.Commands.{Command, Verify, Check, Play, Gen, Exact, CheckExact, Tolerate, Protect, Packets, Stack, command_of}
-use Rattle.wi_outcome.specs.Texts.{text_of, status_of}
-use Rattle.wi_outcome.specs.Edges.{Says, SaysWhy, kept, Prints}
-use Rattle.wi_files.specs.Shelves.{AllStand, IsCalm, OthersStand}
-use Rattle.wi_files.specs.Asked.{AreBadTexts, IsAsked, IsBadQuery, IsBadWeights, WeighsBy}
-use Rattle.wi_app.specs.Asked.{ForAsked, FromAsked}
-use Rattle.wi_app.specs.Certificates.{FromFile, FromCertificate, FromStore, IsAcceptedText, IsCertificate, IsStored}
-use Rattle.wi_files.specs.Certificates.{FromLines, IsCertificateFile, IsKept, IsNotKept}
-use Rattle.wi_app.specs.Decided.{FromDecision, IsReported, packets_in, report_in, status_for}
-use Rattle.wi_app.specs.Exact.{FromSplitting, FromTree, FromTreeStore, IsAcceptedTree}
-use Rattle.wi_app.specs.Tolerance.{FromTolerating, FromTreesStore}
-use Rattle.wi_app.specs.Generated.{FromRing, IsSummary, IsSummed}
-use Rattle.wi_files.specs.OnWire.{FromHex, IsHex, IsRefusedStack, ShowsNoStack}
 use Rattle.wi_wire.specs.declared.refused.StackRefused.{StackRefused}
 use Rattle.wi_wire.specs.declared.refused.StackRefused.TheVariants.{Cut, Reserved, Memory as StackMemory}
-use Rattle.wi_app.specs.Run.{AreAnswered, IsAnswered, IsStatus, ForTexts, FromAsking, FromCommand, FromWords, CanBeAnswered, Completes}
-use Rattle.wi_files.specs.Networks.{HoldsNetwork, FileHasFault, FromNetwork}
-use Rattle.wi_files.specs.Scripts.{IsPlay, IsBadScript, FromScript}
-use Rattle.wi_app.specs.private.Stages.{FromAnswering, FromChecking, FromDeciding, IsBelieved, IsNotBelieved}
+use Rattle.wi_outcome.specs.Edges.{Prints, Says, SaysWhy, kept}
+use Rattle.wi_outcome.specs.Texts.{status_of, text_of}
 use Rattle.wi_outcome.specs.declared.printed.Printed.{Printed}
 use Rattle.wi_outcome.specs.declared.refusal.Refusal.{Refusal}
-use Rattle.wi_outcome.specs.declared.refusal.Refusal.TheVariants.{CannotRead, CannotWrite, Network, Query as BadQuery, Weights as BadWeights, Overflow, TooLong, Script, LongScript, LargeCertificate, BadLine as BadCertificateLine, NotAccepted, NotWritten, TreeNotWritten, NotHex, BadStack, Memory}
-use Rattle.wi_app.proofs.Answers.{answer_ends}
+use Rattle.wi_outcome.specs.declared.refusal.Refusal.TheVariants.{BadLine as BadCertificateLine, BadStack, CannotRead, CannotWrite, LargeCertificate, LongScript, Memory, Network, NotAccepted, NotHex, NotWritten, Overflow, Query as BadQuery, Script, TooLong, TreeNotWritten, Weights as BadWeights}
+use Rattle.wi_files.specs.Asked.{AreBadTexts, IsAsked, IsBadQuery, IsBadWeights, WeighsBy}
+use Rattle.wi_files.specs.Certificates.{FromLines, IsCertificateFile, IsKept, IsNotKept}
+use Rattle.wi_files.specs.Networks.{FileHasFault, FromNetwork, HoldsNetwork}
+use Rattle.wi_files.specs.OnWire.{FromHex, IsHex, IsRefusedStack, ShowsNoStack}
+use Rattle.wi_files.specs.Scripts.{FromScript, IsBadScript, IsPlay}
+use Rattle.wi_files.specs.Shelves.{AllStand, IsCalm, OthersStand}
 use Rattle.wi_files.proofs.Causes.{longer}
+use Rattle.wi_app.specs.Asked.{ForAsked, FromAsked}
+use Rattle.wi_app.specs.Certificates.{FromCertificate, FromFile, FromStore, IsAcceptedText, IsCertificate, IsStored}
+use Rattle.wi_app.specs.Decided.{FromDecision, IsReported, packets_in, report_in, status_for}
+use Rattle.wi_app.specs.Exact.{FromSplitting, FromTree, FromTreeStore, IsAcceptedTree}
+use Rattle.wi_app.specs.Generated.{FromRing, IsSummary, IsSummed}
+use Rattle.wi_app.specs.Run.{AreAnswered, CanBeAnswered, CanBeAsked, Completes, ForTexts, FromAsking, FromCommand, FromWords, IsAnswered, IsStatus}
+use Rattle.wi_app.specs.Tolerance.{FromTolerating, FromTreesStore}
+use Rattle.wi_app.specs.private.Stages.{FromAnswering, FromChecking, FromDeciding, IsBelieved, IsNotBelieved}
+use Rattle.wi_app.proofs.Answers.{answer_ends}
 use Rattle.wi_app.proofs.Exactly.{exact_answer_ends, unsplit_due}
-use Rattle.wi_app.proofs.Tolerating.{tolerance_ends, trees_due, untold_due}
 use Rattle.wi_app.proofs.Protecting.{plan_due}
+use Rattle.wi_app.proofs.Tolerating.{tolerance_ends, trees_due, untold_due}
 
 -- ---- what is printed with the status 0
 
@@ -553,17 +553,28 @@ stack_ends held hex (BadStack refused) cause = let due = bad_stack_ends hex caus
 stack_ends held hex Memory cause = (refl, inl refl)
 stack_ends held hex refusal cause = elim cause [ ]
 
-refused_ends : (old new : ShelfSeen) (command : Command) (refusal : Refusal) → old.told ≡ true → CanBeAnswered old command → IsCalm old new → FromCommand old new command refusal → Ends old command refusal
-refused_ends old new (Verify name text given file) refusal t can calm (inl network) = wanting old (Verify name text given file) refusal (network_wants old new name refusal can.0 t can.1 calm network)
-refused_ends old new (Verify name text given file) refusal t can calm (inr (inl cause)) =
+-- texts that can ask something of a network end with want of memory, or as what both ask ends, or as its store does
+asking_ends : (Undecided : Problem → Refusal → Type 0) (Unstored : ShelfSeen → ShelfSeen → Problem → Refusal → Type 0) (old new : ShelfSeen) (command : Command) (name text : List ℕ) (given : Option (List ℕ)) (refusal : Refusal) → old.told ≡ true
+    → CanBeAsked old name text given → IsCalm old new
+    → ((net : Net) (query : Query) (vector : List (List Part)) → HoldsNetwork (old.file name) net → IsAsked net text given query vector → Undecided (problem_of net query vector) refusal → Ends old command refusal)
+    → ((net : Net) (query : Query) (vector : List (List Part)) → HoldsNetwork (old.file name) net → IsAsked net text given query vector → Unstored old new (problem_of net query vector) refusal → Ends old command refusal)
+    → FromAsking Undecided Unstored old new name text given refusal → Ends old command refusal
+asking_ends Undecided Unstored old new command name text given refusal t can calm undecided unstored (inl network) = wanting old command refusal (network_wants old new name refusal can.0 t can.1 calm network)
+asking_ends Undecided Unstored old new command name text given refusal t can calm undecided unstored (inr (inl cause)) =
     let same : cause.0 ≡ can.0 = one_network (old.file name) cause.0 can.0 (cause.1 t) can.1 in
-    elim (subst (λ net. FromAsked FromDecision net text given refusal) same cause.2) [
-      | inl bad ↦ wanting old (Verify name text given file) refusal (texts_want can.0 text given can.2.0 can.2.1 refusal can.2.2 bad)
-      | inr undecided ↦ decision_ends old name text given file can.0 undecided.0 undecided.1 refusal can.1 undecided.2 undecided.3
+    elim (subst (λ net. FromAsked Undecided net text given refusal) same cause.2) [
+      | inl bad ↦ wanting old command refusal (texts_want can.0 text given can.2.0 can.2.1 refusal can.2.2 bad)
+      | inr asked ↦ undecided can.0 asked.0 asked.1 can.1 asked.2 asked.3
     ]
-refused_ends old new (Verify name text given file) refusal t can calm (inr (inr cause)) =
+asking_ends Undecided Unstored old new command name text given refusal t can calm undecided unstored (inr (inr cause)) =
     let asked = cause.2 in
-    store_ends old new name text given file cause.0 asked.0 asked.1 refusal (cause.1 t) asked.2 calm asked.3
+    unstored cause.0 asked.0 asked.1 (cause.1 t) asked.2 asked.3
+
+refused_ends : (old new : ShelfSeen) (command : Command) (refusal : Refusal) → old.told ≡ true → CanBeAnswered old command → IsCalm old new → FromCommand old new command refusal → Ends old command refusal
+refused_ends old new (Verify name text given file) refusal t can calm cause =
+    asking_ends FromDecision (FromStore file) old new (Verify name text given file) name text given refusal t can calm
+    (λ net query vector holds asked undecided. decision_ends old name text given file net query vector refusal holds asked undecided)
+    (λ net query vector holds asked store. store_ends old new name text given file net query vector refusal holds asked calm store) cause
 refused_ends old new (Check name text file given) refusal t can calm (inl network) = wanting old (Check name text file given) refusal (network_wants old new name refusal can.0 t can.1 calm network)
 refused_ends old new (Check name text file given) refusal t can calm (inr (inl cause)) =
     let same : cause.0 ≡ can.0 = one_network (old.file name) cause.0 can.0 (cause.1 t) can.1 in
@@ -579,16 +590,10 @@ refused_ends old new (Play name script k) refusal t can calm (inr cause) =
     wanting old (Play name script k) refusal
     (script_wants old new can.0 script k can.2.0 can.2.1 refusal t can.2.2 can.2.3 calm (subst (λ net. FromScript old new net script k refusal) same cause.2))
 refused_ends old new (Gen seed size) refusal t can calm cause = ring_ends old seed size refusal cause.1
-refused_ends old new (Exact name text given file) refusal t can calm (inl network) = wanting old (Exact name text given file) refusal (network_wants old new name refusal can.0 t can.1 calm network)
-refused_ends old new (Exact name text given file) refusal t can calm (inr (inl cause)) =
-    let same : cause.0 ≡ can.0 = one_network (old.file name) cause.0 can.0 (cause.1 t) can.1 in
-    elim (subst (λ net. FromAsked FromSplitting net text given refusal) same cause.2) [
-      | inl bad ↦ wanting old (Exact name text given file) refusal (texts_want can.0 text given can.2.0 can.2.1 refusal can.2.2 bad)
-      | inr unsplit ↦ unsplit_ends old name text given file can.0 unsplit.0 unsplit.1 refusal can.1 unsplit.2 unsplit.3
-    ]
-refused_ends old new (Exact name text given file) refusal t can calm (inr (inr cause)) =
-    let asked = cause.2 in
-    tree_store_ends old new name text given file cause.0 asked.0 asked.1 refusal (cause.1 t) asked.2 calm asked.3
+refused_ends old new (Exact name text given file) refusal t can calm cause =
+    asking_ends FromSplitting (FromTreeStore file) old new (Exact name text given file) name text given refusal t can calm
+    (λ net query vector holds asked unsplit. unsplit_ends old name text given file net query vector refusal holds asked unsplit)
+    (λ net query vector holds asked store. tree_store_ends old new name text given file net query vector refusal holds asked calm store) cause
 refused_ends old new (CheckExact name text file given) refusal t can calm (inl network) = wanting old (CheckExact name text file given) refusal (network_wants old new name refusal can.0 t can.1 calm network)
 refused_ends old new (CheckExact name text file given) refusal t can calm (inr (inl cause)) =
     let same : cause.0 ≡ can.0 = one_network (old.file name) cause.0 can.0 (cause.1 t) can.1 in
@@ -598,17 +603,10 @@ refused_ends old new (CheckExact name text file given) refusal t can calm (inr (
     let same : cause.0 ≡ can.0 = one_network (old.file name) cause.0 can.0 (cause.1 t) can.1 in
     let asked = subst (λ net. ForAsked net text given (λ problem. FromTree old new problem file refusal)) same cause.2 in
     wanting old (CheckExact name text file given) refusal (tree_wants old new can.0 text file given asked.0 asked.1 can.2.0 can.2.1 refusal t calm can.2.2 can.2.3 asked.2 asked.3)
-refused_ends old new (Tolerate name text most given file) refusal t can calm (inl network) =
-    wanting old (Tolerate name text most given file) refusal (network_wants old new name refusal can.0 t can.1 calm network)
-refused_ends old new (Tolerate name text most given file) refusal t can calm (inr (inl cause)) =
-    let same : cause.0 ≡ can.0 = one_network (old.file name) cause.0 can.0 (cause.1 t) can.1 in
-    elim (subst (λ net. FromAsked (FromTolerating most) net text given refusal) same cause.2) [
-      | inl bad ↦ wanting old (Tolerate name text most given file) refusal (texts_want can.0 text given can.2.0 can.2.1 refusal can.2.2 bad)
-      | inr untold ↦ untold_ends old name text most given file can.0 untold.0 untold.1 refusal can.1 untold.2 untold.3
-    ]
-refused_ends old new (Tolerate name text most given file) refusal t can calm (inr (inr cause)) =
-    let asked = cause.2 in
-    trees_store_ends old new name text most given file cause.0 asked.0 asked.1 refusal (cause.1 t) asked.2 calm asked.3
+refused_ends old new (Tolerate name text most given file) refusal t can calm cause =
+    asking_ends (FromTolerating most) (FromTreesStore most file) old new (Tolerate name text most given file) name text given refusal t can calm
+    (λ net query vector holds asked untold. untold_ends old name text most given file net query vector refusal holds asked untold)
+    (λ net query vector holds asked store. trees_store_ends old new name text most given file net query vector refusal holds asked calm store) cause
 refused_ends old new (Protect name) refusal t can calm (inl network) = wanting old (Protect name) refusal (network_wants old new name refusal can.0 t can.1 calm network)
 refused_ends old new (Protect name) refusal t can calm (inr cause) = elim (plan_due cause.0 refusal cause.2) [
   | inl want ↦ wanting old (Protect name) refusal want

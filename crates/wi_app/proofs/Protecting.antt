@@ -5,9 +5,9 @@ use Rattle.wi_planjson.specs.declared.refused.PlanRefused.TheVariants as plan
 use Rattle.wi_protect.specs.declared.refused.ProtectRefused.{ProtectRefused}
 use Rattle.wi_protect.specs.declared.refused.ProtectRefused.TheVariants as protect
 use Rattle.wi_outcome.specs.Texts.{status_of}
-use Rattle.wi_files.specs.Protection.{FromPlan, HasNoProtection}
 use Rattle.wi_outcome.specs.declared.refusal.Refusal.{Refusal}
-use Rattle.wi_outcome.specs.declared.refusal.Refusal.TheVariants.{Plan as BadPlan, Unprotected, LargeNetwork, Memory}
+use Rattle.wi_outcome.specs.declared.refusal.Refusal.TheVariants.{LargeNetwork, Memory, Plan as BadPlan, Unprotected}
+use Rattle.wi_files.specs.Protection.{FromPlan, HasNoProtection}
 
 -- the status of a plan's refusal
 plan_status : (refused : PlanRefused) → (refused ≡ plan.Memory → ⊥) → status_of (BadPlan refused) ≡ 15

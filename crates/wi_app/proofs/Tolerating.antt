@@ -9,16 +9,16 @@ use Rattle.wi_cert.specs.declared.tree.TreeCertificate.{TreeCertificate}
 use Rattle.wi_cert.specs.Trees.{IsTreeWritable}
 use Rattle.wi_branch.specs.declared.tolerance.Tolerance.{Tolerance}
 use Rattle.wi_branch.specs.declared.tolerance.Tolerance.TheVariants.{At, NoneUpTo}
-use Rattle.wi_files.specs.Certificates.{IsNamed, AreTreesStored, AreUnstored, IsOneLarge}
-use Rattle.wi_app.specs.Run.{MayEndExactly}
-use Rattle.wi_files.specs.Shelves.{IsCalm, below_name}
 use Rattle.wi_outcome.specs.Texts.{status_of}
-use Rattle.wi_app.specs.Tolerance.{AreTreesTooLarge, EndsUntold, FromTolerating, FromTreesStore, IsTold, IsToldWith, allowing, first_tree, second_tree, tolerance_status, tolerance_text}
 use Rattle.wi_outcome.specs.declared.printed.Printed.{Printed}
 use Rattle.wi_outcome.specs.declared.refusal.Refusal.{Refusal}
-use Rattle.wi_outcome.specs.declared.refusal.Refusal.TheVariants.{CannotWrite, CannotWriteBelow, NoMemoryBelow, TreeNotWritten, Memory}
-use Rattle.wi_app.specs.private.Stages.{FromDeciding}
+use Rattle.wi_outcome.specs.declared.refusal.Refusal.TheVariants.{CannotWrite, CannotWriteBelow, Memory, NoMemoryBelow, TreeNotWritten}
+use Rattle.wi_files.specs.Certificates.{AreTreesStored, AreUnstored, IsNamed, IsOneLarge}
+use Rattle.wi_files.specs.Shelves.{IsCalm, below_name}
 use Rattle.wi_files.proofs.Causes.{longer}
+use Rattle.wi_app.specs.Run.{MayEndExactly}
+use Rattle.wi_app.specs.Tolerance.{AreTreesTooLarge, EndsUntold, FromTolerating, FromTreesStore, IsTold, IsToldWith, allowing, first_tree, second_tree, tolerance_status, tolerance_text}
+use Rattle.wi_app.specs.private.Stages.{FromDeciding}
 use Rattle.wi_app.proofs.Exactly.{unsplit_due}
 
 -- ---- what is told

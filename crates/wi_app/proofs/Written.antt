@@ -38,24 +38,24 @@ use Rattle.wi_accept.proofs.AcceptedLemmas.{answer_holds}
 use Rattle.wi_decide.specs.Refusals.{IsUnrefused}
 use Rattle.wi_words.specs.Commands.{Command, Verify, Check, Exact, CheckExact, command_of}
 use Rattle.wi_accept.specs.Trees.{IsDecidedExactly}
-use Rattle.wi_app.specs.Asked.{ForAsked}
-use Rattle.wi_app.specs.Exact.{IsAcceptedTree, IsReportedExactly}
-use Rattle.wi_files.specs.Certificates.{IsTreeStored, IsCertificateFile}
-use Rattle.wi_app.specs.Certificates.{IsAcceptedText, IsStored}
-use Rattle.wi_app.specs.Decided.{IsReported, report_in}
-use Rattle.wi_outcome.specs.Edges.{Says, SaysWhy, kept}
-use Rattle.wi_app.specs.Run.{AreAnswered, CanBeAnswered, Completes, Does, IsAnswered, IsStatus}
-use Rattle.wi_files.specs.Networks.{HoldsNetwork}
-use Rattle.wi_files.specs.Shelves.{IsCalm, OthersStand}
-use Rattle.wi_outcome.specs.Texts.{status_of, text_of}
-use Rattle.wi_outcome.specs.declared.refusal.Refusal.{Refusal}
-use Rattle.wi_outcome.specs.declared.refusal.Refusal.TheVariants.{Network, Weights, Script, Plan, Unprotected, BadStack}
 use Rattle.wi_netjson.specs.declared.fault.NetFault.TheVariants as network_fault
 use Rattle.wi_quantity.specs.declared.fault.WeightFault.TheVariants as weights_fault
 use Rattle.wi_script.specs.declared.script.ScriptRefused.TheVariants as script_refused
 use Rattle.wi_wire.specs.declared.refused.StackRefused.TheVariants as stack_refused
 use Rattle.wi_planjson.specs.declared.refused.PlanRefused.TheVariants as plan_refused
 use Rattle.wi_protect.specs.declared.refused.ProtectRefused.TheVariants as protect_refused
+use Rattle.wi_outcome.specs.Edges.{Says, SaysWhy, kept}
+use Rattle.wi_outcome.specs.Texts.{status_of, text_of}
+use Rattle.wi_outcome.specs.declared.refusal.Refusal.{Refusal}
+use Rattle.wi_outcome.specs.declared.refusal.Refusal.TheVariants.{BadStack, Network, Plan, Script, Unprotected, Weights}
+use Rattle.wi_files.specs.Certificates.{IsCertificateFile, IsTreeStored}
+use Rattle.wi_files.specs.Networks.{HoldsNetwork}
+use Rattle.wi_files.specs.Shelves.{IsCalm, OthersStand}
+use Rattle.wi_app.specs.Asked.{ForAsked}
+use Rattle.wi_app.specs.Certificates.{IsAcceptedText, IsStored}
+use Rattle.wi_app.specs.Decided.{IsReported, report_in}
+use Rattle.wi_app.specs.Exact.{IsAcceptedTree, IsReportedExactly}
+use Rattle.wi_app.specs.Run.{AreAnswered, CanBeAnswered, Completes, Does, IsAnswered, IsStatus}
 
 -- ---- the text isn't too long to be read
 -- what is done from each place on, whatever the steps are

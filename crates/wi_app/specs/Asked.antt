@@ -4,8 +4,8 @@ use Rattle.wi_net.specs.Net.{Net}
 use Rattle.wi_query.specs.declared.query.Query.{Query}
 use Rattle.wi_quantity.specs.declared.vector.Part.{Part}
 use Rattle.wi_build.specs.Problems.{Problem, problem_of}
-use Rattle.wi_files.specs.Asked.{AreBadTexts, IsAsked}
 use Rattle.wi_outcome.specs.declared.refusal.Refusal.{Refusal}
+use Rattle.wi_files.specs.Asked.{AreBadTexts, IsAsked}
 
 -- texts are a query of the network and weights, and this holds of the problem that they ask
 abbrev pub ForAsked : Net → List ℕ → Option (List ℕ) → (Problem → Type 0) → Type 0

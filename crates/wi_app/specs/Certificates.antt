@@ -14,7 +14,7 @@ use Rattle.wi_accept.specs.Answers.{IsDecided, answer_of}
 use Rattle.wi_accept.specs.Causes.{IsAccepted, IsRefusal}
 use Rattle.wi_accept.specs.Makers.{IsMaker}
 use Rattle.wi_outcome.specs.declared.refusal.Refusal.{Refusal}
-use Rattle.wi_outcome.specs.declared.refusal.Refusal.TheVariants.{CannotWrite, NotAccepted, NotWritten, Memory}
+use Rattle.wi_outcome.specs.declared.refusal.Refusal.TheVariants.{CannotWrite, Memory, NotAccepted, NotWritten}
 use Rattle.wi_files.specs.Asked.{IsAsked}
 use Rattle.wi_files.specs.Certificates.{FromLines, IsCertificateFile, IsNamed}
 use Rattle.wi_files.specs.Shelves.{IsCalm, StoreFailed}

@@ -10,9 +10,9 @@ use Rattle.wi_accept.specs.Answers.{IsDecided}
 use Rattle.wi_decide.specs.Refusals.{IsOverflowing, IsTooLong, IsUnrefused}
 use Rattle.wi_report.specs.Reports.{report_of}
 use Rattle.wi_report.specs.Packets.{packets_of}
-use Rattle.wi_app.specs.Certificates.{IsStored}
 use Rattle.wi_outcome.specs.declared.refusal.Refusal.{Refusal}
-use Rattle.wi_outcome.specs.declared.refusal.Refusal.TheVariants.{Overflow, TooLong, Memory}
+use Rattle.wi_outcome.specs.declared.refusal.Refusal.TheVariants.{Memory, Overflow, TooLong}
+use Rattle.wi_app.specs.Certificates.{IsStored}
 
 -- the exit status of an answer
 abbrev pub status_for : Word → ℕ

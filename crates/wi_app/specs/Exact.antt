@@ -17,13 +17,13 @@ use Rattle.wi_branch.specs.declared.refused.ExactRefused.TheVariants as none
 use Rattle.wi_branch.specs.declared.opened.Opened.{Opened}
 use Rattle.wi_branch.specs.Exactly.{IsExact, IsInexact}
 use Rattle.wi_report.specs.Reports.{exact_report_of}
+use Rattle.wi_outcome.specs.declared.refusal.Refusal.{Refusal}
+use Rattle.wi_outcome.specs.declared.refusal.Refusal.TheVariants.{CannotWrite, ManyNodes, Memory, Overflow, TooLong, TreeNotWritten}
 use Rattle.wi_files.specs.Asked.{IsAsked}
 use Rattle.wi_files.specs.Certificates.{IsCertificateFile, IsLarge, IsNamed, IsTreeStored}
 use Rattle.wi_files.specs.Shelves.{IsCalm, StoreFailed}
 use Rattle.wi_app.specs.Certificates.{FromFile}
 use Rattle.wi_app.specs.Decided.{status_for}
-use Rattle.wi_outcome.specs.declared.refusal.Refusal.{Refusal}
-use Rattle.wi_outcome.specs.declared.refusal.Refusal.TheVariants.{CannotWrite, ManyNodes, Overflow, TooLong, TreeNotWritten, Memory}
 
 -- ---- answered
 -- an answer to a problem that holds without doubt, with the tree of at most 10,000 nodes that shows it; nothing speaks against that

@@ -8,11 +8,11 @@ use Rattle.wi_decide.specs.Refusals.{IsUnrefused}
 use Rattle.wi_gen.specs.Ring.{net_of, ring_of}
 use Rattle.wi_gen.specs.Texts.{query_text, weights_text}
 use Rattle.wi_report.specs.Summaries.{summary_of}
+use Rattle.wi_outcome.specs.declared.refusal.Refusal.{Refusal}
+use Rattle.wi_outcome.specs.declared.refusal.Refusal.TheVariants.{Memory}
 use Rattle.wi_app.specs.Asked.{ForAsked}
 use Rattle.wi_app.specs.Certificates.{IsCertificate}
 use Rattle.wi_app.specs.Decided.{FromDecision}
-use Rattle.wi_outcome.specs.declared.refusal.Refusal.{Refusal}
-use Rattle.wi_outcome.specs.declared.refusal.Refusal.TheVariants.{Memory}
 
 -- this holds of the problem that the texts of a ring ask of it
 abbrev pub ForRing : ℕ → ℕ → (Problem → Type 0) → Type 0

@@ -13,7 +13,7 @@ use Rattle.wi_query.specs.declared.query.Query.{Query}
 use Rattle.wi_quantity.specs.declared.vector.Part.{Part}
 use Rattle.wi_outcome.specs.Edges.{Prints, SaysWhy, Untouched}
 use Rattle.wi_outcome.specs.declared.refusal.Refusal.{Refusal}
-use Rattle.wi_outcome.specs.declared.refusal.Refusal.TheVariants.{Usage, Memory}
+use Rattle.wi_outcome.specs.declared.refusal.Refusal.TheVariants.{Memory, Usage}
 use Rattle.wi_files.specs.Asked.{AreBadTexts, IsAsked}
 use Rattle.wi_files.specs.Certificates.{IsCertificateFile, IsNamed}
 use Rattle.wi_files.specs.Networks.{FromNetwork, HoldsNetwork}

@@ -3,8 +3,8 @@
 ghost use Rattle.std.specs.Prelude.{◌≡◌, Some, map, string_bytes, IfOk, IfErr};
 ghost use Rattle.wi_words.specs.Commands.{IsFit, command_of};
 ghost use Rattle.wi_words.specs.Shown.{shown};
+ghost use Rattle.wi_files.specs.Shelves.{IsCalm, IsLeft, StandBut};
 ghost use Rattle.wi_app.specs.Run.{AreAnswered, FromCommand, FromWords, IsAnswered, IsStoredBy};
-ghost use Rattle.wi_files.specs.Shelves.{IsLeft, IsCalm, StandBut};
 
 use crate::check::check;
 use crate::check_exact::check_exact;

@@ -1,5 +1,5 @@
 //! All is one call over any shelf and any sinks, so that the same code runs over memory, where contracts tell the content, and
-//! over the system's files and streams. What is printed goes out in one call; where that fails, a front of it may stand there.
+//! over the system's files and streams.
 ghost use Rattle.std.specs.Prelude.{◌≡◌, ◌<◌, ◌-◌, ◌^◌, map, string_bytes};
 ghost use Rattle.wi_words.specs.Commands.{command_of};
 ghost use Rattle.wi_files.specs.Shelves.{StandBut};

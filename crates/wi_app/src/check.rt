@@ -8,10 +8,10 @@ ghost use Rattle.wi_cert.specs.Text.{IsText, IsWritable};
 ghost use Rattle.wi_accept.specs.Answers.{word_of};
 ghost use Rattle.wi_report.specs.Reports.{accepted_text};
 ghost use Rattle.wi_cert.specs.declared.certificate.Certificate.{Certificate};
-ghost use Rattle.wi_app.specs.Certificates.{FromCertificate, IsAcceptedText};
 ghost use Rattle.wi_files.specs.Certificates.{IsCertificateFile};
-ghost use Rattle.wi_app.specs.Run.{FromCommand, IsAnswered};
 ghost use Rattle.wi_files.specs.Shelves.{AllStand, IsCalm};
+ghost use Rattle.wi_app.specs.Certificates.{FromCertificate, IsAcceptedText};
+ghost use Rattle.wi_app.specs.Run.{FromCommand, IsAnswered};
 ghost use Rattle.wi_app.specs.private.Stages.{FromChecking, IsBelieved, IsNotBelieved};
 
 use std::alloc::Global;

@@ -8,9 +8,9 @@ ghost use Rattle.wi_accept.specs.Answers.{word_of};
 ghost use Rattle.wi_report.specs.Reports.{accepted_text};
 ghost use Rattle.wi_cert.specs.declared.tree.TreeCertificate.{TreeCertificate};
 ghost use Rattle.wi_files.specs.Certificates.{IsCertificateFile};
+ghost use Rattle.wi_files.specs.Shelves.{AllStand, IsCalm};
 ghost use Rattle.wi_app.specs.Exact.{FromTree, IsAcceptedTree};
 ghost use Rattle.wi_app.specs.Run.{FromCommand, IsAnswered};
-ghost use Rattle.wi_files.specs.Shelves.{AllStand, IsCalm};
 ghost use Rattle.wi_app.specs.private.Stages.{FromCheckingExactly, IsTreeBelieved, IsTreeNotBelieved};
 
 use std::alloc::Global;

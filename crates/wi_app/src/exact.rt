@@ -5,11 +5,11 @@ ghost use Rattle.wi_words.specs.Commands.{Exact};
 ghost use Rattle.wi_cert.specs.Trees.{IsTreeWritable};
 ghost use Rattle.wi_build.specs.Problems.{Problem, problem_of};
 ghost use Rattle.wi_branch.specs.Exactly.{IsInexact};
+ghost use Rattle.wi_files.specs.Certificates.{IsTreeNotKept, IsTreeStored};
+ghost use Rattle.wi_files.specs.Shelves.{IsCalm, IsLeft, OthersStand};
 ghost use Rattle.wi_app.specs.Asked.{ForAsked};
 ghost use Rattle.wi_app.specs.Exact.{FromSplitting, FromTreeStore, IsReportedExactly, IsShownExactly};
-ghost use Rattle.wi_files.specs.Certificates.{IsTreeStored, IsTreeNotKept};
 ghost use Rattle.wi_app.specs.Run.{FromCommand, IsAnswered};
-ghost use Rattle.wi_files.specs.Shelves.{IsLeft, IsCalm, OthersStand};
 ghost use Rattle.wi_app.specs.private.Stages.{FromAnswering, FromDeciding};
 
 use crate::verify::status_for;

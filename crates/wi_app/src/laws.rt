@@ -3,8 +3,8 @@ ghost use Rattle.std.specs.Prelude.{◌≡◌, ◌≢◌, ◌⊎◌, ◌<◌, �
 ghost use Rattle.wi_base.specs.Shelf.{ShelfSeen};
 ghost use Rattle.wi_base.specs.Sink.{SinkSeen};
 ghost use Rattle.wi_words.specs.Commands.{Verify, Check, Exact, CheckExact, command_of};
-ghost use Rattle.wi_app.specs.Run.{Completes, Does};
 ghost use Rattle.wi_files.specs.Shelves.{IsCalm, OthersStand};
+ghost use Rattle.wi_app.specs.Run.{Completes, Does};
 
 /// Where `verify` answers and its certificate isn't stored in the place of the network, `check` of that file with the same texts
 /// gives 0, on a shelf that tells and stands as `verify` left it; but for a call that fails, or want of memory.

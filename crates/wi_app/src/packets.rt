@@ -1,8 +1,8 @@
 //! What is asked and how it is answered is as for `verify`; nothing is stored.
 ghost use Rattle.std.specs.Prelude.{◌≡◌, option_map, IfOk, IfErr};
 ghost use Rattle.wi_words.specs.Commands.{Packets};
-ghost use Rattle.wi_app.specs.Run.{FromCommand, IsAnswered};
 ghost use Rattle.wi_files.specs.Shelves.{AllStand, IsCalm};
+ghost use Rattle.wi_app.specs.Run.{FromCommand, IsAnswered};
 
 use crate::verify::{Content, answer};
 use std::alloc::Global;

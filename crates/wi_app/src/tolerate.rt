@@ -1,14 +1,14 @@
-//! The number is printed with the exact report there, and the two trees that show it are stored before. As of `exact`, what is printed is
-//! made first.
+//! What is printed, the number and the exact report there, is made first; then the two trees that show it are stored; and only then it
+//! is printed.
 ghost use Rattle.std.specs.Prelude.{◌≡◌, Ok, Some, option_map, IfOk, IfErr, IfSome, OnOk};
 ghost use Rattle.wi_world.specs.Moves.{AreBounds};
 ghost use Rattle.wi_words.specs.Commands.{Tolerate};
 ghost use Rattle.wi_cert.specs.Trees.{IsTreeWritable};
 ghost use Rattle.wi_build.specs.Problems.{problem_of};
+ghost use Rattle.wi_files.specs.Certificates.{AreTreesStored, AreUnstored};
+ghost use Rattle.wi_files.specs.Shelves.{IsCalm, IsLeft, IsOfTwo, StandBut};
 ghost use Rattle.wi_app.specs.Asked.{ForAsked};
 ghost use Rattle.wi_app.specs.Run.{FromCommand, IsAnswered};
-ghost use Rattle.wi_files.specs.Shelves.{IsLeft, IsCalm, IsOfTwo, StandBut};
-ghost use Rattle.wi_files.specs.Certificates.{AreTreesStored, AreUnstored};
 ghost use Rattle.wi_app.specs.Tolerance.{FromTolerating, FromTreesStore, IsTold, IsToldWith, first_tree, second_tree, tolerance_status, tolerance_text};
 ghost use Rattle.wi_app.specs.private.Stages.{FromAnswering, FromDeciding};
 

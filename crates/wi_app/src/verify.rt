@@ -6,14 +6,14 @@ ghost use Rattle.wi_world.specs.Moves.{AreBounds};
 ghost use Rattle.wi_words.specs.Commands.{Verify};
 ghost use Rattle.wi_cert.specs.Text.{IsWritable};
 ghost use Rattle.wi_build.specs.Problems.{problem_of};
+ghost use Rattle.wi_report.specs.Reports.{IsKnownRun};
+ghost use Rattle.wi_files.specs.Certificates.{IsKept, IsNotKept};
+ghost use Rattle.wi_files.specs.Shelves.{IsCalm, IsLeft, OthersStand};
 ghost use Rattle.wi_app.specs.Asked.{ForAsked};
 ghost use Rattle.wi_app.specs.Certificates.{FromStore};
 ghost use Rattle.wi_app.specs.Decided.{FromDecision, IsReported, status_for};
 ghost use Rattle.wi_app.specs.Run.{FromCommand, IsAnswered};
-ghost use Rattle.wi_files.specs.Shelves.{IsLeft, IsCalm, OthersStand};
-ghost use Rattle.wi_report.specs.Reports.{IsKnownRun};
 ghost use Rattle.wi_app.specs.private.Stages.{FromAnswering, FromDeciding, printed_by};
-ghost use Rattle.wi_files.specs.Certificates.{IsKept, IsNotKept};
 
 use crate::decided::decided;
 use std::alloc::Global;

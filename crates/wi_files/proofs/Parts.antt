@@ -13,10 +13,10 @@ use Rattle.wi_cert.proofs.ReadingLemmas.{fed_append}
 use Rattle.wi_cert.proofs.SoundLemmas.{decoded_is_text}
 use Rattle.wi_cert.proofs.TellingLemmas.{bad_line}
 use Rattle.wi_cert.proofs.TreeSoundLemmas.{decoded_is_tree}
+use Rattle.wi_outcome.specs.declared.refusal.Refusal.{Refusal}
+use Rattle.wi_outcome.specs.declared.refusal.Refusal.TheVariants.{BadLine as BadCertificateLine, CannotRead, LargeCertificate, Memory}
 use Rattle.wi_files.specs.Certificates.{FromLines, IsCertificateFile}
 use Rattle.wi_files.specs.Shelves.{IsCalm}
-use Rattle.wi_outcome.specs.declared.refusal.Refusal.{Refusal}
-use Rattle.wi_outcome.specs.declared.refusal.Refusal.TheVariants.{CannotRead, LargeCertificate, BadLine as BadCertificateLine, Memory}
 use Rattle.wi_files.specs.private.Stages.{FromParts}
 
 -- bytes are the front of a file, or there is none and no byte came

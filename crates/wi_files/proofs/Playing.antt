@@ -5,7 +5,7 @@ use Rattle.wi_base.specs.Shelf.{ShelfSeen}
 use Rattle.wi_net.specs.Net.{Net}
 use Rattle.wi_outcome.specs.declared.printed.Printed.{Printed}
 use Rattle.wi_outcome.specs.declared.refusal.Refusal.{Refusal}
-use Rattle.wi_outcome.specs.declared.refusal.Refusal.TheVariants.{Script, Memory}
+use Rattle.wi_outcome.specs.declared.refusal.Refusal.TheVariants.{Memory, Script}
 use Rattle.wi_files.specs.Networks.{HoldsNetwork}
 use Rattle.wi_files.specs.Scripts.{FromPlaying, FromScript, IsPlay, IsPlayed}
 use Rattle.wi_files.specs.Shelves.{IsCalm}

@@ -12,7 +12,7 @@ use Rattle.wi_quantity.specs.declared.fault.WeightFault.TheVariants as weight_fa
 use Rattle.wi_quantity.specs.Faults.{Means, IsFault as IsWeightsFault}
 use Rattle.wi_report.specs.QueryFaults.{query_fault_text}
 use Rattle.wi_outcome.specs.declared.refusal.Refusal.{Refusal}
-use Rattle.wi_outcome.specs.declared.refusal.Refusal.TheVariants.{Query as BadQuery, Weights as BadWeights, Memory}
+use Rattle.wi_outcome.specs.declared.refusal.Refusal.TheVariants.{Memory, Query as BadQuery, Weights as BadWeights}
 
 -- what runs are weighed by: what the weights mean, or the effort alone where there are none
 abbrev pub WeighsBy : Option (List ℕ) → List (List Part) → Type 0

@@ -6,9 +6,9 @@ use Rattle.wi_cert.specs.declared.certificate.Certificate.{Certificate}
 use Rattle.wi_cert.specs.declared.tree.TreeCertificate.{TreeCertificate}
 use Rattle.wi_cert.specs.Text.{IsText, closed_text}
 use Rattle.wi_cert.specs.Trees.{IsTreeText, tree_text}
-use Rattle.wi_files.specs.Shelves.{FetchFailed, IsCalm, StoreFailed, below_name}
 use Rattle.wi_outcome.specs.declared.refusal.Refusal.{Refusal}
-use Rattle.wi_outcome.specs.declared.refusal.Refusal.TheVariants.{CannotRead, CannotWrite, CannotWriteBelow, NoMemoryBelow, LargeCertificate, BadLine, NotWritten, TreeNotWritten, Memory}
+use Rattle.wi_outcome.specs.declared.refusal.Refusal.TheVariants.{BadLine, CannotRead, CannotWrite, CannotWriteBelow, LargeCertificate, Memory, NoMemoryBelow, NotWritten, TreeNotWritten}
+use Rattle.wi_files.specs.Shelves.{FetchFailed, IsCalm, StoreFailed, below_name}
 
 -- ---- stored
 -- there is a name to store under

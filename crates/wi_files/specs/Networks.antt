@@ -5,9 +5,9 @@ use Rattle.wi_net.specs.Net.{Net}
 use Rattle.wi_netjson.specs.File.{network_of}
 use Rattle.wi_netjson.specs.Reading.{Fails}
 use Rattle.wi_netjson.specs.declared.fault.NetFault.{NetFault}
-use Rattle.wi_files.specs.Shelves.{FetchFailed, IsCalm}
 use Rattle.wi_outcome.specs.declared.refusal.Refusal.{Refusal}
-use Rattle.wi_outcome.specs.declared.refusal.Refusal.TheVariants.{CannotRead, Network, Memory}
+use Rattle.wi_outcome.specs.declared.refusal.Refusal.TheVariants.{CannotRead, Memory, Network}
+use Rattle.wi_files.specs.Shelves.{FetchFailed, IsCalm}
 
 -- the file that is held is the network's
 abbrev pub HoldsNetwork : Option (List ℕ) → Net → Type 0

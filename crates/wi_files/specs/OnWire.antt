@@ -7,7 +7,7 @@ use Rattle.wi_wire.specs.declared.refused.StackRefused.TheVariants as stack
 use Rattle.wi_wire.specs.Stacks.{IsStack, IsNoStack}
 use Rattle.wi_report.specs.Stacks.{stack_shown}
 use Rattle.wi_outcome.specs.declared.refusal.Refusal.{Refusal}
-use Rattle.wi_outcome.specs.declared.refusal.Refusal.TheVariants.{NotHex, BadStack, Memory}
+use Rattle.wi_outcome.specs.declared.refusal.Refusal.TheVariants.{BadStack, Memory, NotHex}
 
 -- the text is these bytes in hexadecimal, in lower case
 pub record IsHex (hex bytes : List ℕ) : Type 0 where

@@ -13,10 +13,10 @@ use Rattle.wi_protect.specs.Protected.{protected}
 use Rattle.wi_protect.specs.Protection.{AreProtected}
 use Rattle.wi_protect.specs.Refusals.{fault_of}
 use Rattle.wi_protect.specs.declared.refused.ProtectRefused.TheVariants as protect
+use Rattle.wi_outcome.specs.declared.refusal.Refusal.{Refusal}
+use Rattle.wi_outcome.specs.declared.refusal.Refusal.TheVariants.{LargeNetwork, Memory, Plan as BadPlan, Unprotected}
 use Rattle.wi_files.specs.Networks.{FromNetwork}
 use Rattle.wi_files.specs.Shelves.{IsCalm}
-use Rattle.wi_outcome.specs.declared.refusal.Refusal.{Refusal}
-use Rattle.wi_outcome.specs.declared.refusal.Refusal.TheVariants.{Plan as BadPlan, Unprotected, LargeNetwork, Memory}
 
 -- a file is a network's, and has this plan over it
 pub record IsPlanned (bytes : List ℕ) (net : Net) (plan : Plan) : Type 0 where

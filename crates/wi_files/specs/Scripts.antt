@@ -9,10 +9,10 @@ use Rattle.wi_script.specs.declared.script.ScriptRefused.{ScriptRefused}
 use Rattle.wi_script.specs.Scripts.{IsScript, IsNoScript}
 use Rattle.wi_script.specs.Plays.{begin, states_of, IsNotPlayed}
 use Rattle.wi_report.specs.States.{states_shown}
+use Rattle.wi_outcome.specs.declared.refusal.Refusal.{Refusal}
+use Rattle.wi_outcome.specs.declared.refusal.Refusal.TheVariants.{CannotRead, LongScript, Memory, Script as BadScript}
 use Rattle.wi_files.specs.Networks.{FromNetwork, HoldsNetwork}
 use Rattle.wi_files.specs.Shelves.{FetchFailed, IsCalm}
-use Rattle.wi_outcome.specs.declared.refusal.Refusal.{Refusal}
-use Rattle.wi_outcome.specs.declared.refusal.Refusal.TheVariants.{CannotRead, Script as BadScript, LongScript, Memory}
 
 -- the lines of the states of the moving world while bytes, which are a script of the network, are played with at most k risk
 -- groups failed

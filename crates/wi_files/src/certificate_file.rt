@@ -6,7 +6,7 @@ ghost use Rattle.wi_cert.specs.Sheets.{certificates};
 ghost use Rattle.wi_cert.specs.Text.{IsBadLine, IsText, IsWritable};
 ghost use Rattle.wi_base.specs.Shelf.{IsPart};
 ghost use Rattle.wi_files.specs.Certificates.{FromLines, IsCertificateFile, IsKept, IsNotKept};
-ghost use Rattle.wi_files.specs.Shelves.{IsLeft, AllStand, IsCalm, OthersStand};
+ghost use Rattle.wi_files.specs.Shelves.{AllStand, IsCalm, IsLeft, OthersStand};
 ghost use Rattle.wi_files.specs.private.Stages.{FromParts};
 
 use crate::store::store;

@@ -3,10 +3,10 @@
 ghost use Rattle.std.specs.Prelude.{◌≡◌, true, ◌≤◌, ℕ, List, Ok, Some, IfOk, IfErr, vec_len, length};
 ghost use Rattle.wi_netjson.specs.File.{network_of};
 ghost use Rattle.wi_netjson.specs.Reading.{Fails};
+ghost use Rattle.wi_net.specs.Net.{Net};
 ghost use Rattle.wi_files.specs.Networks.{FromNetwork, HoldsNetwork};
 ghost use Rattle.wi_files.specs.Scripts.{FromScript};
 ghost use Rattle.wi_files.specs.Shelves.{AllStand, IsCalm};
-ghost use Rattle.wi_net.specs.Net.{Net};
 
 use std::alloc::Global;
 use wi_base::{FetchRefused, Shelf};

@@ -1,6 +1,6 @@
 //! Whatever is stored is made whole before, so that nothing is half written for want of memory.
 ghost use Rattle.std.specs.Prelude.{◌≡◌, true, Some, IfErr, OnOk};
-ghost use Rattle.wi_files.specs.Shelves.{IsLeft, IsCalm, OthersStand};
+ghost use Rattle.wi_files.specs.Shelves.{IsCalm, IsLeft, OthersStand};
 ghost use Rattle.wi_files.specs.private.Stages.{IsUnstored};
 
 use wi_base::{Shelf, StoreRefused};

@@ -5,7 +5,7 @@ ghost use Rattle.wi_cert.specs.Reading.{fed, unread};
 ghost use Rattle.wi_cert.specs.Text.{IsBadLine};
 ghost use Rattle.wi_cert.specs.Trees.{IsTreeText, IsTreeWritable, trees};
 ghost use Rattle.wi_files.specs.Certificates.{FromLines, IsCertificateFile, IsTreeNotKept, IsTreeStored};
-ghost use Rattle.wi_files.specs.Shelves.{IsLeft, AllStand, IsCalm, OthersStand};
+ghost use Rattle.wi_files.specs.Shelves.{AllStand, IsCalm, IsLeft, OthersStand};
 ghost use Rattle.wi_files.specs.private.Stages.{FromParts, IsNotMade, IsTreeToStore};
 
 use crate::certificate_file::{READ_LIMIT, next_part};

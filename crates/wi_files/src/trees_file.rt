@@ -2,8 +2,8 @@
 //! at once.
 ghost use Rattle.std.specs.Prelude.{◌≡◌, true, Some, option_map, IfErr, IfOk, IfSome, OnOk, string_bytes};
 ghost use Rattle.wi_cert.specs.Trees.{IsTreeWritable};
-ghost use Rattle.wi_files.specs.Shelves.{IsLeft, IsCalm, IsOfTwo, StandBut, below_name};
 ghost use Rattle.wi_files.specs.Certificates.{AreTreesStored, AreUnstored};
+ghost use Rattle.wi_files.specs.Shelves.{IsCalm, IsLeft, IsOfTwo, StandBut, below_name};
 ghost use Rattle.wi_files.specs.private.Stages.{AreUnstoredBytes};
 
 use crate::store::store;

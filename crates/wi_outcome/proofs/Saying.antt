@@ -2,8 +2,8 @@
 use Rattle.std.proofs.Common.{◌≡◌, ℕ, ◌⊎◌, inl, inr, subst, sym}
 use Rattle.std.specs.Prelude.{codes}
 use Rattle.wi_base.specs.Sink.{SinkSeen}
-use Rattle.wi_outcome.specs.Texts.{text_of, status_of, IsPutTogether}
 use Rattle.wi_outcome.specs.Edges.{Says, SaysWhy, kept}
+use Rattle.wi_outcome.specs.Texts.{IsPutTogether, status_of, text_of}
 use Rattle.wi_outcome.specs.declared.refusal.Refusal.{Refusal}
 
 pub said_words : (refusal known : Refusal) (status : ℕ) (old new : SinkSeen) (result : ℕ) → refusal ≡ known → status ≡ status_of refusal → Says (text_of known) status old new result → SaysWhy refusal old new result

@@ -1,9 +1,9 @@
 -- What was put on a sink: what is printed, and what is said.
 use Rattle.std.specs.Prelude.{◌≡◌, ◌⊎◌, ℕ, ◌<◌, ◌==◌, true, if◌then◌else◌, List, ◌++◌, take, codes}
 use Rattle.wi_base.specs.Sink.{SinkSeen}
+use Rattle.wi_outcome.specs.Texts.{IsPutTogether, status_of, text_of}
 use Rattle.wi_outcome.specs.declared.refusal.Refusal.{Refusal}
 use Rattle.wi_outcome.specs.declared.refusal.Refusal.TheVariants.{CannotPrint, Memory}
-use Rattle.wi_outcome.specs.Texts.{text_of, status_of, IsPutTogether}
 
 -- nothing was put on it
 pub record Untouched (old new : SinkSeen) : Type 0 where

@@ -14,7 +14,7 @@ use Rattle.wi_report.specs.CertificateFaults.{bad_line_text, certificate_fault_t
 use Rattle.wi_report.specs.Stacks.{stack_refused_text}
 use Rattle.wi_wire.specs.declared.refused.StackRefused.TheVariants as stack
 use Rattle.wi_outcome.specs.declared.refusal.Refusal.{Refusal}
-use Rattle.wi_outcome.specs.declared.refusal.Refusal.TheVariants.{Usage, CannotRead, CannotWrite, CannotWriteBelow, NoMemoryBelow, Network, Query, Weights, Overflow, TooLong, Script, LongScript, LargeCertificate, BadLine, NotAccepted, NotWritten, ManyNodes, TreeNotWritten, Plan, Unprotected, LargeNetwork, NotHex, BadStack, CannotPrint, Memory}
+use Rattle.wi_outcome.specs.declared.refusal.Refusal.TheVariants.{BadLine, BadStack, CannotPrint, CannotRead, CannotWrite, CannotWriteBelow, LargeCertificate, LargeNetwork, LongScript, ManyNodes, Memory, Network, NoMemoryBelow, NotAccepted, NotHex, NotWritten, Overflow, Plan, Query, Script, TooLong, TreeNotWritten, Unprotected, Usage, Weights}
 
 -- what is said
 abbrev pub text_of : Refusal → List ℕ

@@ -2,8 +2,8 @@
 //! text that is constant is put as it stands, and takes no memory; where there is none for another, a constant one is put in
 //! its place.
 ghost use Rattle.std.specs.Prelude.{◌≡◌, ◌⊎◌, ◌++◌, ◌<◌, ◌-◌, ◌^◌, ℕ, List, codes, IfOk};
-ghost use Rattle.wi_outcome.specs.Texts.{status_of};
 ghost use Rattle.wi_outcome.specs.Edges.{Says, SaysWhy, kept};
+ghost use Rattle.wi_outcome.specs.Texts.{status_of};
 
 use std::alloc::Global;
 use wi_base::{NoMemory, PutRefused, Sink};

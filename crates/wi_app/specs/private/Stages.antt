@@ -10,15 +10,15 @@ use Rattle.wi_accept.specs.Answers.{IsDecided, answer_of}
 use Rattle.wi_accept.specs.Causes.{IsAccepted, IsRefusal}
 use Rattle.wi_accept.specs.Trees.{IsDecidedExactly, IsTreeAccepted, IsTreeRefusal}
 use Rattle.wi_outcome.specs.declared.refusal.Refusal.{Refusal}
-use Rattle.wi_outcome.specs.declared.refusal.Refusal.TheVariants.{NotAccepted, Memory}
+use Rattle.wi_outcome.specs.declared.refusal.Refusal.TheVariants.{Memory, NotAccepted}
 use Rattle.wi_files.specs.Asked.{AreBadTexts}
 use Rattle.wi_files.specs.Shelves.{IsCalm}
-use Rattle.wi_app.specs.declared.verify.Content.{Content}
-use Rattle.wi_app.specs.declared.verify.Content.TheVariants.{Report, ReportAndPackets}
 use Rattle.wi_app.specs.Asked.{ForAsked, FromAsked}
 use Rattle.wi_app.specs.Certificates.{FromCertificate}
 use Rattle.wi_app.specs.Decided.{packets_in, report_in}
 use Rattle.wi_app.specs.Exact.{FromTree}
+use Rattle.wi_app.specs.declared.verify.Content.{Content}
+use Rattle.wi_app.specs.declared.verify.Content.TheVariants.{Report, ReportAndPackets}
 
 -- ---- what is asked of a network
 -- the texts are the cause, or what both ask, or its answer is to be stored and can't be

@@ -8,13 +8,13 @@ use Rattle.wi_netjson.specs.Reading.{Fails}
 use Rattle.wi_netjson.specs.Written.{text_of}
 use Rattle.wi_cert.specs.declared.tree.TreeCertificate.{TreeCertificate}
 use Rattle.wi_cert.specs.Trees.{IsTreeText}
+use Rattle.wi_outcome.specs.declared.refusal.Refusal.{Refusal}
+use Rattle.wi_outcome.specs.declared.refusal.Refusal.TheVariants.{BadStack, CannotRead, CannotWrite, CannotWriteBelow, LargeCertificate, LargeNetwork, Memory, Network, NoMemoryBelow, Script as BadScript, TreeNotWritten}
 use Rattle.wi_files.specs.Certificates.{IsLarge}
 use Rattle.wi_files.specs.OnWire.{IsRefusedStack}
 use Rattle.wi_files.specs.Protection.{FromPlan}
 use Rattle.wi_files.specs.Scripts.{IsBadScript}
 use Rattle.wi_files.specs.Shelves.{FetchFailed, IsCalm, StoreFailed, below_name}
-use Rattle.wi_outcome.specs.declared.refusal.Refusal.{Refusal}
-use Rattle.wi_outcome.specs.declared.refusal.Refusal.TheVariants.{CannotRead, CannotWrite, CannotWriteBelow, NoMemoryBelow, Network, LargeNetwork, Script as BadScript, LargeCertificate, TreeNotWritten, BadStack, Memory}
 
 -- ---- play
 -- the bytes of the script are the cause

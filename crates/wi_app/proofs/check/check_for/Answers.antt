@@ -1,8 +1,8 @@
 use Rattle.wi_build.specs.Problems.{problem_of}
 use Rattle.wi_cert.specs.Sheets.{certificates}
 use Rattle.wi_cert.specs.Text.{IsBadLine}
-use Rattle.wi_app.specs.Certificates.{IsRefusedFile}
 use Rattle.wi_files.proofs.Causes.{err_as}
+use Rattle.wi_app.specs.Certificates.{IsRefusedFile}
 use Rattle.wi_app.proofs.Outcomes.{file_believed, file_not_believed, lines_refused}
 use Rattle.wi_app.proofs.check.check_for.Goals as goal
 

@@ -1,5 +1,5 @@
-use Rattle.wi_app.proofs.Exactly.{check_exactly_answered, check_exactly_refused}
 use Rattle.wi_files.proofs.ShelfLemmas.{same_shelf}
+use Rattle.wi_app.proofs.Exactly.{check_exactly_answered, check_exactly_refused}
 use Rattle.wi_app.proofs.check_exact.check_exact.Goals as goal
 
 pub returns-clause-answered : goal.returns-clause-answered

@@ -1,9 +1,9 @@
 use Rattle.wi_build.specs.Problems.{problem_of}
 use Rattle.wi_cert.specs.Text.{IsBadLine}
 use Rattle.wi_cert.specs.Trees.{trees}
+use Rattle.wi_files.proofs.Causes.{err_as}
 use Rattle.wi_app.specs.Exact.{IsRefusedTree}
 use Rattle.wi_app.proofs.Exactly.{tree_file_believed, tree_file_not_believed}
-use Rattle.wi_files.proofs.Causes.{err_as}
 use Rattle.wi_app.proofs.Outcomes.{lines_refused}
 use Rattle.wi_app.proofs.check_exact.check_exactly_for.Goals as goal
 

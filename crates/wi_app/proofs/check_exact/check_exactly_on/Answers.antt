@@ -1,6 +1,6 @@
 use Rattle.std.proofs.Common.{inl, refl}
-use Rattle.wi_app.proofs.Exactly.{believed_tree_accepted, tree_refused}
 use Rattle.wi_files.proofs.Causes.{err_as}
+use Rattle.wi_app.proofs.Exactly.{believed_tree_accepted, tree_refused}
 use Rattle.wi_app.proofs.check_exact.check_exactly_on.Goals as goal
 
 pub returns-in_err-asked-clause-refused : goal.returns-in_err-asked-clause-refused

@@ -1,7 +1,7 @@
 use Rattle.std.proofs.Common.{inl, refl}
 use Rattle.std.specs.Prelude.{option_map}
-use Rattle.wi_app.specs.Exact.{FromSplitting, FromTreeStore, IsReportedExactly}
 use Rattle.wi_files.proofs.Causes.{err_as}
+use Rattle.wi_app.specs.Exact.{FromSplitting, FromTreeStore, IsReportedExactly}
 use Rattle.wi_app.proofs.Outcomes.{asked_refused, asked_told}
 use Rattle.wi_app.proofs.exact.answer_exactly.Goals as goal
 

@@ -1,6 +1,6 @@
 use Rattle.std.specs.Prelude.{option_map}
-use Rattle.wi_app.specs.Exact.{FromSplitting, FromTreeStore, IsReportedExactly}
 use Rattle.wi_files.proofs.ShelfLemmas.{left_later, others_later, same_shelf}
+use Rattle.wi_app.specs.Exact.{FromSplitting, FromTreeStore, IsReportedExactly}
 use Rattle.wi_app.proofs.Outcomes.{asking_answered, asking_refused}
 use Rattle.wi_app.proofs.exact.exact.Goals as goal
 

@@ -1,7 +1,7 @@
 use Rattle.std.proofs.Common.{◌≡◌, inl, length, refl, rules}
 use Rattle.wi_build.specs.Problems.{problem_of}
-use Rattle.wi_app.proofs.Exactly.{exact_known, shown_refused, shown_reported}
 use Rattle.wi_files.proofs.Causes.{err_as}
+use Rattle.wi_app.proofs.Exactly.{exact_known, shown_refused, shown_reported}
 use Rattle.wi_app.proofs.exact.report_exactly.Goals as goal
 
 pub exact_report-text-requires-clause-run : goal.exact_report-text-requires-clause-run

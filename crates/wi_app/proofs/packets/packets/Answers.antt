@@ -1,6 +1,6 @@
 use Rattle.std.proofs.Common.{None}
-use Rattle.wi_app.specs.Decided.{IsReported, packets_in}
 use Rattle.wi_files.proofs.ShelfLemmas.{same_shelf}
+use Rattle.wi_app.specs.Decided.{IsReported, packets_in}
 use Rattle.wi_app.proofs.Outcomes.{asking_answered, no_other, packets_refused}
 use Rattle.wi_app.proofs.packets.packets.Goals as goal
 

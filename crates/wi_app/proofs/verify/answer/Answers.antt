@@ -1,9 +1,9 @@
 use Rattle.std.proofs.Common.{inl, refl}
 use Rattle.std.specs.Prelude.{option_map}
+use Rattle.wi_files.proofs.Causes.{err_as}
 use Rattle.wi_app.specs.Certificates.{FromStore}
 use Rattle.wi_app.specs.Decided.{FromDecision, IsReported}
 use Rattle.wi_app.specs.private.Stages.{printed_by}
-use Rattle.wi_files.proofs.Causes.{err_as}
 use Rattle.wi_app.proofs.Outcomes.{asked_refused, asked_told}
 use Rattle.wi_app.proofs.verify.answer.Goals as goal
 

@@ -1,8 +1,8 @@
 use Rattle.std.proofs.Common.{inl, refl}
 use Rattle.wi_build.specs.Problems.{problem_of}
+use Rattle.wi_files.proofs.Causes.{err_as}
 use Rattle.wi_app.specs.private.Stages.{printed_by}
 use Rattle.wi_app.proofs.Answers.{answer_known}
-use Rattle.wi_files.proofs.Causes.{err_as}
 use Rattle.wi_app.proofs.Outcomes.{decided_refused, decided_reported}
 use Rattle.wi_app.proofs.verify.reported.Goals as goal
 

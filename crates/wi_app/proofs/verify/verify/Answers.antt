@@ -1,7 +1,7 @@
 use Rattle.std.specs.Prelude.{option_map}
+use Rattle.wi_files.proofs.ShelfLemmas.{left_later, others_later, same_shelf}
 use Rattle.wi_app.specs.Certificates.{FromStore}
 use Rattle.wi_app.specs.Decided.{FromDecision, IsReported, report_in}
-use Rattle.wi_files.proofs.ShelfLemmas.{left_later, others_later, same_shelf}
 use Rattle.wi_app.proofs.Outcomes.{asking_answered, asking_refused}
 use Rattle.wi_app.proofs.verify.verify.Goals as goal
 

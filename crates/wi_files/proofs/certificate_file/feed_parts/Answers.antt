@@ -1,8 +1,8 @@
 use Rattle.std.proofs.Common.{◌≡◌, ◌+◌, ◌≤◌, length, rules, subst, tests}
 use Rattle.wi_cert.specs.Reading.{fed}
 use Rattle.wi_cert.specs.Sheets.{certificates}
-use Rattle.wi_files.proofs.ShelfLemmas.{same_shelf}
 use Rattle.wi_files.proofs.Parts.{reading_on}
+use Rattle.wi_files.proofs.ShelfLemmas.{same_shelf}
 use Rattle.wi_files.proofs.certificate_file.feed_parts.Goals as goal
 
 pub loop-part-preserved : goal.loop-part-preserved

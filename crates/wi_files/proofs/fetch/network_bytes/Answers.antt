@@ -1,4 +1,4 @@
-use Rattle.wi_files.proofs.Causes.{too_long, too_big_calls, is_err}
+use Rattle.wi_files.proofs.Causes.{is_err, too_big_calls, too_long}
 use Rattle.wi_files.proofs.fetch.network_bytes.Goals as goal
 
 pub returns-in-Err-TooBig-clause-refused : goal.returns-in-Err-TooBig-clause-refused

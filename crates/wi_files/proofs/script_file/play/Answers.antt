@@ -1,4 +1,4 @@
-use Rattle.wi_files.proofs.Playing.{played_over, play_refused}
+use Rattle.wi_files.proofs.Playing.{play_refused, played_over}
 use Rattle.wi_files.proofs.ShelfLemmas.{same_shelf}
 use Rattle.wi_files.proofs.script_file.play.Goals as goal
 

@@ -1,8 +1,8 @@
 use Rattle.std.proofs.Common.{◌≡◌, ◌+◌, ◌<◌, ◌≤◌, ap, length, rules, subst, tests, ◌∙◌}
 use Rattle.wi_cert.specs.Reading.{fed}
 use Rattle.wi_cert.specs.Trees.{trees}
-use Rattle.wi_files.proofs.ShelfLemmas.{same_shelf}
 use Rattle.wi_files.proofs.Parts.{all_fed, nothing_is_left, part_fed, reading_on, too_many_fed}
+use Rattle.wi_files.proofs.ShelfLemmas.{same_shelf}
 use Rattle.wi_files.proofs.tree_file.feed_parts.Goals as goal
 
 pub returns-then-is_empty-clause-read : goal.returns-then-is_empty-clause-read

@@ -1,4 +1,4 @@
-use Rattle.wi_outcome.proofs.Saying.{said_words, said_made}
+use Rattle.wi_outcome.proofs.Saying.{said_made, said_words}
 use Rattle.wi_outcome.proofs.refusal.say.Goals as goal
 
 pub returns-in-Usage-clause-said : goal.returns-in-Usage-clause-said

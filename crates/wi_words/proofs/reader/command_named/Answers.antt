@@ -1,3 +1,4 @@
+use Rattle.std.proofs.Common.{rules}
 use Rattle.clap.specs.Words.{found_of, rows_of}
 use Rattle.wi_words.proofs.Names.{not_named}
 use Rattle.wi_words.proofs.reader.command_named.Goals as goal
@@ -27,7 +28,7 @@ pub returns-in-protect : goal.returns-in-protect
 returns-in-protect c = record { command = rw c.in-protect.is c.protect_of.ensures.command; fit = c.protect_of.ensures.fit }
 
 pub returns-in-packets : goal.returns-in-packets
-returns-in-packets c = record { command = rw c.in-packets.is c.packets_of.ensures.command; fit = c.packets_of.ensures.fit }
+returns-in-packets c = record { command = rw c.in-packets.is (search rules); fit = search rules }
 
 pub returns-in-stack : goal.returns-in-stack
 returns-in-stack c = record { command = rw c.in-stack.is c.stack_of.ensures.command; fit = c.stack_of.ensures.fit }

@@ -13,11 +13,9 @@ use Rattle.wi_cert.proofs.ReadingLemmas.{fed_append}
 use Rattle.wi_cert.proofs.SoundLemmas.{decoded_is_text}
 use Rattle.wi_cert.proofs.TellingLemmas.{bad_line}
 use Rattle.wi_cert.proofs.TreeSoundLemmas.{decoded_is_tree}
-use Rattle.wi_outcome.specs.declared.refusal.Refusal.{Refusal}
-use Rattle.wi_outcome.specs.declared.refusal.Refusal.TheVariants.{BadLine as BadCertificateLine, CannotRead, LargeCertificate, Memory}
+use Rattle.wi_outcome.specs.declared.refusal.Refusal.TheVariants.{BadLine as BadCertificateLine}
 use Rattle.wi_files.specs.Certificates.{FromLines, IsCertificateFile}
 use Rattle.wi_files.specs.Shelves.{IsCalm}
-use Rattle.wi_files.specs.private.Stages.{FromParts}
 
 -- bytes are the front of a file, or there is none and no byte came
 abbrev pub BeginsFile : Option (List ℕ) → List ℕ → Type 0
@@ -136,10 +134,3 @@ fed_text c shelf name feeder all finishes = (all.0, all.1, decoded_is_text c all
 -- or the tree
 pub fed_tree : (t : TreeCertificate) (shelf : ShelfSeen) (name : List ℕ) (feeder : Fed TreeSheet) → IsFedFile trees shelf name feeder → finished trees feeder ≡ Ok t → (bytes : List ℕ) × IsCertificateFile shelf name bytes × IsTreeText t bytes
 fed_tree t shelf name feeder all finishes = (all.0, all.1, decoded_is_tree t all.0 (subst (λ f. finished trees f ≡ Ok t) all.2 finishes))
-
--- what hinders the reading is the cause
-pub parts_refused : (IsBad : List ℕ → ℕ → Type 0) (old new : ShelfSeen) (name : List ℕ) (refusal : Refusal) → FromParts old new name refusal → FromLines IsBad old new name refusal
-parts_refused IsBad old new name (CannotRead named) cause = cause
-parts_refused IsBad old new name LargeCertificate cause = cause
-parts_refused IsBad old new name Memory cause = cause
-parts_refused IsBad old new name refusal cause = elim cause [ ]

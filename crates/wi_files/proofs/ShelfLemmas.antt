@@ -1,5 +1,5 @@
 -- What becomes of a shelf, step after step.
-use Rattle.std.proofs.Common.{◌≡◌, ◌≢◌, ℕ, Bool, true, false, List, Option, Some, Result, Ok, Err, refl, sym, ap, subst, ◌∙◌}
+use Rattle.std.proofs.Common.{◌≡◌, ◌≢◌, ℕ, Bool, true, false, List, Option, Some, Result, refl, sym, ap, subst, ◌∙◌}
 use Rattle.std.specs.Prelude.{IfErr}
 use Rattle.std.specs.Str.{bytes_eq}
 use Rattle.std.proofs.lemmas.Slice.Eq.{bytes_eq-Decides}
@@ -7,7 +7,6 @@ use mathlib.Core.Path.{fun_ext}
 use Rattle.wi_base.specs.declared.shelf.CallKind.{CallKind}
 use Rattle.wi_base.specs.Shelf.{ShelfSeen}
 use Rattle.wi_outcome.specs.declared.refusal.Refusal.{Refusal}
-use Rattle.wi_outcome.specs.declared.refusal.Refusal.TheVariants.{CannotWrite, CannotWriteBelow, NoMemoryBelow}
 use Rattle.wi_files.specs.Shelves.{AllStand, IsLeft, OthersStand, StandBut}
 
 -- what is seen of a shelf is what it tells, its files and its failed calls
@@ -34,17 +33,6 @@ others_later P old later new same stand = subst (λ s. StandBut P s new) same st
 
 pub left_later : {T : Type 0} (r : Result T Refusal) (old later new : ShelfSeen) → later ≡ old → IfErr r (λ refusal. IsLeft refusal later new) → IfErr r (λ refusal. IsLeft refusal old new)
 left_later r old later new same left = subst (λ s. IfErr r (λ refusal. IsLeft refusal s new)) same left
-
--- where every file stands, each but one does, whatever is refused
-pub left_all : (old new : ShelfSeen) (refusal : Refusal) → AllStand old new → IsLeft refusal old new
-left_all old new (CannotWrite name) stand = λ other _. stand other
-left_all old new (CannotWriteBelow name) stand = λ other _. stand other
-left_all old new (NoMemoryBelow name) stand = λ other _. stand other
-left_all old new refusal stand = stand
-
-pub all_left : {T : Type 0} (r : Result T Refusal) (old new : ShelfSeen) → AllStand old new → IfErr r (λ refusal. IsLeft refusal old new)
-all_left (Ok x) old new stand = tt
-all_left (Err refusal) old new stand = left_all old new refusal stand
 
 -- all stands but for the first
 pub only_first : (old between new : ShelfSeen) (name below : List ℕ) → OthersStand (Some name) old between → ((other : List ℕ) → other ≢ below → new.file other ≡ between.file other) → new.file below ≡ between.file below → OthersStand (Some name) old new

@@ -54,12 +54,17 @@ fn store_both<'a, S: Shelf>(
     ensures refused { IfErr result (AreUnstored (S.seen shelf.old) (S.seen shelf.new) (Some name.now) first.now (Some second.now)) }
 {
     let first = tree_bytes(alloc, first)?;
-    let stored = match tree_bytes(alloc, second) {
-        Ok(second) => store_bytes(alloc, first.as_slice(), second.as_slice(), name, shelf),
-        Err(refusal) => Err(refusal),
-    };
-    drop(first);
-    stored
+    match tree_bytes(alloc, second) {
+        Ok(second) => {
+            let stored = store_bytes(alloc, first.as_slice(), second.as_slice(), name, shelf);
+            drop((first, second));
+            stored
+        }
+        Err(refusal) => {
+            drop(first);
+            Err(refusal)
+        }
+    }
 }
 
 // Stores the texts of two trees.

@@ -70,16 +70,39 @@ fn query_of(alloc: Global, parts: Parts, number: &Name) -> Result<Query, QueryFa
         down,
         up,
     } = parts;
-    let first = compiled(alloc, 1, first)?;
-    let path = compiled(alloc, 2, path)?;
-    let last = compiled(alloc, 3, last)?;
-    let bounds = bounds_of(number, down, up)?;
-    Ok(Query {
-        first,
-        path,
-        last,
-        bounds,
-    })
+    let first = match compiled(alloc, 1, first) {
+        Ok(first) => first,
+        Err(fault) => {
+            drop((path, last, down, up));
+            return Err(fault);
+        }
+    };
+    let path = match compiled(alloc, 2, path) {
+        Ok(path) => path,
+        Err(fault) => {
+            drop((first, last, down, up));
+            return Err(fault);
+        }
+    };
+    let last = match compiled(alloc, 3, last) {
+        Ok(last) => last,
+        Err(fault) => {
+            drop((first, path, down, up));
+            return Err(fault);
+        }
+    };
+    match bounds_of(number, down, up) {
+        Ok(bounds) => Ok(Query {
+            first,
+            path,
+            last,
+            bounds,
+        }),
+        Err(fault) => {
+            drop((first, path, last));
+            Err(fault)
+        }
+    }
 }
 
 /// The query that a text is of a network.

@@ -4,8 +4,6 @@ use Rattle.std.specs.List.{find}
 use Rattle.std.specs.Str.Parse.{digits_value}
 use Rattle.wi_regex.specs.declared.regex.Regex.{Regex}
 use Rattle.wi_regex.specs.Matching.{position_count}
-use Rattle.wi_nfa.specs.Rows.{automaton_of}
-use Rattle.wi_nfa.specs.Automata.{IsPositionAutomaton}
 use Rattle.wi_net.specs.declared.parts.LinkId.{LinkId}
 use Rattle.wi_net.specs.declared.bounds.Bounds.{Bounds}
 use Rattle.wi_net.specs.LinkSet.{has}
@@ -14,7 +12,7 @@ use Rattle.wi_text.specs.Prefixes.{IsFaultAt}
 use Rattle.wi_syntax.specs.Names.{Named}
 use Rattle.wi_syntax.specs.Grammar.{IsQueryText}
 use Rattle.wi_syntax.specs.declared.written.Written.{Written}
-use Rattle.wi_query.specs.Sets.{SymbolMarks, holds, is_label_of, is_link_of}
+use Rattle.wi_query.specs.Sets.{SymbolMarks, is_label_of, is_link_of}
 use Rattle.wi_query.specs.Meaning.{AreSignsOf, HasAutomata, known_links}
 use Rattle.wi_query.specs.Faults.{is_large}
 use Rattle.wi_query.specs.declared.fault.QueryFault.{QueryFault}

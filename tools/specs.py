@@ -112,8 +112,8 @@ class Source:
             if not BLOCK.match(self.lines[at]):
                 at += 1
                 continue
-            end = at
-            while not (self.lines[end].startswith("}") or self.lines[end].rstrip().endswith("{}") or (end == at and self.lines[end].endswith(";"))):
+            end, is_value = at, re.match(r"^(?:pub(?:\([a-z]+\))? )?(?:const (?!fn)|type )", self.lines[at])
+            while not (self.lines[end].startswith("}") or self.lines[end].rstrip().endswith("{}") or ((end == at or is_value) and self.lines[end].endswith(";"))):
                 end += 1
             yield at, end
             at = end + 1
@@ -263,19 +263,40 @@ class World:
     def whole(self, key):
         return key if key[0] == "type" else self.definitions[key].key
 
-    def closure(self, roots, but=()):
-        """The definitions that are reached, each after the one that first names it. Lemmas are not gone into, nor are those
-        in `but`."""
+    def walk(self, roots, but=()):
+        """The keys of the definitions and types that are reached, each after the one that first names it. Lemmas are not gone
+        into, nor are those in `but`."""
         seen, found, left = set(but), [], [self.whole(key) for key in reversed(roots)]
         while left:
             key = left.pop()
             if key in seen or ".specs.lemmas." in key[0]:
                 continue
             seen.add(key)
-            if key[0] != "type":
-                found.append(self.definitions[key])
+            found.append(key)
             left += [self.whole(next) for next in reversed(self.of(key))]
         return found
+
+    def closure(self, roots, but=()):
+        """The definitions among them."""
+        return [self.definitions[key] for key in self.walk(roots, but) if key[0] != "type"]
+
+    def types(self, roots, but=()):
+        """The types of the code among them; a name of the code may also be a trait's."""
+        return [key for key in self.walk(roots, but) if key[0] == "type" and key[1:3] in self.sources and key[3] in self.sources[key[1:3]].types]
+
+    def of_kit(self, definition):
+        """What a definition names of the kit, each by its crate and its name, whichever module of that crate passes it on."""
+        module, code = self.modules[definition.module], definition.code
+        paths = [path for name, path in module.names.items() if "◌" in name and all(part in code for part in name.split("◌"))]
+        for token in TOKEN.findall(code):
+            first, *rest = token.split(".")
+            if first in module.names:
+                paths.append(module.names[first])
+            elif first in module.aliases and rest:
+                paths.append((module.aliases[first], rest[0]))
+            elif first == "Rattle" and len(rest) > 1:
+                paths.append((".".join([first] + rest[:-1]), rest[-1]))
+        return {(path.split(".")[1], name) for path, name in paths if path.startswith("Rattle.") and not path.startswith("Rattle.wi_")}
 
     def contract(self, crate, name):
         """What the contract of a public function names, or None where there is no such function."""

@@ -1,6 +1,7 @@
 -- Exact answers: what they show can be shown, and from the parts of both commands to the whole.
-use Rattle.std.proofs.Common.{◌≡◌, ◌⊎◌, ℕ, nat_eq, true, false, List, length, Option, Some, None, Result, Ok, Err, inl, inr, ap, refl, subst, ◌∙◌}
+use Rattle.std.proofs.Common.{◌≡◌, ◌⊎◌, ℕ, nat_eq, true, false, List, length, Option, Some, None, Result, Ok, Err, inl, inr, ap, refl, subst, sym, ◌∙◌}
 use Rattle.std.specs.Prelude.{option_map, IfErr, IfOk, IfSome, OnOk}
+use Rattle.wi_base.specs.declared.shelf.CallKind.TheVariants.{Store}
 use Rattle.wi_base.specs.Shelf.{ShelfSeen}
 use Rattle.wi_base.specs.declared.no_memory.NoMemory.{NoMemory}
 use Rattle.wi_net.specs.Net.{Net}
@@ -12,6 +13,7 @@ use Rattle.wi_world.specs.declared.answer.Verdict.TheVariants.{Fits, Exceeds, Us
 use Rattle.wi_world.specs.Holds.{Question, Weighing}
 use Rattle.wi_quantity.specs.Weighing.{components}
 use Rattle.wi_quantity.specs.declared.vector.Part.{Part}
+use Rattle.wi_query.specs.Meaning.{HasAutomata}
 use Rattle.wi_query.specs.declared.query.Query.{Query}
 use Rattle.wi_trace.specs.declared.answer.Answer.{Answer}
 use Rattle.wi_build.specs.Problems.{Problem, IsProblem, asks, problem_of, weighs}
@@ -30,14 +32,16 @@ use Rattle.wi_outcome.specs.declared.printed.Printed.{Printed}
 use Rattle.wi_outcome.specs.declared.refusal.Refusal.{Refusal}
 use Rattle.wi_outcome.specs.declared.refusal.Refusal.TheVariants.{CannotWrite, ManyNodes, Memory, NotAccepted, Overflow, TooLong, TreeNotWritten}
 use Rattle.wi_files.specs.Asked.{IsAsked}
-use Rattle.wi_files.specs.Certificates.{IsCertificateFile, IsTreeNotKept, IsTreeStored}
+use Rattle.wi_files.specs.Certificates.{IsCertificateFile, IsLarge, IsNamed, IsTreeNotKept, IsTreeStored}
 use Rattle.wi_files.specs.Networks.{HoldsNetwork}
 use Rattle.wi_files.specs.Shelves.{IsCalm}
+use Rattle.wi_files.proofs.Causes.{longer}
 use Rattle.wi_app.specs.Decided.{status_for}
 use Rattle.wi_app.specs.Exact.{EndsUnsplit, FromSplitting, FromTree, FromTreeStore, IsAcceptedTree, IsReportedExactly, IsShownExactly, IsTreeTooLarge}
 use Rattle.wi_app.specs.Run.{FromCommand, IsAnswered, MayEndExactly}
 use Rattle.wi_app.specs.private.Stages.{FromCheckingExactly, FromDeciding, IsTreeBelieved, IsTreeNotBelieved}
 use Rattle.wi_app.proofs.Answers.{start_known}
+use Rattle.wi_app.proofs.Asked.{asked_problem}
 
 -- ---- what an exact answer is like
 
@@ -90,16 +94,18 @@ shown_reported (Ok printed) problem file shelf answer t status nodes text is due
       ∙ ap (λ n. exact_report_of problem.net problem.bounds (length problem.vector) answer n) count;
 }
 
-tree_not_kept : (old new : ShelfSeen) (problem : Problem) (file : Option (List ℕ)) (answer : Answer) (t : TreeCertificate) (refusal : Refusal) → IsShownExactly problem answer t → IsTreeNotKept old new file t refusal → FromTreeStore file old new problem refusal
-tree_not_kept old new problem file answer t TreeNotWritten is cause = (cause.0, cause.1, record { answer = answer; tree = t; is = is; large = cause.2 })
-tree_not_kept old new problem file answer t (CannotWrite named) is cause = cause
-tree_not_kept old new problem file answer t Memory is cause = cause
-tree_not_kept old new problem file answer t refusal is cause = elim cause [ ]
+-- where the tree isn't stored, the store failed, or memory ran out, or it is too large
+pub tree_unkept_due : (old new : ShelfSeen) (file : Option (List ℕ)) (t : TreeCertificate) (refusal : Refusal) → IsCalm old new → IsTreeNotKept old new file t refusal
+    → (nat_eq (status_of refusal) 10 ≡ false) × ((status_of refusal ≡ 11) ⊎ ((status_of refusal ≡ 14) × IsNamed file × IsLarge t))
+tree_unkept_due old new file t TreeNotWritten calm cause = (refl, inr (refl, cause.1, cause.2))
+tree_unkept_due old new file t (CannotWrite named said) calm cause = absurd (longer old.failed (Store, named.now) (sym cause.2.1 ∙ calm))
+tree_unkept_due old new file t Memory calm cause = (refl, inl refl)
+tree_unkept_due old new file t refusal calm cause = elim cause [ ]
 
 pub shown_refused : (r : Result Printed Refusal) (old new : ShelfSeen) (problem : Problem) (file : Option (List ℕ)) (answer : Answer) (t : TreeCertificate) → IsShownExactly problem answer t
     → IfErr r (λ refusal. IsTreeNotKept old new file t refusal) → IfErr r (λ refusal. FromDeciding FromSplitting (FromTreeStore file) old new problem refusal)
 shown_refused (Ok printed) old new problem file answer t is cause = tt
-shown_refused (Err refusal) old new problem file answer t is cause = inr (tree_not_kept old new problem file answer t refusal is cause)
+shown_refused (Err refusal) old new problem file answer t is cause = inr (record { answer = answer; tree = t; is = is; unkept = cause })
 
 -- ---- check-exact
 
@@ -145,7 +151,7 @@ pub tree_file_not_believed : (r : Result Printed Refusal) (old new : ShelfSeen) 
 tree_file_not_believed (Ok printed) old new problem file bytes t is calm held reads cause = tt
 tree_file_not_believed (Err refusal) old new problem file bytes t is calm held reads cause = tree_not_believed old new problem file bytes t refusal is calm held reads cause
 
-pub tree_refused : (r : Result Printed Refusal) (old new : ShelfSeen) (net : Net) (text file : List ℕ) (weights : Option (List ℕ)) (query : Query) (vector : List (List Part)) → IsAsked net text weights query vector
+pub tree_refused : (r : Result Printed Refusal) (old new : ShelfSeen) (net : Net) (text file : List ℕ) (weights : Option (List ℕ)) (query : Query) (vector : List (List Part)) → IsAsked net text weights query vector → HasAutomata query
     → IfErr r (λ refusal. FromTree old new (problem_of net query vector) file refusal) → IfErr r (λ refusal. FromCheckingExactly old new net text file weights refusal)
-tree_refused (Ok printed) old new net text file weights query vector asked cause = tt
-tree_refused (Err refusal) old new net text file weights query vector asked cause = inr (query, vector, asked, cause)
+tree_refused (Ok printed) old new net text file weights query vector asked automata cause = tt
+tree_refused (Err refusal) old new net text file weights query vector asked automata cause = inr (query, vector, asked, asked_problem net text weights query vector asked automata, cause)

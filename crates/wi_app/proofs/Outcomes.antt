@@ -1,5 +1,5 @@
 -- From what is found to what the program does.
-use Rattle.std.proofs.Common.{◌≡◌, ◌≢◌, ℕ, ◌<◌, ◌≤◌, nat_eq, ◌⊎◌, inl, inr, true, false, List, length, Option, Some, None, Result, Ok, Err, refl, sym, subst, ◌∙◌, arith}
+use Rattle.std.proofs.Common.{◌≡◌, ℕ, ◌<◌, nat_eq, ◌⊎◌, inl, inr, true, false, List, length, Option, Some, None, Result, Ok, Err, refl, sym, subst, ◌∙◌, arith}
 use Rattle.std.specs.Prelude.{codes, IfOk, IfErr, OnOk}
 use Rattle.wi_base.specs.declared.shelf.CallKind.TheVariants.{Fetch, Store}
 use Rattle.wi_base.specs.declared.no_memory.NoMemory.{NoMemory}
@@ -10,7 +10,7 @@ use Rattle.wi_netjson.specs.Reading.{Fails}
 use Rattle.wi_netjson.specs.declared.fault.NetFault.{NetFault}
 use Rattle.wi_netjson.specs.declared.fault.NetFault.TheVariants as fault
 use Rattle.wi_world.specs.declared.world.State.{State}
-use Rattle.wi_query.specs.Meaning.{IsQuery}
+use Rattle.wi_query.specs.Meaning.{HasAutomata, IsQuery}
 use Rattle.wi_query.specs.declared.query.Query.{Query}
 use Rattle.wi_query.proofs.Fine.{query_fine}
 use Rattle.wi_query.specs.declared.fault.QueryFault.{QueryFault}
@@ -32,17 +32,16 @@ use Rattle.wi_build.specs.Problems.{Problem, IsProblem, problem_of}
 use Rattle.wi_cert.specs.declared.certificate.Certificate.{Certificate}
 use Rattle.wi_cert.specs.declared.check_refused.CheckRefused.{CheckRefused}
 use Rattle.wi_cert.specs.Sheets.{certificates}
-use Rattle.wi_cert.specs.Text.{IsText, IsBadLine}
+use Rattle.wi_cert.specs.Text.{IsText, IsBadLine, closed_text}
 use Rattle.wi_cert.proofs.TextLemmas.{one_text, text_is_decoded}
 use Rattle.wi_cert.proofs.TellingLemmas.{bad_line_told}
 use Rattle.wi_cert.proofs.TreeCompleteLemmas.{one_tree, tree_is_decoded}
 use Rattle.wi_cert.specs.declared.tree.TreeCertificate.{TreeCertificate}
 use Rattle.wi_cert.specs.Trees.{IsTreeText, trees}
-use Rattle.wi_accept.specs.Answers.{IsDecided, word_of}
+use Rattle.wi_accept.specs.Answers.{word_of}
 use Rattle.wi_accept.specs.Causes.{IsAccepted, IsCause}
 use Rattle.wi_accept.specs.Trees.{IsTreeAccepted, IsTreeCause}
 use Rattle.wi_accept.proofs.OneReading.{accept_the_same, accept_trees_the_same}
-use Rattle.wi_decide.specs.Refusals.{IsUnrefused}
 use Rattle.wi_gen.specs.Ring.{net_of, ring_of}
 use Rattle.wi_gen.specs.Texts.{query_text, weights_text}
 use Rattle.wi_report.specs.Reports.{accepted_text}
@@ -54,24 +53,25 @@ use Rattle.wi_outcome.specs.Edges.{Prints, Says, SaysWhy, kept}
 use Rattle.wi_outcome.specs.Texts.{status_of, text_of}
 use Rattle.wi_outcome.specs.declared.printed.Printed.{Printed}
 use Rattle.wi_outcome.specs.declared.refusal.Refusal.{Refusal}
-use Rattle.wi_outcome.specs.declared.refusal.Refusal.TheVariants.{BadLine as BadCertificateLine, BadStack, CannotRead, CannotWrite, LargeCertificate, LongScript, Memory, Network, NotAccepted, NotHex, NotWritten, Overflow, Query as BadQuery, Script, TooLong, TreeNotWritten, Weights as BadWeights}
+use Rattle.wi_outcome.specs.declared.refusal.Refusal.TheVariants.{BadLine as BadCertificateLine, BadStack, CannotRead, CannotWrite, LargeCertificate, LongScript, Memory, Network, NotAccepted, NotHex, NotWritten, Overflow, Query as BadQuery, Script, TooLong, Weights as BadWeights}
 use Rattle.wi_files.specs.Asked.{AreBadTexts, IsAsked, IsBadQuery, IsBadWeights, WeighsBy}
-use Rattle.wi_files.specs.Certificates.{FromLines, IsCertificateFile, IsKept, IsNotKept}
+use Rattle.wi_files.specs.Certificates.{FromLines, IsCertificateFile, IsKept, IsNamed, IsNotKept}
 use Rattle.wi_files.specs.Networks.{FileHasFault, FromNetwork, HoldsNetwork}
 use Rattle.wi_files.specs.OnWire.{FromHex, IsHex, IsRefusedStack, ShowsNoStack}
 use Rattle.wi_files.specs.Scripts.{FromScript, IsBadScript, IsPlay}
 use Rattle.wi_files.specs.Shelves.{AllStand, IsCalm, OthersStand}
 use Rattle.wi_files.proofs.Causes.{longer}
 use Rattle.wi_app.specs.Asked.{ForAsked, FromAsked}
-use Rattle.wi_app.specs.Certificates.{FromCertificate, FromFile, FromStore, IsAcceptedText, IsCertificate, IsStored}
+use Rattle.wi_app.specs.Certificates.{FromCertificate, FromFile, FromStore, IsAcceptedText, IsCertificate, IsCertified, IsStored}
 use Rattle.wi_app.specs.Decided.{FromDecision, IsReported, packets_in, report_in, status_for}
 use Rattle.wi_app.specs.Exact.{FromSplitting, FromTree, FromTreeStore, IsAcceptedTree}
 use Rattle.wi_app.specs.Generated.{FromRing, IsSummary, IsSummed}
-use Rattle.wi_app.specs.Run.{AreAnswered, CanBeAnswered, CanBeAsked, Completes, ForTexts, FromAsking, FromCommand, FromWords, IsAnswered, IsStatus}
+use Rattle.wi_app.specs.Run.{AreAnswered, CanBeAnswered, CanBeAsked, Completes, ForTexts, FromAsking, FromCommand, FromWords, IsAnswered, IsStatus, TellsFor}
 use Rattle.wi_app.specs.Tolerance.{FromTolerating, FromTreesStore}
 use Rattle.wi_app.specs.private.Stages.{FromAnswering, FromChecking, FromDeciding, IsBelieved, IsNotBelieved}
 use Rattle.wi_app.proofs.Answers.{answer_ends}
-use Rattle.wi_app.proofs.Exactly.{exact_answer_ends, unsplit_due}
+use Rattle.wi_app.proofs.Asked.{asked_problem}
+use Rattle.wi_app.proofs.Exactly.{exact_answer_ends, tree_unkept_due, unsplit_due}
 use Rattle.wi_app.proofs.Protecting.{plan_due}
 use Rattle.wi_app.proofs.Tolerating.{tolerance_ends, trees_due, untold_due}
 
@@ -99,18 +99,19 @@ asking_refused (Err refusal) U V old later new name query weights net same holds
 ]
 
 -- what texts ask is answered, or the answer is refused
-pub asked_told : (r : Result Printed Refusal) (P : Problem → ℕ → List ℕ → Type 0) (net : Net) (text : List ℕ) (weights : Option (List ℕ)) (query : Query) (vector : List (List Part)) → IsAsked net text weights query vector
+pub asked_told : (r : Result Printed Refusal) (P : Problem → ℕ → List ℕ → Type 0) (net : Net) (text : List ℕ) (weights : Option (List ℕ)) (query : Query) (vector : List (List Part)) → IsAsked net text weights query vector → HasAutomata query
     → IfOk r (λ printed. P (problem_of net query vector) printed.status printed.text) → IfOk r (λ printed. ForAsked net text weights (λ problem. P problem printed.status printed.text))
-asked_told (Ok printed) P net text weights query vector asked told = (query, vector, asked, told)
-asked_told (Err refusal) P net text weights query vector asked told = tt
+asked_told (Ok printed) P net text weights query vector asked automata told = (query, vector, asked, asked_problem net text weights query vector asked automata, told)
+asked_told (Err refusal) P net text weights query vector asked automata told = tt
 
 pub asked_refused : {T : Type 0} (r : Result T Refusal) (U : Problem → Refusal → Type 0) (V : ShelfSeen → ShelfSeen → Problem → Refusal → Type 0) (old new : ShelfSeen) (net : Net) (text : List ℕ) (weights : Option (List ℕ)) (query : Query)
-    (vector : List (List Part)) → IsAsked net text weights query vector → IfErr r (λ refusal. FromDeciding U V old new (problem_of net query vector) refusal) → IfErr r (λ refusal. FromAnswering U V old new net text weights refusal)
-asked_refused (Ok x) U V old new net text weights query vector asked cause = tt
-asked_refused (Err refusal) U V old new net text weights query vector asked cause = elim cause [
-  | inl early ↦ inl (inr (query, vector, asked, early.0), early.1)
-  | inr store ↦ inr (query, vector, asked, store)
-]
+    (vector : List (List Part)) → IsAsked net text weights query vector → HasAutomata query
+    → IfErr r (λ refusal. FromDeciding U V old new (problem_of net query vector) refusal) → IfErr r (λ refusal. FromAnswering U V old new net text weights refusal)
+asked_refused (Ok x) U V old new net text weights query vector asked automata cause = tt
+asked_refused (Err refusal) U V old new net text weights query vector asked automata cause = let is = asked_problem net text weights query vector asked automata in (elim cause [
+  | inl early ↦ inl (inr (query, vector, asked, is, early.0), early.1)
+  | inr store ↦ inr (query, vector, asked, is, store)
+])
 
 -- ---- verify
 
@@ -120,45 +121,38 @@ kept_stored None shelf problem answer c is kept = tt
 kept_stored (Some name) shelf problem answer c is kept = (kept.0, record { certificate = c; is = is; text = kept.1; short = kept.2 }, kept.3)
 
 pub decided_reported : (r : Result Printed Refusal) (prints : Problem → Answer → List ℕ) (problem : Problem) (file : Option (List ℕ)) (shelf : ShelfSeen) (answer : Answer) (c : Certificate) (status : ℕ) (text : Result (List ℕ) NoMemory)
-    → IsDecided problem answer → IsUnrefused problem answer → IsCertificate problem answer c → status ≡ status_for answer.word → IfOk text (λ t. t ≡ prints problem answer)
+    → IsCertified problem answer c → status ≡ status_for answer.word → IfOk text (λ t. t ≡ prints problem answer)
     → IfOk r (λ printed. printed.status ≡ status) → IfOk r (λ printed. text ≡ Ok printed.text) → IfOk r (λ _. IsKept file shelf c) → IfOk r (λ printed. IsReported prints problem file shelf printed.status printed.text)
-decided_reported (Err refusal) prints problem file shelf answer c status text holds shown is due told same made kept = tt
-decided_reported (Ok printed) prints problem file shelf answer c status text holds shown is due told same made kept = record {
+decided_reported (Err refusal) prints problem file shelf answer c status text is due told same made kept = tt
+decided_reported (Ok printed) prints problem file shelf answer c status text is due told same made kept = record {
   answer = answer;
-  holds = holds;
-  shown = shown;
-  stored = kept_stored file shelf problem answer c is kept;
+  holds = is.holds;
+  shown = is.shown;
+  stored = kept_stored file shelf problem answer c is.is kept;
   status_is = same ∙ due;
   text_is = subst (λ (t : Result (List ℕ) NoMemory). IfOk t (λ t. t ≡ prints problem answer)) made told;
 }
 
-not_kept : (old new : ShelfSeen) (problem : Problem) (file : Option (List ℕ)) (answer : Answer) (c : Certificate) (refusal : Refusal) → IsDecided problem answer → IsCertificate problem answer c → IsNotKept old new file c refusal
-    → FromStore file old new problem refusal
-not_kept old new problem file answer c NotWritten holds is cause = (cause.0, cause.1, record { answer = answer; holds = holds; certificate = c; is = is; long = cause.2 })
-not_kept old new problem file answer c (CannotWrite named) holds is cause = cause
-not_kept old new problem file answer c Memory holds is cause = cause
-not_kept old new problem file answer c refusal holds is cause = elim cause [ ]
-
-pub decided_refused : (r : Result Printed Refusal) (old new : ShelfSeen) (problem : Problem) (file : Option (List ℕ)) (answer : Answer) (c : Certificate) → IsDecided problem answer → IsCertificate problem answer c
+pub decided_refused : (r : Result Printed Refusal) (old new : ShelfSeen) (problem : Problem) (file : Option (List ℕ)) (answer : Answer) (c : Certificate) → IsCertified problem answer c
     → IfErr r (λ refusal. IsNotKept old new file c refusal) → IfErr r (λ refusal. FromDeciding FromDecision (FromStore file) old new problem refusal)
-decided_refused (Ok printed) old new problem file answer c holds is cause = tt
-decided_refused (Err refusal) old new problem file answer c holds is cause = inr (not_kept old new problem file answer c refusal holds is cause)
+decided_refused (Ok printed) old new problem file answer c is cause = tt
+decided_refused (Err refusal) old new problem file answer c is cause = inr (record { answer = answer; certificate = c; is = is; unkept = cause })
 
 -- ---- packets
 
 -- where there is no name to store under, no store is refused
-unstored : (old new : ShelfSeen) (name query : List ℕ) (weights : Option (List ℕ)) (problem : Problem) (refusal : Refusal) → FromStore None old new problem refusal → FromCommand old new (Packets name query weights) refusal
-unstored old new name query weights problem NotWritten cause = let none : None ≡ Some cause.1.0 = cause.1.1 in cc
-unstored old new name query weights problem (CannotWrite named) cause = let none : None ≡ Some named.now = cause.0 in cc
-unstored old new name query weights problem Memory cause = inl cause
-unstored old new name query weights problem refusal cause = elim cause [ ]
+unstored : (old new : ShelfSeen) (name query : List ℕ) (weights : Option (List ℕ)) (c : Certificate) (refusal : Refusal) → IsNotKept old new None c refusal → FromCommand old new (Packets name query weights) refusal
+unstored old new name query weights c NotWritten cause = let none : None ≡ Some cause.1.0 = cause.1.1 in cc
+unstored old new name query weights c (CannotWrite named said) cause = let none : None ≡ Some named.now = cause.0 in cc
+unstored old new name query weights c Memory cause = inl cause
+unstored old new name query weights c refusal cause = elim cause [ ]
 
 pub packets_refused : (r : Result Printed Refusal) (old later new : ShelfSeen) (name query : List ℕ) (weights : Option (List ℕ)) (net : Net) → later ≡ old → (old.told ≡ true → HoldsNetwork (old.file name) net)
     → IfErr r (λ refusal. FromAnswering FromDecision (FromStore None) later new net query weights refusal) → IfErr r (λ refusal. FromCommand old new (Packets name query weights) refusal)
 packets_refused (Ok printed) old later new name query weights net same holds cause = tt
 packets_refused (Err refusal) old later new name query weights net same holds cause = elim (subst (λ (s : ShelfSeen). FromAnswering FromDecision (FromStore None) s new net query weights refusal) same cause) [
   | inl texts ↦ inr (net, holds, texts.0, texts.1)
-  | inr store ↦ unstored old new name query weights (problem_of net store.0 store.1) refusal store.3
+  | inr store ↦ unstored old new name query weights (store.4).certificate refusal (store.4).unkept
 ]
 
 -- where each file stands but that of no name, all do
@@ -213,10 +207,10 @@ pub file_not_believed : (r : Result Printed Refusal) (old new : ShelfSeen) (prob
 file_not_believed (Ok printed) old new problem file bytes c is calm held reads cause = tt
 file_not_believed (Err refusal) old new problem file bytes c is calm held reads cause = not_believed old new problem file bytes c refusal is calm held reads cause
 
-pub certificate_refused : (r : Result Printed Refusal) (old new : ShelfSeen) (net : Net) (text file : List ℕ) (weights : Option (List ℕ)) (query : Query) (vector : List (List Part)) → IsAsked net text weights query vector
+pub certificate_refused : (r : Result Printed Refusal) (old new : ShelfSeen) (net : Net) (text file : List ℕ) (weights : Option (List ℕ)) (query : Query) (vector : List (List Part)) → IsAsked net text weights query vector → HasAutomata query
     → IfErr r (λ refusal. FromCertificate old new (problem_of net query vector) file refusal) → IfErr r (λ refusal. FromChecking old new net text file weights refusal)
-certificate_refused (Ok printed) old new net text file weights query vector asked cause = tt
-certificate_refused (Err refusal) old new net text file weights query vector asked cause = inr (query, vector, asked, cause)
+certificate_refused (Ok printed) old new net text file weights query vector asked automata cause = tt
+certificate_refused (Err refusal) old new net text file weights query vector asked automata cause = inr (query, vector, asked, asked_problem net text weights query vector asked automata, cause)
 
 -- ---- gen
 
@@ -229,24 +223,26 @@ asked_of_ring seed size net text weights query vector own same light asked =
 
 -- a problem that they ask is summed
 pub ring_summed : (r : Result Printed Refusal) (seed size : ℕ) (net : Net) (text weights : List ℕ) (query : Query) (vector : List (List Part)) → net ≡ net_of (ring_of seed size) → text ≡ query_text (ring_of seed size) → weights ≡ weights_text
-    → IsAsked net text (Some weights) query vector → IfOk r (λ printed. IsSummed seed size (problem_of net query vector) printed.text) → IfOk r (λ printed. IsSummary seed size printed.text)
-ring_summed (Ok printed) seed size net text weights query vector own same light asked summed =
-    (query, vector, asked_of_ring seed size net text weights query vector own same light asked, subst (λ n. IsSummed seed size (problem_of n query vector) printed.text) own summed)
-ring_summed (Err refusal) seed size net text weights query vector own same light asked summed = tt
+    → IsAsked net text (Some weights) query vector → HasAutomata query → IfOk r (λ printed. IsSummed seed size (problem_of net query vector) printed.text) → IfOk r (λ printed. IsSummary seed size printed.text)
+ring_summed (Ok printed) seed size net text weights query vector own same light asked automata summed =
+    let here = asked_of_ring seed size net text weights query vector own same light asked in
+    (query, vector, here, asked_problem _ _ _ query vector here automata, subst (λ n. IsSummed seed size (problem_of n query vector) printed.text) own summed)
+ring_summed (Err refusal) seed size net text weights query vector own same light asked automata summed = tt
 
 -- or isn't decided
 from_ring : (seed size : ℕ) (query : Query) (vector : List (List Part)) (refusal : Refusal) → IsAsked (net_of (ring_of seed size)) (query_text (ring_of seed size)) (Some weights_text) query vector
-    → FromDecision (problem_of (net_of (ring_of seed size)) query vector) refusal → FromRing seed size refusal
-from_ring seed size query vector (Overflow w terms) asked cause = (query, vector, asked, cause)
-from_ring seed size query vector (TooLong effort) asked cause = (query, vector, asked, cause)
-from_ring seed size query vector Memory asked cause = tt
-from_ring seed size query vector refusal asked cause = elim cause [ ]
+    → IsProblem (problem_of (net_of (ring_of seed size)) query vector) → FromDecision (problem_of (net_of (ring_of seed size)) query vector) refusal → FromRing seed size refusal
+from_ring seed size query vector (Overflow w terms) asked is cause = (query, vector, asked, is, cause)
+from_ring seed size query vector (TooLong effort) asked is cause = (query, vector, asked, is, cause)
+from_ring seed size query vector Memory asked is cause = tt
+from_ring seed size query vector refusal asked is cause = elim cause [ ]
 
 pub ring_refused : (r : Result Printed Refusal) (seed size : ℕ) (net : Net) (text weights : List ℕ) (query : Query) (vector : List (List Part)) → net ≡ net_of (ring_of seed size) → text ≡ query_text (ring_of seed size) → weights ≡ weights_text
-    → IsAsked net text (Some weights) query vector → IfErr r (λ refusal. FromDecision (problem_of net query vector) refusal) → IfErr r (λ refusal. FromRing seed size refusal)
-ring_refused (Ok printed) seed size net text weights query vector own same light asked cause = tt
-ring_refused (Err refusal) seed size net text weights query vector own same light asked cause =
-    from_ring seed size query vector refusal (asked_of_ring seed size net text weights query vector own same light asked) (subst (λ n. FromDecision (problem_of n query vector) refusal) own cause)
+    → IsAsked net text (Some weights) query vector → HasAutomata query → IfErr r (λ refusal. FromDecision (problem_of net query vector) refusal) → IfErr r (λ refusal. FromRing seed size refusal)
+ring_refused (Ok printed) seed size net text weights query vector own same light asked automata cause = tt
+ring_refused (Err refusal) seed size net text weights query vector own same light asked automata cause =
+    let here = asked_of_ring seed size net text weights query vector own same light asked in
+    from_ring seed size query vector refusal here (asked_problem _ _ _ query vector here automata) (subst (λ n. FromDecision (problem_of n query vector) refusal) own cause)
 
 -- texts without a fault are the cause of nothing but want of memory
 fine_query : (net : Net) (text : List ℕ) (refusal : Refusal) → ((fault : QueryFault) → IsQueryFault net text fault → fault ≡ query_fault.Memory) → IsBadQuery net text refusal → refusal ≡ Memory
@@ -281,10 +277,10 @@ ring_is_read seed size net text weights refusal own same light query fine bad =
     subst (FromRing seed size) (sym wants) tt
 
 -- a decided problem is summed, once its certificate is accepted
-pub decided_summed : (r : Result Printed Refusal) (seed size : ℕ) (problem : Problem) (answer : Answer) (c : Certificate) → IsDecided problem answer → IsUnrefused problem answer → IsCertificate problem answer c
+pub decided_summed : (r : Result Printed Refusal) (seed size : ℕ) (problem : Problem) (answer : Answer) (c : Certificate) → IsCertified problem answer c
     → IfOk r (λ printed. printed.text ≡ summary_of seed size problem.net problem.bounds (length problem.vector) answer) → IfOk r (λ printed. IsSummed seed size problem printed.text)
-decided_summed (Ok printed) seed size problem answer c holds shown is text = record { answer = answer; holds = holds; shown = shown; certificate = c; is = is; text_is = text }
-decided_summed (Err refusal) seed size problem answer c holds shown is text = tt
+decided_summed (Ok printed) seed size problem answer c is text = record { answer = answer; certificate = c; is = is; text_is = text }
+decided_summed (Err refusal) seed size problem answer c is text = tt
 
 -- the certificate of a decided problem is accepted, so only memory can be wanting
 pub decided_believed : (r : Result Printed Refusal) (problem : Problem) (c : Certificate) → IsAccepted problem c → IfErr r (λ refusal. IsNotBelieved problem c refusal) → IfErr r (λ refusal. FromDecision problem refusal)
@@ -346,11 +342,10 @@ said text status old new result other calm s = elim s [
 said_why : (refusal : Refusal) (old new : SinkSeen) (result : ℕ) → nat_eq (status_of refusal) 10 ≡ false → new.faults ≡ old.faults → SaysWhy refusal old new result → (result ≡ status_of refusal) ⊎ (result ≡ 11)
 said_why refusal old new result other calm s = elim s [
   | inl own ↦ said (text_of refusal) (status_of refusal) old new result other calm own
-  | inr want ↦ (let at : Says (codes "whatif: out of memory\n") 11 old new result = subst (λ n. Says (codes "whatif: out of memory\n") n old new result) (kept_is (status_of refusal) other) want.1 in
-      elim (said (codes "whatif: out of memory\n") 11 old new result refl calm at) [
-        | inl e ↦ inr e
-        | inr e ↦ inr e
-      ])
+  | inr want ↦ (elim (said (codes "whatif: out of memory\n") 11 old new result refl calm want.1) [
+    | inl e ↦ inr e
+    | inr e ↦ inr e
+  ])
 ]
 
 -- a network's file has no fault
@@ -359,7 +354,7 @@ no_fault_in None net why h has = elim h [ ]
 no_fault_in (Some bytes) net why h has = fails_not why net (subst (λ (x : Result Net NetFault). Fails why x) h has)
 
 network_wants : (old new : ShelfSeen) (name : List ℕ) (refusal : Refusal) (net : Net) → old.told ≡ true → HoldsNetwork (old.file name) net → IsCalm old new → FromNetwork old new name refusal → status_of refusal ≡ 11
-network_wants old new name (CannotRead named) net t h calm cause = absurd (longer old.failed (Fetch, name) (sym cause.1 ∙ calm))
+network_wants old new name (CannotRead said) net t h calm cause = absurd (longer old.failed (Fetch, name) (sym cause.1 ∙ calm))
 network_wants old new name (Network f) net t h calm cause = subst (λ (x : NetFault). status_of (Network x) ≡ 11) (sym (no_fault_in (old.file name) net f h (cause.1 t))) refl
 network_wants old new name Memory net t h calm cause = refl
 network_wants old new name refusal net t h calm cause = elim cause [ ]
@@ -395,56 +390,69 @@ texts_want net text given query vector refusal asked (inr bad) = vector_wants gi
 
 -- a problem that isn't decided ends with its refusal
 decision_ends : (held : ShelfSeen) (name text : List ℕ) (given file : Option (List ℕ)) (net : Net) (query : Query) (vector : List (List Part)) (refusal : Refusal) → HoldsNetwork (held.file name) net → IsAsked net text given query vector
-    → FromDecision (problem_of net query vector) refusal → Ends held (Verify name text given file) refusal
-decision_ends held name text given file net query vector (Overflow w terms) holds asked cause = (refl, inr (net, holds, (query, vector, asked, inr (inr (inr (inl (inl (refl, (components w, cause.0)))))))))
-decision_ends held name text given file net query vector (TooLong effort) holds asked cause = (refl, inr (net, holds, (query, vector, asked, inr (inr (inr (inl (inr (refl, (effort, cause)))))))))
-decision_ends held name text given file net query vector Memory holds asked cause = (refl, inl refl)
-decision_ends held name text given file net query vector refusal holds asked cause = elim cause [ ]
+    → IsProblem (problem_of net query vector) → FromDecision (problem_of net query vector) refusal → Ends held (Verify name text given file) refusal
+decision_ends held name text given file net query vector (Overflow w terms) holds asked is cause = (refl, inr (net, holds, (query, vector, asked, is, inr (inr (inr (inl (inl (refl, (components w, cause.0)))))))))
+decision_ends held name text given file net query vector (TooLong effort) holds asked is cause = (refl, inr (net, holds, (query, vector, asked, is, inr (inr (inr (inl (inr (refl, (effort, cause)))))))))
+decision_ends held name text given file net query vector Memory holds asked is cause = (refl, inl refl)
+decision_ends held name text given file net query vector refusal holds asked is cause = elim cause [ ]
 
--- and so does one whose certificate isn't stored
+-- and so does one whose certificate isn't stored: unless the store failed, or memory ran out, it is too long
+unkept_due : (old new : ShelfSeen) (file : Option (List ℕ)) (c : Certificate) (refusal : Refusal) → IsCalm old new → IsNotKept old new file c refusal
+    → (nat_eq (status_of refusal) 10 ≡ false) × ((status_of refusal ≡ 11) ⊎ ((status_of refusal ≡ 14) × IsNamed file × (268000000 < length (closed_text c))))
+unkept_due old new file c NotWritten calm cause = (refl, inr (refl, cause.1, cause.2))
+unkept_due old new file c (CannotWrite named said) calm cause = absurd (longer old.failed (Store, named.now) (sym cause.2.1 ∙ calm))
+unkept_due old new file c Memory calm cause = (refl, inl refl)
+unkept_due old new file c refusal calm cause = elim cause [ ]
+
 store_ends : (old new : ShelfSeen) (name text : List ℕ) (given file : Option (List ℕ)) (net : Net) (query : Query) (vector : List (List Part)) (refusal : Refusal) → HoldsNetwork (old.file name) net → IsAsked net text given query vector
-    → IsCalm old new → FromStore file old new (problem_of net query vector) refusal → Ends old (Verify name text given file) refusal
-store_ends old new name text given file net query vector NotWritten holds asked calm cause = (refl, inr (net, holds, (query, vector, asked, inr (inr (inr (inr (refl, cause.1, cause.2)))))))
-store_ends old new name text given file net query vector (CannotWrite named) holds asked calm cause = absurd (longer old.failed (Store, named.now) (sym cause.1 ∙ calm))
-store_ends old new name text given file net query vector Memory holds asked calm cause = (refl, inl refl)
-store_ends old new name text given file net query vector refusal holds asked calm cause = elim cause [ ]
-
--- an exact answer that can't be shown ends with its refusal, and so does one whose tree isn't stored
-unsplit_ends : (held : ShelfSeen) (name text : List ℕ) (given file : Option (List ℕ)) (net : Net) (query : Query) (vector : List (List Part)) (refusal : Refusal) → HoldsNetwork (held.file name) net → IsAsked net text given query vector
-    → FromSplitting (problem_of net query vector) refusal → Ends held (Exact name text given file) refusal
-unsplit_ends held name text given file net query vector refusal holds asked cause = let due = unsplit_due (problem_of net query vector) refusal cause in (
+    → IsProblem (problem_of net query vector) → IsCalm old new → FromStore file old new (problem_of net query vector) refusal → Ends old (Verify name text given file) refusal
+store_ends old new name text given file net query vector refusal holds asked is calm cause = let due = unkept_due old new file cause.certificate refusal calm cause.unkept in (
   due.0,
   elim due.1 [
     | inl want ↦ inl want
-    | inr ends ↦ inr (net, holds, (query, vector, asked, inr (inr (inl ends))))
+    | inr large ↦ inr (net, holds, (query, vector, asked, is, inr (inr (inr (inr (large.0, large.1, record { answer = cause.answer; certificate = cause.certificate; is = cause.is; long = large.2 }))))))
+  ],
+)
+
+-- an exact answer that can't be shown ends with its refusal, and so does one whose tree isn't stored
+unsplit_ends : (held : ShelfSeen) (name text : List ℕ) (given file : Option (List ℕ)) (net : Net) (query : Query) (vector : List (List Part)) (refusal : Refusal) → HoldsNetwork (held.file name) net → IsAsked net text given query vector
+    → IsProblem (problem_of net query vector) → FromSplitting (problem_of net query vector) refusal → Ends held (Exact name text given file) refusal
+unsplit_ends held name text given file net query vector refusal holds asked is cause = let due = unsplit_due (problem_of net query vector) refusal cause in (
+  due.0,
+  elim due.1 [
+    | inl want ↦ inl want
+    | inr ends ↦ inr (net, holds, (query, vector, asked, is, inr (inr (inl ends))))
   ],
 )
 
 tree_store_ends : (old new : ShelfSeen) (name text : List ℕ) (given file : Option (List ℕ)) (net : Net) (query : Query) (vector : List (List Part)) (refusal : Refusal) → HoldsNetwork (old.file name) net → IsAsked net text given query vector
-    → IsCalm old new → FromTreeStore file old new (problem_of net query vector) refusal → Ends old (Exact name text given file) refusal
-tree_store_ends old new name text given file net query vector TreeNotWritten holds asked calm cause = (refl, inr (net, holds, (query, vector, asked, inr (inr (inr (refl, cause.1, cause.2))))))
-tree_store_ends old new name text given file net query vector (CannotWrite named) holds asked calm cause = absurd (longer old.failed (Store, named.now) (sym cause.1 ∙ calm))
-tree_store_ends old new name text given file net query vector Memory holds asked calm cause = (refl, inl refl)
-tree_store_ends old new name text given file net query vector refusal holds asked calm cause = elim cause [ ]
-
--- where it can't be told how many failures it takes, and where the trees aren't stored that tell it
-untold_ends : (held : ShelfSeen) (name text : List ℕ) (most : ℕ) (given file : Option (List ℕ)) (net : Net) (query : Query) (vector : List (List Part)) (refusal : Refusal) → HoldsNetwork (held.file name) net → IsAsked net text given query vector
-    → FromTolerating most (problem_of net query vector) refusal → Ends held (Tolerate name text most given file) refusal
-untold_ends held name text most given file net query vector refusal holds asked cause = let due = untold_due most (problem_of net query vector) refusal cause in (
+    → IsProblem (problem_of net query vector) → IsCalm old new → FromTreeStore file old new (problem_of net query vector) refusal → Ends old (Exact name text given file) refusal
+tree_store_ends old new name text given file net query vector refusal holds asked is calm cause = let due = tree_unkept_due old new file cause.tree refusal calm cause.unkept in (
   due.0,
   elim due.1 [
     | inl want ↦ inl want
-    | inr ends ↦ inr (net, holds, (query, vector, asked, inr (inr (inl ends))))
+    | inr large ↦ inr (net, holds, (query, vector, asked, is, inr (inr (inr (large.0, large.1, record { answer = cause.answer; tree = cause.tree; is = cause.is; large = large.2 })))))
+  ],
+)
+
+-- where it can't be told how many failures it takes, and where the trees aren't stored that tell it
+untold_ends : (held : ShelfSeen) (name text : List ℕ) (most : ℕ) (given file : Option (List ℕ)) (net : Net) (query : Query) (vector : List (List Part)) (refusal : Refusal) → HoldsNetwork (held.file name) net → IsAsked net text given query vector
+    → IsProblem (problem_of net query vector) → FromTolerating most (problem_of net query vector) refusal → Ends held (Tolerate name text most given file) refusal
+untold_ends held name text most given file net query vector refusal holds asked is cause = let due = untold_due most (problem_of net query vector) refusal cause in (
+  due.0,
+  elim due.1 [
+    | inl want ↦ inl want
+    | inr ends ↦ inr (net, holds, (query, vector, asked, is, inr (inr (inl ends))))
   ],
 )
 
 trees_store_ends : (old new : ShelfSeen) (name text : List ℕ) (most : ℕ) (given file : Option (List ℕ)) (net : Net) (query : Query) (vector : List (List Part)) (refusal : Refusal) → HoldsNetwork (old.file name) net → IsAsked net text given query vector
-    → IsCalm old new → FromTreesStore most file old new (problem_of net query vector) refusal → Ends old (Tolerate name text most given file) refusal
-trees_store_ends old new name text most given file net query vector refusal holds asked calm cause = let due = trees_due most file old new (problem_of net query vector) refusal calm cause in (
+    → IsProblem (problem_of net query vector) → IsCalm old new → FromTreesStore most file old new (problem_of net query vector) refusal → Ends old (Tolerate name text most given file) refusal
+trees_store_ends old new name text most given file net query vector refusal holds asked is calm cause = let due = trees_due most file old new (problem_of net query vector) refusal calm cause in (
   due.0,
   elim due.1 [
     | inl want ↦ inl want
-    | inr large ↦ inr (net, holds, (query, vector, asked, inr (inr (inr large))))
+    | inr large ↦ inr (net, holds, (query, vector, asked, is, inr (inr (inr large))))
   ],
 )
 
@@ -469,7 +477,7 @@ one_held file a b first second = let both : Some a ≡ Some b = sym first ∙ se
 
 certificate_wants : (old new : ShelfSeen) (net : Net) (text file : List ℕ) (given : Option (List ℕ)) (query : Query) (vector : List (List Part)) (bytes : List ℕ) (c : Certificate) (refusal : Refusal) → old.told ≡ true → IsCalm old new
     → IsCertificateFile old file bytes → IsAcceptedText net text given bytes c → IsAsked net text given query vector → FromCertificate old new (problem_of net query vector) file refusal → status_of refusal ≡ 11
-certificate_wants old new net text file given query vector bytes c (CannotRead named) t calm held good asked cause = absurd (longer old.failed (Fetch, file) (sym cause.1 ∙ calm))
+certificate_wants old new net text file given query vector bytes c (CannotRead said) t calm held good asked cause = absurd (longer old.failed (Fetch, file) (sym cause.1 ∙ calm))
 certificate_wants old new net text file given query vector bytes c LargeCertificate t calm held good asked cause =
     let long : 268435456 < length bytes = subst (λ f. IsLonger f 268435456) (held.held t) (cause.1 t) in
     absurd (omega (arith, long, held.short))
@@ -490,7 +498,7 @@ certificate_wants old new net text file given query vector bytes c refusal t cal
 
 tree_wants : (old new : ShelfSeen) (net : Net) (text file : List ℕ) (given : Option (List ℕ)) (query : Query) (vector : List (List Part)) (bytes : List ℕ) (t : TreeCertificate) (refusal : Refusal) → old.told ≡ true → IsCalm old new
     → IsCertificateFile old file bytes → IsAcceptedTree net text given bytes t → IsAsked net text given query vector → FromTree old new (problem_of net query vector) file refusal → status_of refusal ≡ 11
-tree_wants old new net text file given query vector bytes t (CannotRead named) told calm held good asked cause = absurd (longer old.failed (Fetch, file) (sym cause.1 ∙ calm))
+tree_wants old new net text file given query vector bytes t (CannotRead said) told calm held good asked cause = absurd (longer old.failed (Fetch, file) (sym cause.1 ∙ calm))
 tree_wants old new net text file given query vector bytes t LargeCertificate told calm held good asked cause =
     let long : 268435456 < length bytes = subst (λ f. IsLonger f 268435456) (held.held told) (cause.1 told) in
     absurd (omega (arith, long, held.short))
@@ -523,7 +531,7 @@ good_script net k bytes text (BadLine n cause) play (inr bad) =
 
 script_wants : (old new : ShelfSeen) (net : Net) (name : List ℕ) (k : ℕ) (bytes text : List ℕ) (refusal : Refusal) → old.told ≡ true → old.file name ≡ Some bytes → IsPlay net k bytes text → IsCalm old new
     → FromScript old new net name k refusal → status_of refusal ≡ 11
-script_wants old new net name k bytes text (CannotRead named) t h play calm cause = absurd (longer old.failed (Fetch, name) (sym cause.1 ∙ calm))
+script_wants old new net name k bytes text (CannotRead said) t h play calm cause = absurd (longer old.failed (Fetch, name) (sym cause.1 ∙ calm))
 script_wants old new net name k bytes text (Script refused) t h play calm cause =
     let held : Some cause.1.0 ≡ Some bytes = sym (cause.1.1 t) ∙ h in
     let same : cause.1.0 ≡ bytes = cc in
@@ -536,10 +544,10 @@ script_wants old new net name k bytes text refusal t h play calm cause = elim ca
 
 -- a ring is generated, unless what is asked of it isn't decided
 ring_ends : (held : ShelfSeen) (seed size : ℕ) (refusal : Refusal) → FromRing seed size refusal → Ends held (Gen seed size) refusal
-ring_ends held seed size (Overflow w terms) cause = (refl, inr (inr (cause.0, cause.1, cause.2, inl (refl, (components w, cause.3.0)))))
-ring_ends held seed size (TooLong effort) cause = (refl, inr (inr (cause.0, cause.1, cause.2, inr (refl, (effort, cause.3)))))
+ring_ends held seed size (Overflow w terms) cause = (refl, inr (inr (cause.0, cause.1, cause.2, cause.3, inl (refl, (components w, cause.4.0)))))
+ring_ends held seed size (TooLong effort) cause = (refl, inr (inr (cause.0, cause.1, cause.2, cause.3, inr (refl, (effort, cause.4)))))
 ring_ends held seed size Memory cause = (refl, inl refl)
-ring_ends held seed size refusal cause = elim cause.3 [ ]
+ring_ends held seed size refusal cause = elim cause.4 [ ]
 
 -- a text is read as bytes, unless these are none or begin with no stack
 bad_stack_ends : (hex bytes : List ℕ) (refused : StackRefused) → IsHex hex bytes → IsRefusedStack bytes refused → (status_of (BadStack refused) ≡ 16) × ShowsNoStack hex
@@ -556,25 +564,27 @@ stack_ends held hex refusal cause = elim cause [ ]
 -- texts that can ask something of a network end with want of memory, or as what both ask ends, or as its store does
 asking_ends : (Undecided : Problem → Refusal → Type 0) (Unstored : ShelfSeen → ShelfSeen → Problem → Refusal → Type 0) (old new : ShelfSeen) (command : Command) (name text : List ℕ) (given : Option (List ℕ)) (refusal : Refusal) → old.told ≡ true
     → CanBeAsked old name text given → IsCalm old new
-    → ((net : Net) (query : Query) (vector : List (List Part)) → HoldsNetwork (old.file name) net → IsAsked net text given query vector → Undecided (problem_of net query vector) refusal → Ends old command refusal)
-    → ((net : Net) (query : Query) (vector : List (List Part)) → HoldsNetwork (old.file name) net → IsAsked net text given query vector → Unstored old new (problem_of net query vector) refusal → Ends old command refusal)
+    → ((net : Net) (query : Query) (vector : List (List Part)) → HoldsNetwork (old.file name) net → IsAsked net text given query vector → IsProblem (problem_of net query vector)
+    → Undecided (problem_of net query vector) refusal → Ends old command refusal)
+    → ((net : Net) (query : Query) (vector : List (List Part)) → HoldsNetwork (old.file name) net → IsAsked net text given query vector → IsProblem (problem_of net query vector)
+    → Unstored old new (problem_of net query vector) refusal → Ends old command refusal)
     → FromAsking Undecided Unstored old new name text given refusal → Ends old command refusal
 asking_ends Undecided Unstored old new command name text given refusal t can calm undecided unstored (inl network) = wanting old command refusal (network_wants old new name refusal can.0 t can.1 calm network)
 asking_ends Undecided Unstored old new command name text given refusal t can calm undecided unstored (inr (inl cause)) =
     let same : cause.0 ≡ can.0 = one_network (old.file name) cause.0 can.0 (cause.1 t) can.1 in
     elim (subst (λ net. FromAsked Undecided net text given refusal) same cause.2) [
       | inl bad ↦ wanting old command refusal (texts_want can.0 text given can.2.0 can.2.1 refusal can.2.2 bad)
-      | inr asked ↦ undecided can.0 asked.0 asked.1 can.1 asked.2 asked.3
+      | inr asked ↦ undecided can.0 asked.0 asked.1 can.1 asked.2 asked.3 asked.4
     ]
 asking_ends Undecided Unstored old new command name text given refusal t can calm undecided unstored (inr (inr cause)) =
     let asked = cause.2 in
-    unstored cause.0 asked.0 asked.1 (cause.1 t) asked.2 asked.3
+    unstored cause.0 asked.0 asked.1 (cause.1 t) asked.2 asked.3 asked.4
 
-refused_ends : (old new : ShelfSeen) (command : Command) (refusal : Refusal) → old.told ≡ true → CanBeAnswered old command → IsCalm old new → FromCommand old new command refusal → Ends old command refusal
+refused_ends : (old new : ShelfSeen) (command : Command) (refusal : Refusal) → TellsFor old command → CanBeAnswered old command → IsCalm old new → FromCommand old new command refusal → Ends old command refusal
 refused_ends old new (Verify name text given file) refusal t can calm cause =
     asking_ends FromDecision (FromStore file) old new (Verify name text given file) name text given refusal t can calm
-    (λ net query vector holds asked undecided. decision_ends old name text given file net query vector refusal holds asked undecided)
-    (λ net query vector holds asked store. store_ends old new name text given file net query vector refusal holds asked calm store) cause
+    (λ net query vector holds asked is undecided. decision_ends old name text given file net query vector refusal holds asked is undecided)
+    (λ net query vector holds asked is store. store_ends old new name text given file net query vector refusal holds asked is calm store) cause
 refused_ends old new (Check name text file given) refusal t can calm (inl network) = wanting old (Check name text file given) refusal (network_wants old new name refusal can.0 t can.1 calm network)
 refused_ends old new (Check name text file given) refusal t can calm (inr (inl cause)) =
     let same : cause.0 ≡ can.0 = one_network (old.file name) cause.0 can.0 (cause.1 t) can.1 in
@@ -583,7 +593,7 @@ refused_ends old new (Check name text file given) refusal t can calm (inr (inl c
 refused_ends old new (Check name text file given) refusal t can calm (inr (inr cause)) =
     let same : cause.0 ≡ can.0 = one_network (old.file name) cause.0 can.0 (cause.1 t) can.1 in
     let asked = subst (λ net. ForAsked net text given (λ problem. FromCertificate old new problem file refusal)) same cause.2 in
-    wanting old (Check name text file given) refusal (certificate_wants old new can.0 text file given asked.0 asked.1 can.2.0 can.2.1 refusal t calm can.2.2 can.2.3 asked.2 asked.3)
+    wanting old (Check name text file given) refusal (certificate_wants old new can.0 text file given asked.0 asked.1 can.2.0 can.2.1 refusal t calm can.2.2 can.2.3 asked.2 asked.4)
 refused_ends old new (Play name script k) refusal t can calm (inl network) = wanting old (Play name script k) refusal (network_wants old new name refusal can.0 t can.1 calm network)
 refused_ends old new (Play name script k) refusal t can calm (inr cause) =
     let same : cause.0 ≡ can.0 = one_network (old.file name) cause.0 can.0 (cause.1 t) can.1 in
@@ -592,8 +602,8 @@ refused_ends old new (Play name script k) refusal t can calm (inr cause) =
 refused_ends old new (Gen seed size) refusal t can calm cause = ring_ends old seed size refusal cause.1
 refused_ends old new (Exact name text given file) refusal t can calm cause =
     asking_ends FromSplitting (FromTreeStore file) old new (Exact name text given file) name text given refusal t can calm
-    (λ net query vector holds asked unsplit. unsplit_ends old name text given file net query vector refusal holds asked unsplit)
-    (λ net query vector holds asked store. tree_store_ends old new name text given file net query vector refusal holds asked calm store) cause
+    (λ net query vector holds asked is unsplit. unsplit_ends old name text given file net query vector refusal holds asked is unsplit)
+    (λ net query vector holds asked is store. tree_store_ends old new name text given file net query vector refusal holds asked is calm store) cause
 refused_ends old new (CheckExact name text file given) refusal t can calm (inl network) = wanting old (CheckExact name text file given) refusal (network_wants old new name refusal can.0 t can.1 calm network)
 refused_ends old new (CheckExact name text file given) refusal t can calm (inr (inl cause)) =
     let same : cause.0 ≡ can.0 = one_network (old.file name) cause.0 can.0 (cause.1 t) can.1 in
@@ -602,11 +612,11 @@ refused_ends old new (CheckExact name text file given) refusal t can calm (inr (
 refused_ends old new (CheckExact name text file given) refusal t can calm (inr (inr cause)) =
     let same : cause.0 ≡ can.0 = one_network (old.file name) cause.0 can.0 (cause.1 t) can.1 in
     let asked = subst (λ net. ForAsked net text given (λ problem. FromTree old new problem file refusal)) same cause.2 in
-    wanting old (CheckExact name text file given) refusal (tree_wants old new can.0 text file given asked.0 asked.1 can.2.0 can.2.1 refusal t calm can.2.2 can.2.3 asked.2 asked.3)
+    wanting old (CheckExact name text file given) refusal (tree_wants old new can.0 text file given asked.0 asked.1 can.2.0 can.2.1 refusal t calm can.2.2 can.2.3 asked.2 asked.4)
 refused_ends old new (Tolerate name text most given file) refusal t can calm cause =
     asking_ends (FromTolerating most) (FromTreesStore most file) old new (Tolerate name text most given file) name text given refusal t can calm
-    (λ net query vector holds asked untold. untold_ends old name text most given file net query vector refusal holds asked untold)
-    (λ net query vector holds asked store. trees_store_ends old new name text most given file net query vector refusal holds asked calm store) cause
+    (λ net query vector holds asked is untold. untold_ends old name text most given file net query vector refusal holds asked is untold)
+    (λ net query vector holds asked is store. trees_store_ends old new name text most given file net query vector refusal holds asked is calm store) cause
 refused_ends old new (Protect name) refusal t can calm (inl network) = wanting old (Protect name) refusal (network_wants old new name refusal can.0 t can.1 calm network)
 refused_ends old new (Protect name) refusal t can calm (inr cause) = elim (plan_due cause.0 refusal cause.2) [
   | inl want ↦ wanting old (Protect name) refusal want
@@ -617,7 +627,7 @@ refused_ends old new (Packets name text given) refusal t can calm (inr cause) =
     let same : cause.0 ≡ can.0 = one_network (old.file name) cause.0 can.0 (cause.1 t) can.1 in
     elim (subst (λ net. FromAsked FromDecision net text given refusal) same cause.2) [
       | inl bad ↦ wanting old (Packets name text given) refusal (texts_want can.0 text given can.2.0 can.2.1 refusal can.2.2 bad)
-      | inr undecided ↦ decision_ends old name text given None can.0 undecided.0 undecided.1 refusal can.1 undecided.2 undecided.3
+      | inr undecided ↦ decision_ends old name text given None can.0 undecided.0 undecided.1 refusal can.1 undecided.2 undecided.3 undecided.4
     ]
 refused_ends old new (Stack hex) refusal t can calm cause = stack_ends old hex refusal cause.1
 
@@ -643,24 +653,24 @@ refused_completes words shelf_old shelf_new out_old out_new err_old err_new resu
     ]
 
 -- what is printed has a status of the command
-answered_ends : (old new : ShelfSeen) (command : Command) (status : ℕ) (text : List ℕ) → old.told ≡ true → IsAnswered old new command status text → IsStatus old command status
+answered_ends : (old new : ShelfSeen) (command : Command) (status : ℕ) (text : List ℕ) → TellsFor old command → IsAnswered old new command status text → IsStatus old command status
 answered_ends old new (Verify name query given file) status text t answer =
     let asked = answer.2 in
-    (answer.0, answer.1 t, (asked.0, asked.1, asked.2, answer_ends report_in (problem_of answer.0 asked.0 asked.1) file new status text asked.3))
+    (answer.0, answer.1 t, (asked.0, asked.1, asked.2, asked.3, answer_ends report_in (problem_of answer.0 asked.0 asked.1) file new status text asked.4))
 answered_ends old new (Check name query file given) status text t answer = answer.6
 answered_ends old new (Play name script k) status text t answer = answer.1
 answered_ends old new (Gen seed size) status text t answer = inl answer.1
 answered_ends old new (Exact name query given file) status text t answer =
     let asked = answer.2 in
-    (answer.0, answer.1 t, (asked.0, asked.1, asked.2, exact_answer_ends (problem_of answer.0 asked.0 asked.1) file new status text asked.3))
+    (answer.0, answer.1 t, (asked.0, asked.1, asked.2, asked.3, exact_answer_ends (problem_of answer.0 asked.0 asked.1) file new status text asked.4))
 answered_ends old new (CheckExact name query file given) status text t answer = answer.6
 answered_ends old new (Tolerate name query most given file) status text t answer =
     let asked = answer.2 in
-    (answer.0, answer.1 t, (asked.0, asked.1, asked.2, tolerance_ends (problem_of answer.0 asked.0 asked.1) most file new status text asked.3))
+    (answer.0, answer.1 t, (asked.0, asked.1, asked.2, asked.3, tolerance_ends (problem_of answer.0 asked.0 asked.1) most file old new status text asked.4))
 answered_ends old new (Protect name) status text t answer = inl answer.1
 answered_ends old new (Packets name query given) status text t answer =
     let asked = answer.2 in
-    (answer.0, answer.1 t, (asked.0, asked.1, asked.2, answer_ends packets_in (problem_of answer.0 asked.0 asked.1) None new status text asked.3))
+    (answer.0, answer.1 t, (asked.0, asked.1, asked.2, asked.3, answer_ends packets_in (problem_of answer.0 asked.0 asked.1) None new status text asked.4))
 answered_ends old new (Stack hex) status text t answer = inl answer.1
 
 pub answered_completes : (words : List (List ℕ)) (shelf_old shelf_new : ShelfSeen) (out_old out_new err_old err_new : SinkSeen) (result status : ℕ) (text : List ℕ)

@@ -4,6 +4,7 @@ use Rattle.std.specs.Prelude.{IfErr, IfOk, IfSome}
 use Rattle.wi_base.specs.declared.shelf.CallKind.TheVariants.{Store}
 use Rattle.wi_base.specs.Shelf.{ShelfSeen}
 use Rattle.wi_base.specs.declared.no_memory.NoMemory.{NoMemory}
+use Rattle.wi_net.specs.Net.{Net}
 use Rattle.wi_build.specs.Problems.{Problem}
 use Rattle.wi_cert.specs.declared.tree.TreeCertificate.{TreeCertificate}
 use Rattle.wi_cert.specs.Trees.{IsTreeWritable}
@@ -17,6 +18,7 @@ use Rattle.wi_files.specs.Certificates.{AreTreesStored, AreUnstored, IsNamed, Is
 use Rattle.wi_files.specs.Shelves.{IsCalm, below_name}
 use Rattle.wi_files.proofs.Causes.{longer}
 use Rattle.wi_app.specs.Run.{MayEndExactly}
+use Rattle.wi_app.specs.Asked.{ForAsked}
 use Rattle.wi_app.specs.Tolerance.{AreTreesTooLarge, EndsUntold, FromTolerating, FromTreesStore, IsTold, IsToldWith, allowing, first_tree, second_tree, tolerance_status, tolerance_text}
 use Rattle.wi_app.specs.private.Stages.{FromDeciding}
 use Rattle.wi_app.proofs.Exactly.{unsplit_due}
@@ -35,11 +37,11 @@ second_writable problem most (At (suc j) answer tree (Some lower)) told = told.3
 second_writable problem most (NoneUpTo tree) told = tt
 
 -- where it is printed and stored, the command has its answer
-pub told_with : (r : Result Printed Refusal) (problem : Problem) (most : ℕ) (file : Option (List ℕ)) (shelf : ShelfSeen) (found : Tolerance) (text : Result (List ℕ) NoMemory) → IsTold problem most found → IfOk text (λ s. s ≡ tolerance_text problem most found)
-    → IfOk r (λ printed. printed.status ≡ tolerance_status found) → IfOk r (λ printed. text ≡ Ok printed.text) → IfOk r (λ _. AreTreesStored file shelf (first_tree found) (second_tree found))
-    → IfOk r (λ printed. IsToldWith problem most file shelf printed.status printed.text)
-told_with (Err refusal) problem most file shelf found text told is status made stored = tt
-told_with (Ok printed) problem most file shelf found text told is status made stored = record {
+pub told_with : (r : Result Printed Refusal) (problem : Problem) (most : ℕ) (file : Option (List ℕ)) (old new : ShelfSeen) (found : Tolerance) (text : Result (List ℕ) NoMemory) → IsTold problem most found → IfOk text (λ s. s ≡ tolerance_text problem most found)
+    → IfOk r (λ printed. printed.status ≡ tolerance_status found) → IfOk r (λ printed. text ≡ Ok printed.text) → IfOk r (λ _. AreTreesStored file old new (first_tree found) (second_tree found))
+    → IfOk r (λ printed. IsToldWith problem most file old new printed.status printed.text)
+told_with (Err refusal) problem most file old new found text told is status made stored = tt
+told_with (Ok printed) problem most file old new found text told is status made stored = record {
   found = found;
   told = told;
   stored = stored;
@@ -47,8 +49,15 @@ told_with (Ok printed) problem most file shelf found text told is status made st
   text_is = subst (λ (x : Result (List ℕ) NoMemory). IfOk x (λ s. s ≡ tolerance_text problem most found)) made is;
 }
 
-pub tolerance_ends : (problem : Problem) (most : ℕ) (file : Option (List ℕ)) (shelf : ShelfSeen) (status : ℕ) (text : List ℕ) → IsToldWith problem most file shelf status text → MayEndExactly (EndsUntold problem most) (AreTreesTooLarge problem most) file status
-tolerance_ends problem most file shelf status text r = by_word r.found r.status_is
+-- the fetch of the network left the shelf as it was
+pub told_later : (r : Result Printed Refusal) (old later new : ShelfSeen) (net : Net) (query : List ℕ) (weights : Option (List ℕ)) (most : ℕ) (file : Option (List ℕ)) → later ≡ old
+    → IfOk r (λ printed. ForAsked net query weights (λ problem. IsToldWith problem most file later new printed.status printed.text))
+    → IfOk r (λ printed. ForAsked net query weights (λ problem. IsToldWith problem most file old new printed.status printed.text))
+told_later r old later new net query weights most file same told =
+    subst (λ (s : ShelfSeen). IfOk r (λ printed. ForAsked net query weights (λ problem. IsToldWith problem most file s new printed.status printed.text))) same told
+
+pub tolerance_ends : (problem : Problem) (most : ℕ) (file : Option (List ℕ)) (old new : ShelfSeen) (status : ℕ) (text : List ℕ) → IsToldWith problem most file old new status text → MayEndExactly (EndsUntold problem most) (AreTreesTooLarge problem most) file status
+tolerance_ends problem most file old new status text r = by_word r.found r.status_is
   where
     by_word : (found : Tolerance) → status ≡ tolerance_status found → MayEndExactly (EndsUntold problem most) (AreTreesTooLarge problem most) file status
     by_word (At k answer tree below) is = inl is
@@ -77,8 +86,8 @@ trees_refused (Err refusal) most file old new problem found told cause = inr (re
 unstored_due : (old new : ShelfSeen) (file : Option (List ℕ)) (first : TreeCertificate) (second : Option TreeCertificate) (refusal : Refusal) → IsCalm old new → AreUnstored old new file first second refusal
     → (nat_eq (status_of refusal) 10 ≡ false) × ((status_of refusal ≡ 11) ⊎ ((status_of refusal ≡ 14) × IsNamed file × IsOneLarge first second))
 unstored_due old new file first second TreeNotWritten calm cause = (refl, inr (refl, cause.1, cause.2))
-unstored_due old new file first second (CannotWrite named) calm cause = absurd (longer old.failed (Store, named.now) (sym cause.1 ∙ calm))
-unstored_due old new file first second (CannotWriteBelow named) calm cause = absurd (longer old.failed (Store, below_name named.now) (sym cause.2 ∙ calm))
+unstored_due old new file first second (CannotWrite named said) calm cause = absurd (longer old.failed (Store, named.now) (sym cause.2.1 ∙ calm))
+unstored_due old new file first second (CannotWriteBelow named said) calm cause = absurd (longer old.failed (Store, below_name named.now) (sym cause.3.1 ∙ calm))
 unstored_due old new file first second (NoMemoryBelow named) calm cause = (refl, inl refl)
 unstored_due old new file first second Memory calm cause = (refl, inl refl)
 unstored_due old new file first second refusal calm cause = elim cause [ ]

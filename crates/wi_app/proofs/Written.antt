@@ -55,7 +55,7 @@ use Rattle.wi_app.specs.Asked.{ForAsked}
 use Rattle.wi_app.specs.Certificates.{IsAcceptedText, IsStored}
 use Rattle.wi_app.specs.Decided.{IsReported, report_in}
 use Rattle.wi_app.specs.Exact.{IsAcceptedTree, IsReportedExactly}
-use Rattle.wi_app.specs.Run.{AreAnswered, CanBeAnswered, Completes, Does, IsAnswered, IsStatus}
+use Rattle.wi_app.specs.Run.{AreAnswered, CanBeAnswered, Completes, Does, IsAnswered, IsStatus, TellsFor}
 
 -- ---- the text isn't too long to be read
 -- what is done from each place on, whatever the steps are
@@ -153,7 +153,7 @@ can_check old new name text file weights status report apart told still stand an
     asked = answer.2
 
     reported : IsReported report_in (problem_of answer.0 asked.0 asked.1) (Some file) new status report
-    reported = asked.3
+    reported = asked.4
 
     problem : Problem
     problem = problem_of answer.0 asked.0 asked.1
@@ -220,12 +220,12 @@ says_high text status old new result high s = elim s [
 why_high : (refusal : Refusal) (old new : SinkSeen) (result : ℕ) → SaysWhy refusal old new result → 3 ≤ result
 why_high refusal old new result s = elim s [
   | inl own ↦ says_high (text_of refusal) (status_of refusal) old new result (status_high refusal) own
-  | inr want ↦ says_high (codes "whatif: out of memory\n") (kept (status_of refusal)) old new result (kept_high (status_of refusal)) want.1
+  | inr want ↦ says_high (codes "whatif: out of memory\n") 11 old new result (omega arith) want.1
 ]
 
 -- where one command is answered, another that can be answered then ends as it may
 answered_then : (words later : List (List ℕ)) (command next : Command) (shelf between after : ShelfSeen) (out printed err said later_out later_printed later_err later_said : SinkSeen) (status result : ℕ)
-    → command_of words ≡ Some command → command_of later ≡ Some next → between.told ≡ true → ((status : ℕ) (text : List ℕ) → IsAnswered shelf between command status text → CanBeAnswered between next)
+    → command_of words ≡ Some command → command_of later ≡ Some next → TellsFor between next → ((status : ℕ) (text : List ℕ) → IsAnswered shelf between command status text → CanBeAnswered between next)
     → Does words shelf between out printed err said status → status < 3 → Completes later between after later_out later_printed later_err later_said result → IsCalm between after → later_printed.faults ≡ later_out.faults → later_said.faults ≡ later_err.faults
     → IsStatus between next result ⊎ (result ≡ 11)
 answered_then words later command next shelf between after out printed err said later_out later_printed later_err later_said status result asks checks told can does low completes calm no_fault silent = elim does [
@@ -253,7 +253,7 @@ can_check_exactly old new name text file weights status report apart told stand 
     asked = answer.2
 
     reported : IsReportedExactly (problem_of answer.0 asked.0 asked.1) (Some file) new status report
-    reported = asked.3
+    reported = asked.4
 
     stored : IsTreeStored (Some file) new reported.tree
     stored = reported.stored

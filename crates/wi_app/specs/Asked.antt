@@ -3,13 +3,15 @@ use Rattle.std.specs.Prelude.{◌⊎◌, ℕ, List, Option}
 use Rattle.wi_net.specs.Net.{Net}
 use Rattle.wi_query.specs.declared.query.Query.{Query}
 use Rattle.wi_quantity.specs.declared.vector.Part.{Part}
-use Rattle.wi_build.specs.Problems.{Problem, problem_of}
+use Rattle.wi_build.specs.Problems.{Problem, IsProblem, problem_of}
 use Rattle.wi_outcome.specs.declared.refusal.Refusal.{Refusal}
 use Rattle.wi_files.specs.Asked.{AreBadTexts, IsAsked}
 
--- texts are a query of the network and weights, and this holds of the problem that they ask
+-- texts are a query of the network and weights, which ask a problem, and this holds of it. That it is one ties the query's automata to
+-- its expressions: the text does not
 abbrev pub ForAsked : Net → List ℕ → Option (List ℕ) → (Problem → Type 0) → Type 0
-ForAsked net text weights P = (query : Query) × (vector : List (List Part)) × IsAsked net text weights query vector × P (problem_of net query vector)
+ForAsked net text weights P =
+    (query : Query) × (vector : List (List Part)) × IsAsked net text weights query vector × IsProblem (problem_of net query vector) × P (problem_of net query vector)
 
 -- the texts are the cause, or else what both ask, for which there is such a cause
 abbrev pub FromAsked : (Problem → Refusal → Type 0) → Net → List ℕ → Option (List ℕ) → Refusal → Type 0

@@ -13,11 +13,12 @@ use Rattle.wi_cert.specs.Text.{IsText, IsBadLine, closed_text}
 use Rattle.wi_accept.specs.Answers.{IsDecided, answer_of}
 use Rattle.wi_accept.specs.Causes.{IsAccepted, IsRefusal}
 use Rattle.wi_accept.specs.Makers.{IsMaker}
+use Rattle.wi_decide.specs.Refusals.{IsUnrefused}
 use Rattle.wi_outcome.specs.declared.refusal.Refusal.{Refusal}
-use Rattle.wi_outcome.specs.declared.refusal.Refusal.TheVariants.{CannotWrite, Memory, NotAccepted, NotWritten}
+use Rattle.wi_outcome.specs.declared.refusal.Refusal.TheVariants.{NotAccepted}
 use Rattle.wi_files.specs.Asked.{IsAsked}
-use Rattle.wi_files.specs.Certificates.{FromLines, IsCertificateFile, IsNamed}
-use Rattle.wi_files.specs.Shelves.{IsCalm, StoreFailed}
+use Rattle.wi_files.specs.Certificates.{FromLines, IsCertificateFile, IsNotKept}
+use Rattle.wi_files.specs.Shelves.{IsCalm}
 
 -- ---- written
 -- a maker's certificate for an answer to a problem; nothing speaks against it
@@ -25,6 +26,12 @@ pub record IsCertificate (problem : Problem) (answer : Answer) (c : Certificate)
   pub problem_is : IsProblem problem
   pub made : IsMaker problem answer c
   pub accepted : IsAccepted problem c
+
+-- an answer to a problem that holds and can be shown, with its certificate
+pub record IsCertified (problem : Problem) (answer : Answer) (c : Certificate) : Type 0 where
+  pub holds : IsDecided problem answer
+  pub shown : IsUnrefused problem answer
+  pub is : IsCertificate problem answer c
 
 -- bytes are the text of a maker's certificate that isn't too long to be written
 pub record IsCertificateText (problem : Problem) (answer : Answer) (bytes : List ℕ) : Type 0 where
@@ -38,20 +45,19 @@ abbrev pub IsStored : Option (List ℕ) → ShelfSeen → Problem → Answer →
 IsStored None shelf problem answer = Unit {0}
 IsStored (Some name) shelf problem answer = (bytes : List ℕ) × IsCertificateText problem answer bytes × (shelf.told ≡ true → shelf.file name ≡ Some bytes)
 
--- an answer to the problem holds, and its certificate is too long to be written
+-- the certificate of such an answer is too long to be written
 pub record IsTooLargeToWrite (problem : Problem) : Type 0 where
   pub answer : Answer
-  pub holds : IsDecided problem answer
   pub certificate : Certificate
-  pub is : IsCertificate problem answer certificate
+  pub is : IsCertified problem answer certificate
   pub long : 268000000 < length (closed_text certificate)
 
--- a certificate is to be stored under the name, if there is one, and can't be
-abbrev pub FromStore : Option (List ℕ) → ShelfSeen → ShelfSeen → Problem → Refusal → Type 0
-FromStore file old new problem NotWritten = IsCalm old new × IsNamed file × IsTooLargeToWrite problem
-FromStore file old new problem (CannotWrite named) = StoreFailed file named.now old new
-FromStore file old new problem Memory = IsCalm old new
-FromStore file old new problem refusal = ⊥
+-- the certificate of such an answer is to be stored under the name, if there is one, and can't be
+pub record FromStore (file : Option (List ℕ)) (old new : ShelfSeen) (problem : Problem) (refusal : Refusal) : Type 0 where
+  pub answer : Answer
+  pub certificate : Certificate
+  pub is : IsCertified problem answer certificate
+  pub unkept : IsNotKept old new file certificate refusal
 
 -- ---- checked
 -- bytes are the text of a certificate against which nothing speaks, for what texts ask of a network

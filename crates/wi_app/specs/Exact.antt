@@ -18,10 +18,9 @@ use Rattle.wi_branch.specs.declared.opened.Opened.{Opened}
 use Rattle.wi_branch.specs.Exactly.{IsExact, IsInexact}
 use Rattle.wi_report.specs.Reports.{exact_report_of}
 use Rattle.wi_outcome.specs.declared.refusal.Refusal.{Refusal}
-use Rattle.wi_outcome.specs.declared.refusal.Refusal.TheVariants.{CannotWrite, ManyNodes, Memory, Overflow, TooLong, TreeNotWritten}
+use Rattle.wi_outcome.specs.declared.refusal.Refusal.TheVariants.{ManyNodes, Memory, Overflow, TooLong}
 use Rattle.wi_files.specs.Asked.{IsAsked}
-use Rattle.wi_files.specs.Certificates.{IsCertificateFile, IsLarge, IsNamed, IsTreeStored}
-use Rattle.wi_files.specs.Shelves.{IsCalm, StoreFailed}
+use Rattle.wi_files.specs.Certificates.{IsCertificateFile, IsLarge, IsTreeNotKept, IsTreeStored}
 use Rattle.wi_app.specs.Certificates.{FromFile}
 use Rattle.wi_app.specs.Decided.{status_for}
 
@@ -67,12 +66,12 @@ pub record IsTreeTooLarge (problem : Problem) : Type 0 where
   pub is : IsShownExactly problem answer tree
   pub large : IsLarge tree
 
--- a tree is to be stored under the name, if there is one, and can't be
-abbrev pub FromTreeStore : Option (List ℕ) → ShelfSeen → ShelfSeen → Problem → Refusal → Type 0
-FromTreeStore file old new problem TreeNotWritten = IsCalm old new × IsNamed file × IsTreeTooLarge problem
-FromTreeStore file old new problem (CannotWrite named) = StoreFailed file named.now old new
-FromTreeStore file old new problem Memory = IsCalm old new
-FromTreeStore file old new problem refusal = ⊥
+-- the tree of an exact answer is to be stored under the name, if there is one, and can't be
+pub record FromTreeStore (file : Option (List ℕ)) (old new : ShelfSeen) (problem : Problem) (refusal : Refusal) : Type 0 where
+  pub answer : Answer
+  pub tree : TreeCertificate
+  pub is : IsShownExactly problem answer tree
+  pub unkept : IsTreeNotKept old new file tree refusal
 
 -- ---- checked
 -- bytes are the text of a tree against which nothing speaks, for what texts ask of a network

@@ -3,15 +3,13 @@ use Rattle.std.specs.Prelude.{◌≡◌, ℕ, List, length, Some}
 use Rattle.wi_trace.specs.declared.answer.Answer.{Answer}
 use Rattle.wi_build.specs.Problems.{Problem}
 use Rattle.wi_cert.specs.declared.certificate.Certificate.{Certificate}
-use Rattle.wi_accept.specs.Answers.{IsDecided}
-use Rattle.wi_decide.specs.Refusals.{IsUnrefused}
 use Rattle.wi_gen.specs.Ring.{net_of, ring_of}
 use Rattle.wi_gen.specs.Texts.{query_text, weights_text}
 use Rattle.wi_report.specs.Summaries.{summary_of}
 use Rattle.wi_outcome.specs.declared.refusal.Refusal.{Refusal}
 use Rattle.wi_outcome.specs.declared.refusal.Refusal.TheVariants.{Memory}
 use Rattle.wi_app.specs.Asked.{ForAsked}
-use Rattle.wi_app.specs.Certificates.{IsCertificate}
+use Rattle.wi_app.specs.Certificates.{IsCertified}
 use Rattle.wi_app.specs.Decided.{FromDecision}
 
 -- this holds of the problem that the texts of a ring ask of it
@@ -21,10 +19,8 @@ ForRing seed size P = ForAsked (net_of (ring_of seed size)) (query_text (ring_of
 -- the summary of an answer to a problem that holds and can be shown, and whose certificate is accepted
 pub record IsSummed (seed size : ℕ) (problem : Problem) (text : List ℕ) : Type 0 where
   pub answer : Answer
-  pub holds : IsDecided problem answer
-  pub shown : IsUnrefused problem answer
   pub certificate : Certificate
-  pub is : IsCertificate problem answer certificate
+  pub is : IsCertified problem answer certificate
   pub text_is : text ≡ summary_of seed size problem.net problem.bounds (length problem.vector) answer
 
 -- the summary of a ring

@@ -45,7 +45,7 @@ IsAnswered old new (Exact name query weights file) status text = ForTexts old na
 IsAnswered old new (CheckExact name query file weights) status text =
     (net : Net) × (bytes : List ℕ) × (t : TreeCertificate) × (old.told ≡ true → HoldsNetwork (old.file name) net) × IsCertificateFile old file bytes
     × IsAcceptedTree net query weights bytes t × (status ≡ 0) × (text ≡ accepted_text (word_of t.shown.claim))
-IsAnswered old new (Tolerate name query most weights file) status text = ForTexts old name query weights (λ problem. IsToldWith problem most file new status text)
+IsAnswered old new (Tolerate name query most weights file) status text = ForTexts old name query weights (λ problem. IsToldWith problem most file old new status text)
 IsAnswered old new (Protect name) status text = IsProtected old name text × (status ≡ 0)
 IsAnswered old new (Packets name query weights) status text = ForTexts old name query weights (λ problem. IsReported packets_in problem None new status text)
 IsAnswered old new (Stack hex) status text = IsShownHex hex text × (status ≡ 0)
@@ -177,9 +177,15 @@ IsStatus shelf (Protect name) status = (status ≡ 0) ⊎ ((status ≡ 15) × ((
 IsStatus shelf (Packets name text weights) status = IsAskedStatus shelf name text weights None status
 IsStatus shelf (Stack hex) status = (status ≡ 0) ⊎ ((status ≡ 16) × ShowsNoStack hex)
 
+-- the shelf tells what it holds, where a command reads a file
+abbrev pub TellsFor : ShelfSeen → Command → Type 0
+TellsFor shelf (Gen seed size) = Unit {0}
+TellsFor shelf (Stack hex) = Unit {0}
+TellsFor shelf command = shelf.told ≡ true
+
 -- it ends with one of those, unless a call fails or memory runs out
 abbrev pub Completes : List (List ℕ) → ShelfSeen → ShelfSeen → SinkSeen → SinkSeen → SinkSeen → SinkSeen → ℕ → Type 0
 Completes words shelf_old shelf_new out_old out_new err_old err_new result =
-    (command : Command) → command_of words ≡ Some command → shelf_old.told ≡ true → CanBeAnswered shelf_old command
+    (command : Command) → command_of words ≡ Some command → TellsFor shelf_old command → CanBeAnswered shelf_old command
     → IsCalm shelf_old shelf_new → out_new.faults ≡ out_old.faults → err_new.faults ≡ err_old.faults
     → IsStatus shelf_old command result ⊎ (result ≡ 11)

@@ -39,10 +39,10 @@ second_tree (At k answer tree below) = below
 second_tree (NoneUpTo tree) = None
 
 -- what is printed where it is told, with its status; the trees stand under the name and the one made from it, if there is one
-pub record IsToldWith (problem : Problem) (most : ℕ) (file : Option (List ℕ)) (shelf : ShelfSeen) (status : ℕ) (text : List ℕ) : Type 0 where
+pub record IsToldWith (problem : Problem) (most : ℕ) (file : Option (List ℕ)) (old new : ShelfSeen) (status : ℕ) (text : List ℕ) : Type 0 where
   pub found : Tolerance
   pub told : IsTold problem most found
-  pub stored : AreTreesStored file shelf (first_tree found) (second_tree found)
+  pub stored : AreTreesStored file old new (first_tree found) (second_tree found)
   pub status_is : status ≡ tolerance_status found
   pub text_is : text ≡ tolerance_text problem most found
 

@@ -2,9 +2,7 @@
 ghost use Rattle.std.specs.Prelude.{◌≡◌, IfOk, IfErr};
 ghost use Rattle.wi_world.specs.Moves.{AreBounds};
 ghost use Rattle.wi_build.specs.Problems.{problem_of};
-ghost use Rattle.wi_accept.specs.Answers.{IsDecided};
-ghost use Rattle.wi_decide.specs.Refusals.{IsUnrefused};
-ghost use Rattle.wi_app.specs.Certificates.{IsCertificate};
+ghost use Rattle.wi_app.specs.Certificates.{IsCertified};
 ghost use Rattle.wi_app.specs.Decided.{FromDecision};
 
 use std::alloc::Global;
@@ -24,9 +22,7 @@ pub fn decided<'a>(
     vector: &Vector,
 ) -> Result<(Answer, Certificate), Refusal<'a>>
     requires { AreBounds net.now query.now.bounds }
-    ensures holds { IfOk result (λ found. IsDecided (problem_of net.now query.now vector.now) found.0) }
-    ensures shown { IfOk result (λ found. IsUnrefused (problem_of net.now query.now vector.now) found.0) }
-    ensures certified { IfOk result (λ found. IsCertificate (problem_of net.now query.now vector.now) found.0 found.1) }
+    ensures certified { IfOk result (λ found. IsCertified (problem_of net.now query.now vector.now) found.0 found.1) }
     ensures refused { IfErr result (FromDecision (problem_of net.now query.now vector.now)) }
 {
     net.keeps();

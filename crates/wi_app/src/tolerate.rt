@@ -62,7 +62,7 @@ fn tolerate_on<'a, S: Shelf>(
     ensures others { StandBut (IsOfTwo (option_map (λ s. s.now) file.entry)) (S.seen shelf.old) (S.seen shelf.new) }
     ensures left { IfErr result (λ refusal. IsLeft refusal (S.seen shelf.old) (S.seen shelf.new)) }
     ensures calm { IfOk result (λ _. IsCalm (S.seen shelf.old) (S.seen shelf.new)) }
-    ensures answered { IfOk result (λ printed. ForAsked net.now query.now (option_map (λ s. s.now) weights.entry) (λ problem. IsToldWith problem most (option_map (λ s. s.now) file.entry) (S.seen shelf.new) printed.status printed.text)) }
+    ensures answered { IfOk result (λ printed. ForAsked net.now query.now (option_map (λ s. s.now) weights.entry) (λ problem. IsToldWith problem most (option_map (λ s. s.now) file.entry) (S.seen shelf.old) (S.seen shelf.new) printed.status printed.text)) }
     ensures refused { IfErr result (FromAnswering (FromTolerating most) (FromTreesStore most (option_map (λ s. s.now) file.entry)) (S.seen shelf.old) (S.seen shelf.new) net.now query.now (option_map (λ s. s.now) weights.entry)) }
 {
     let asked = read_texts(alloc, net, query, weights)?;
@@ -86,7 +86,7 @@ fn tolerate_for<'a, S: Shelf>(
     ensures others { StandBut (IsOfTwo (option_map (λ s. s.now) file.entry)) (S.seen shelf.old) (S.seen shelf.new) }
     ensures left { IfErr result (λ refusal. IsLeft refusal (S.seen shelf.old) (S.seen shelf.new)) }
     ensures calm { IfOk result (λ _. IsCalm (S.seen shelf.old) (S.seen shelf.new)) }
-    ensures told_with { IfOk result (λ printed. IsToldWith (problem_of net.now query.now vector.now) most (option_map (λ s. s.now) file.entry) (S.seen shelf.new) printed.status printed.text) }
+    ensures told_with { IfOk result (λ printed. IsToldWith (problem_of net.now query.now vector.now) most (option_map (λ s. s.now) file.entry) (S.seen shelf.old) (S.seen shelf.new) printed.status printed.text) }
     ensures refused { IfErr result (FromDeciding (FromTolerating most) (FromTreesStore most (option_map (λ s. s.now) file.entry)) (S.seen shelf.old) (S.seen shelf.new) (problem_of net.now query.now vector.now)) }
 {
     let found = tolerance(alloc, net, query, vector, most)?;
@@ -153,7 +153,7 @@ fn stored<'a, S: Shelf>(
     ensures calm { IfOk result (λ _. IsCalm (S.seen shelf.old) (S.seen shelf.new)) }
     ensures status { IfOk result (λ printed. printed.status ≡ tolerance_status found.now) }
     ensures text { IfOk result (λ printed. text ≡ Ok printed.text) }
-    ensures stored { IfOk result (λ _. AreTreesStored (option_map (λ s. s.now) file.entry) (S.seen shelf.new) (first_tree found.now) (second_tree found.now)) }
+    ensures stored { IfOk result (λ _. AreTreesStored (option_map (λ s. s.now) file.entry) (S.seen shelf.old) (S.seen shelf.new) (first_tree found.now) (second_tree found.now)) }
     ensures refused { IfErr result (AreUnstored (S.seen shelf.old) (S.seen shelf.new) (option_map (λ s. s.now) file.entry) (first_tree found.now) (second_tree found.now)) }
 {
     let text = text?;
@@ -179,7 +179,7 @@ fn store_trees_of<'a, S: Shelf>(
     ensures others { StandBut (IsOfTwo (Some name.now)) (S.seen shelf.old) (S.seen shelf.new) }
     ensures left { IfErr result (λ refusal. IsLeft refusal (S.seen shelf.old) (S.seen shelf.new)) }
     ensures calm { OnOk result (IsCalm (S.seen shelf.old) (S.seen shelf.new)) }
-    ensures stored { OnOk result (AreTreesStored (Some name.now) (S.seen shelf.new) (first_tree found.now) (second_tree found.now)) }
+    ensures stored { OnOk result (AreTreesStored (Some name.now) (S.seen shelf.old) (S.seen shelf.new) (first_tree found.now) (second_tree found.now)) }
     ensures refused { IfErr result (AreUnstored (S.seen shelf.old) (S.seen shelf.new) (Some name.now) (first_tree found.now) (second_tree found.now)) }
 {
     match found {

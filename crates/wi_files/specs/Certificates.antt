@@ -1,6 +1,5 @@
 -- Certificates and trees, as they are stored and as they are read.
-use Rattle.std.specs.Prelude.{◌≡◌, ◌⊎◌, ℕ, ◌<◌, ◌≤◌, true, List, [], ◌∷◌, ◌++◌, length, Option, Some, None, option_map}
-use Rattle.wi_base.specs.declared.shelf.CallKind.TheVariants.{Store}
+use Rattle.std.specs.Prelude.{◌≡◌, ◌⊎◌, ℕ, ◌<◌, ◌≤◌, true, List, length, Option, Some, None}
 use Rattle.wi_base.specs.Shelf.{ShelfSeen, IsLonger}
 use Rattle.wi_cert.specs.declared.certificate.Certificate.{Certificate}
 use Rattle.wi_cert.specs.declared.tree.TreeCertificate.{TreeCertificate}
@@ -20,10 +19,10 @@ abbrev pub IsKept : Option (List ℕ) → ShelfSeen → Certificate → Type 0
 IsKept None shelf c = Unit {0}
 IsKept (Some name) shelf c = (bytes : List ℕ) × IsText c bytes × (length (closed_text c) ≤ 268000000) × (shelf.told ≡ true → shelf.file name ≡ Some bytes)
 
--- it is too long, or the call that was to store it failed
+-- it is too long, or isn't and the call that was to store it failed
 abbrev pub IsNotKept : ShelfSeen → ShelfSeen → Option (List ℕ) → Certificate → Refusal → Type 0
 IsNotKept old new file c NotWritten = IsCalm old new × IsNamed file × (268000000 < length (closed_text c))
-IsNotKept old new file c (CannotWrite named) = StoreFailed file named.now old new
+IsNotKept old new file c (CannotWrite named said) = (file ≡ Some named.now) × (length (closed_text c) ≤ 268000000) × StoreFailed said named.now old new
 IsNotKept old new file c Memory = IsCalm old new
 IsNotKept old new file c refusal = ⊥
 
@@ -37,36 +36,37 @@ IsTreeStored (Some name) shelf tree = (bytes : List ℕ) × IsTreeText tree byte
 abbrev pub IsLarge : TreeCertificate → Type 0
 IsLarge tree = 268435456 < length (tree_text tree)
 
--- the tree is too large, or the call that was to store it failed
+-- the tree is too large, or isn't and the call that was to store it failed
 abbrev pub IsTreeNotKept : ShelfSeen → ShelfSeen → Option (List ℕ) → TreeCertificate → Refusal → Type 0
 IsTreeNotKept old new file t TreeNotWritten = IsCalm old new × IsNamed file × IsLarge t
-IsTreeNotKept old new file t (CannotWrite named) = StoreFailed file named.now old new
+IsTreeNotKept old new file t (CannotWrite named said) = (file ≡ Some named.now) × (IsLarge t → ⊥) × StoreFailed said named.now old new
 IsTreeNotKept old new file t Memory = IsCalm old new
 IsTreeNotKept old new file t refusal = ⊥
 
 -- ---- two trees stored
--- the text of the second tree, if there is one, stands under the second name, if there are names
-abbrev pub IsSecondStored : Option (List ℕ) → ShelfSeen → Option TreeCertificate → Type 0
-IsSecondStored file shelf None = Unit {0}
-IsSecondStored file shelf (Some tree) = IsTreeStored (option_map below_name file) shelf tree
+-- the text of the second tree stands under the second name, if there are names; where there is no second tree, what stood there
+abbrev pub IsSecondStored : Option (List ℕ) → ShelfSeen → ShelfSeen → Option TreeCertificate → Type 0
+IsSecondStored None old new second = Unit {0}
+IsSecondStored (Some name) old new None = new.file (below_name name) ≡ old.file (below_name name)
+IsSecondStored (Some name) old new (Some tree) = IsTreeStored (Some (below_name name)) new tree
 
 -- both texts stand
-abbrev pub AreTreesStored : Option (List ℕ) → ShelfSeen → TreeCertificate → Option TreeCertificate → Type 0
-AreTreesStored file shelf first second = IsTreeStored file shelf first × IsSecondStored file shelf second
+abbrev pub AreTreesStored : Option (List ℕ) → ShelfSeen → ShelfSeen → TreeCertificate → Option TreeCertificate → Type 0
+AreTreesStored file old new first second = IsTreeStored file new first × IsSecondStored file old new second
 
 -- one of the trees is too large to be written
 abbrev pub IsOneLarge : TreeCertificate → Option TreeCertificate → Type 0
 IsOneLarge first None = IsLarge first
 IsOneLarge first (Some second) = IsLarge first ⊎ IsLarge second
 
--- the trees are to be stored under the name, if there is one, and can't be: neither is where one is too large, and where the second
--- can't be, the first is
+-- the trees are to be stored under the name, if there is one, and can't be: neither is where one is too large, and where neither is
+-- too large and the second can't be, the first is
 abbrev pub AreUnstored : ShelfSeen → ShelfSeen → Option (List ℕ) → TreeCertificate → Option TreeCertificate → Refusal → Type 0
 AreUnstored old new file first second TreeNotWritten = IsCalm old new × IsNamed file × IsOneLarge first second
-AreUnstored old new file first second (CannotWrite named) = StoreFailed file named.now old new
-AreUnstored old new file first second (CannotWriteBelow named) =
-    (file ≡ Some named.now) × IsTreeStored file new first × (new.failed ≡ old.failed ++ (Store, below_name named.now) ∷ [])
-AreUnstored old new file first second (NoMemoryBelow named) = (file ≡ Some named.now) × IsTreeStored file new first × IsCalm old new
+AreUnstored old new file first second (CannotWrite named said) = (file ≡ Some named.now) × (IsOneLarge first second → ⊥) × StoreFailed said named.now old new
+AreUnstored old new file first second (CannotWriteBelow named said) =
+    (file ≡ Some named.now) × (IsOneLarge first second → ⊥) × IsTreeStored file new first × StoreFailed said (below_name named.now) old new
+AreUnstored old new file first second (NoMemoryBelow named) = (file ≡ Some named.now) × (IsOneLarge first second → ⊥) × IsTreeStored file new first × IsCalm old new
 AreUnstored old new file first second Memory = IsCalm old new
 AreUnstored old new file first second refusal = ⊥
 
@@ -78,7 +78,7 @@ pub record IsCertificateFile (shelf : ShelfSeen) (name bytes : List ℕ) : Type 
 
 -- a file is the cause: it can't be read, is too large, or has a bad line
 abbrev pub FromLines : (List ℕ → ℕ → Type 0) → ShelfSeen → ShelfSeen → List ℕ → Refusal → Type 0
-FromLines IsBad old new name (CannotRead named) = FetchFailed named.now name old new
+FromLines IsBad old new name (CannotRead said) = FetchFailed said name old new
 FromLines IsBad old new name LargeCertificate = IsCalm old new × (old.told ≡ true → IsLonger (old.file name) 268435456)
 FromLines IsBad old new name (BadLine n) = IsCalm old new × ((bytes : List ℕ) × IsCertificateFile old name bytes × IsBad bytes n)
 FromLines IsBad old new name Memory = IsCalm old new

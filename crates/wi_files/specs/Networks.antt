@@ -21,7 +21,7 @@ FileHasFault (Some bytes) fault = Fails fault (network_of bytes)
 
 -- the network file is the cause
 abbrev pub FromNetwork : ShelfSeen → ShelfSeen → List ℕ → Refusal → Type 0
-FromNetwork old new name (CannotRead named) = FetchFailed named.now name old new
+FromNetwork old new name (CannotRead said) = FetchFailed said name old new
 FromNetwork old new name (Network fault) = IsCalm old new × (old.told ≡ true → FileHasFault (old.file name) fault)
 FromNetwork old new name Memory = IsCalm old new
 FromNetwork old new name refusal = ⊥

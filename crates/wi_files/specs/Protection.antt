@@ -10,6 +10,7 @@ use Rattle.wi_plan.specs.Plans.{IsPlan}
 use Rattle.wi_planjson.specs.Plan.{plan_in}
 use Rattle.wi_planjson.specs.declared.refused.PlanRefused.TheVariants as plan
 use Rattle.wi_protect.specs.Protected.{protected}
+use Rattle.wi_protect.specs.Naming.{AreNamed}
 use Rattle.wi_protect.specs.Protection.{AreProtected}
 use Rattle.wi_protect.specs.Refusals.{fault_of}
 use Rattle.wi_protect.specs.declared.refused.ProtectRefused.TheVariants as protect
@@ -26,13 +27,14 @@ pub record IsPlanned (bytes : List ℕ) (net : Net) (plan : Plan) : Type 0 where
   pub is : IsPlan net plan
 
 -- what is printed: the text of the network that the plan asks for, which is within the limits, and a line feed; as a file it is that
--- network's. In that network the plan's paths are protected
+-- network's. In that network the plan's paths are protected, and labels have their names
 pub record IsProtecting (bytes text : List ℕ) : Type 0 where
   pub net : Net
   pub plan : Plan
   pub planned : IsPlanned bytes net plan
   pub faultless : fault_of net plan ≡ None
   pub paths : AreProtected net plan
+  pub names : AreNamed net plan
   pub short : length (text_of (protected net plan)) ≤ 67108864
   pub text_is : text ≡ text_of (protected net plan) ++ codes "\n"
   pub again : length text ≤ 67108864 → network_of text ≡ Ok (protected net plan)

@@ -36,7 +36,7 @@ IsBadScript net k bytes refused = IsNoScript net bytes refused ⊎ ((script : Sc
 
 -- the script's file is the cause: over the limit it is told so, whatever its lines are
 abbrev pub FromScript : ShelfSeen → ShelfSeen → Net → List ℕ → ℕ → Refusal → Type 0
-FromScript old new net name k (CannotRead named) = FetchFailed named.now name old new
+FromScript old new net name k (CannotRead said) = FetchFailed said name old new
 FromScript old new net name k LongScript = IsCalm old new × (old.told ≡ true → IsLonger (old.file name) 1048576)
 FromScript old new net name k (BadScript refused) =
     IsCalm old new × ((bytes : List ℕ) × (old.told ≡ true → old.file name ≡ Some bytes) × (length bytes ≤ 1048576) × IsBadScript net k bytes refused)

@@ -2,6 +2,7 @@
 use Rattle.std.specs.Prelude.{◌≡◌, ◌⊎◌, ℕ, List, [], ◌∷◌, ◌++◌, codes, Option, Some, option_map}
 use Rattle.wi_base.specs.declared.shelf.CallKind.TheVariants.{Fetch, Store}
 use Rattle.wi_base.specs.Shelf.{ShelfSeen}
+use Rattle.wi_outcome.specs.Texts.{cannot_read_text, cannot_write_text}
 use Rattle.wi_outcome.specs.declared.refusal.Refusal.{Refusal}
 use Rattle.wi_outcome.specs.declared.refusal.Refusal.TheVariants.{CannotWrite, CannotWriteBelow, NoMemoryBelow}
 
@@ -29,18 +30,18 @@ IsOfTwo file name = (file ≡ Some name) ⊎ (option_map below_name file ≡ Som
 abbrev pub IsCalm : ShelfSeen → ShelfSeen → Type 0
 IsCalm old new = new.failed ≡ old.failed
 
--- the call that was to fetch this file failed, and no other
+-- the call that was to fetch this file failed, and no other, and this is said of it
 abbrev pub FetchFailed : List ℕ → List ℕ → ShelfSeen → ShelfSeen → Type 0
-FetchFailed named name old new = (named ≡ name) × (new.failed ≡ old.failed ++ (Fetch, name) ∷ [])
+FetchFailed said name old new = (said ≡ cannot_read_text name) × (new.failed ≡ old.failed ++ (Fetch, name) ∷ [])
 
--- the call that was to store under this name failed, and no other
-abbrev pub StoreFailed : Option (List ℕ) → List ℕ → ShelfSeen → ShelfSeen → Type 0
-StoreFailed file named old new = (file ≡ Some named) × (new.failed ≡ old.failed ++ (Store, named) ∷ [])
+-- the call that was to store under this name failed, and no other, and this is said of it
+abbrev pub StoreFailed : List ℕ → List ℕ → ShelfSeen → ShelfSeen → Type 0
+StoreFailed said name old new = (said ≡ cannot_write_text name) × (new.failed ≡ old.failed ++ (Store, name) ∷ [])
 
 -- what a refusal leaves of files: all, but for the one that couldn't be stored, of which nothing is known, and for the first of two where
 -- the second couldn't be
 abbrev pub IsLeft : Refusal → ShelfSeen → ShelfSeen → Type 0
-IsLeft (CannotWrite name) old new = OthersStand (Some name.now) old new
-IsLeft (CannotWriteBelow name) old new = StandBut (IsOfTwo (Some name.now)) old new
+IsLeft (CannotWrite name said) old new = OthersStand (Some name.now) old new
+IsLeft (CannotWriteBelow name said) old new = StandBut (IsOfTwo (Some name.now)) old new
 IsLeft (NoMemoryBelow name) old new = OthersStand (Some name.now) old new
 IsLeft refusal old new = AllStand old new

@@ -13,7 +13,7 @@ use crate::store::store;
 use std::alloc::Global;
 use wi_base::{FetchRefused, Shelf};
 use wi_cert::{Certificate, DecodeRefused, EncodeRefused, Feeder, encode_within};
-use wi_outcome::Refusal;
+use wi_outcome::{Refusal, cannot_read};
 
 /// The most bytes that a certificate's lines from `heads` on have where it is written.
 const WRITTEN_LIMIT: usize = 268_000_000;
@@ -44,7 +44,7 @@ pub fn store_certificate<'a, S: Shelf>(
         Err(EncodeRefused::TooLong) => return Err(Refusal::NotWritten),
         Err(EncodeRefused::Memory) => return Err(Refusal::Memory),
     };
-    store(name, text.as_slice(), shelf)
+    store(alloc, name, text.as_slice(), shelf)
 }
 
 /// The certificate in a file.
@@ -60,7 +60,7 @@ pub fn fetch_certificate<'a, S: Shelf>(
     ensures refused { IfErr result (FromLines (IsBadLine certificates) (S.seen shelf.old) (S.seen shelf.new) name.now) }
 {
     let mut feeder = Feeder::new(alloc);
-    match feed_parts(&mut feeder, name, shelf) {
+    match feed_parts(alloc, &mut feeder, name, shelf) {
         Ok(()) => match feeder.finish() {
             Ok(certificate) => Ok(certificate),
             Err(DecodeRefused::BadLine(line)) => Err(Refusal::BadLine(line)),
@@ -75,6 +75,7 @@ pub fn fetch_certificate<'a, S: Shelf>(
 
 // Feeds a file part by part, to its end.
 fn feed_parts<'a, S: Shelf>(
+    alloc: Global,
     feeder: &mut Feeder,
     name: &'a str,
     shelf: &mut S,
@@ -88,7 +89,7 @@ fn feed_parts<'a, S: Shelf>(
 {
     let mut at = 0;
     loop {
-        let part = next_part(name, at, shelf)?;
+        let part = next_part(alloc, name, at, shelf)?;
         if part.is_empty() {
             return Ok(());
         }
@@ -102,6 +103,7 @@ fn feed_parts<'a, S: Shelf>(
 
 /// The next bytes of a file.
 pub fn next_part<'a, S: Shelf>(
+    alloc: Global,
     name: &'a str,
     at: u64,
     shelf: &mut S,
@@ -113,9 +115,10 @@ pub fn next_part<'a, S: Shelf>(
     ensures part { (S.seen shelf.old).told ≡ true → IfOk result (λ part. IsPart ((S.seen shelf.old).file name.now) at 65536 part.items) }
     ensures refused { IfErr result (FromParts (S.seen shelf.old) (S.seen shelf.new) name.now) }
 {
+    let unread = cannot_read(alloc, name)?;
     match shelf.fetch_part(name, at, PART) {
         Ok(part) => Ok(part),
-        Err(FetchRefused::Failed) => Err(Refusal::CannotRead(name)),
+        Err(FetchRefused::Failed) => Err(Refusal::CannotRead(unread)),
         Err(FetchRefused::TooBig | FetchRefused::Memory) => Err(Refusal::Memory),
     }
 }

@@ -12,7 +12,7 @@ use std::alloc::Global;
 use wi_base::{FetchRefused, Shelf};
 use wi_net::Network;
 use wi_netjson::{NetFault, Place, read_network};
-use wi_outcome::Refusal;
+use wi_outcome::{Refusal, cannot_read};
 
 /// The most bytes of a network file.
 pub const NETWORK_LIMIT: u32 = 67_108_864;
@@ -32,7 +32,7 @@ pub fn network<'a, S: Shelf>(
     ensures held { (S.seen shelf.old).told ≡ true → IfOk result (λ net. HoldsNetwork ((S.seen shelf.old).file name.now) net) }
     ensures refused { IfErr result (λ refusal. FromNetwork (S.seen shelf.old) (S.seen shelf.new) name.now refusal) }
 {
-    let bytes = network_bytes(name, shelf)?;
+    let bytes = network_bytes(alloc, name, shelf)?;
     match read_network(alloc, bytes.as_slice()) {
         Ok(net) => Ok(net),
         Err(fault) => Err(Refusal::Network(fault)),
@@ -40,16 +40,21 @@ pub fn network<'a, S: Shelf>(
 }
 
 /// The bytes of a network file.
-pub fn network_bytes<'a, S: Shelf>(name: &'a str, shelf: &mut S) -> Result<Vec<u8>, Refusal<'a>>
+pub fn network_bytes<'a, S: Shelf>(
+    alloc: Global,
+    name: &'a str,
+    shelf: &mut S,
+) -> Result<Vec<u8>, Refusal<'a>>
     ensures told { (S.seen shelf.new).told ≡ (S.seen shelf.old).told }
     ensures files { AllStand (S.seen shelf.old) (S.seen shelf.new) }
     ensures calm { IfOk result (λ _. IsCalm (S.seen shelf.old) (S.seen shelf.new)) }
     ensures found { (S.seen shelf.old).told ≡ true → IfOk result (λ bytes. (S.seen shelf.old).file name.now ≡ Some bytes.items) }
     ensures refused { IfErr result (λ refusal. FromNetwork (S.seen shelf.old) (S.seen shelf.new) name.now refusal) }
 {
+    let unread = cannot_read(alloc, name)?;
     match shelf.fetch(name, NETWORK_LIMIT as u64) {
         Ok(bytes) => Ok(bytes),
-        Err(FetchRefused::Failed) => Err(Refusal::CannotRead(name)),
+        Err(FetchRefused::Failed) => Err(Refusal::CannotRead(unread)),
         Err(FetchRefused::TooBig) => Err(Refusal::Network(NetFault::OverLimit(
             Place::File,
             NETWORK_LIMIT,
@@ -59,7 +64,11 @@ pub fn network_bytes<'a, S: Shelf>(name: &'a str, shelf: &mut S) -> Result<Vec<u
 }
 
 /// The bytes of a script, for a network.
-pub fn script_bytes<'a, S: Shelf>(name: &'a str, shelf: &mut S) -> Result<Vec<u8>, Refusal<'a>>
+pub fn script_bytes<'a, S: Shelf>(
+    alloc: Global,
+    name: &'a str,
+    shelf: &mut S,
+) -> Result<Vec<u8>, Refusal<'a>>
     ensures told { (S.seen shelf.new).told ≡ (S.seen shelf.old).told }
     ensures files { AllStand (S.seen shelf.old) (S.seen shelf.new) }
     ensures calm { IfOk result (λ _. IsCalm (S.seen shelf.old) (S.seen shelf.new)) }
@@ -67,9 +76,10 @@ pub fn script_bytes<'a, S: Shelf>(name: &'a str, shelf: &mut S) -> Result<Vec<u8
     ensures found { (S.seen shelf.old).told ≡ true → IfOk result (λ bytes. (S.seen shelf.old).file name.now ≡ Some bytes.items) }
     ensures refused { (net : Net) (k : ℕ) → IfErr result (λ refusal. FromScript (S.seen shelf.old) (S.seen shelf.new) net name.now k refusal) }
 {
+    let unread = cannot_read(alloc, name)?;
     match shelf.fetch(name, SCRIPT_LIMIT) {
         Ok(bytes) => Ok(bytes),
-        Err(FetchRefused::Failed) => Err(Refusal::CannotRead(name)),
+        Err(FetchRefused::Failed) => Err(Refusal::CannotRead(unread)),
         Err(FetchRefused::TooBig) => Err(Refusal::LongScript),
         Err(FetchRefused::Memory) => Err(Refusal::Memory),
     }

@@ -30,7 +30,7 @@ pub fn protect<'a, S: Shelf>(
     ensures protected { IfOk result (λ printed. IsProtected (S.seen shelf.old) name.now printed.text) }
     ensures refused { IfErr result (FromProtecting (S.seen shelf.old) (S.seen shelf.new) name.now) }
 {
-    let bytes = network_bytes(name, shelf)?;
+    let bytes = network_bytes(alloc, name, shelf)?;
     let printed = protected(alloc, bytes.as_slice());
     drop(bytes);
     printed

@@ -49,7 +49,7 @@ fn play_on<'a, S: Shelf>(
     ensures played { IfOk result (λ printed. (bytes : List ℕ) × ((S.seen shelf.old).told ≡ true → (S.seen shelf.old).file script.now ≡ Some bytes) × IsPlay net.now k bytes printed.text) }
     ensures refused { IfErr result (λ refusal. FromScript (S.seen shelf.old) (S.seen shelf.new) net.now script.now k refusal) }
 {
-    let bytes = script_bytes(script, shelf)?;
+    let bytes = script_bytes(alloc, script, shelf)?;
     played(alloc, net, bytes.as_slice(), k)
 }
 

@@ -3,11 +3,17 @@ ghost use Rattle.std.specs.Prelude.{◌≡◌, true, Some, IfErr, OnOk};
 ghost use Rattle.wi_files.specs.Shelves.{IsCalm, IsLeft, OthersStand};
 ghost use Rattle.wi_files.specs.private.Stages.{IsUnstored};
 
+use std::alloc::Global;
 use wi_base::{Shelf, StoreRefused};
-use wi_outcome::Refusal;
+use wi_outcome::{Refusal, cannot_write};
 
 /// Stores bytes under a name.
-pub fn store<'a, S: Shelf>(name: &'a str, bytes: &[u8], shelf: &mut S) -> Result<(), Refusal<'a>>
+pub fn store<'a, S: Shelf>(
+    alloc: Global,
+    name: &'a str,
+    bytes: &[u8],
+    shelf: &mut S,
+) -> Result<(), Refusal<'a>>
     ensures told { (S.seen shelf.new).told ≡ (S.seen shelf.old).told }
     ensures others { OthersStand (Some name.now) (S.seen shelf.old) (S.seen shelf.new) }
     ensures left { IfErr result (λ refusal. IsLeft refusal (S.seen shelf.old) (S.seen shelf.new)) }
@@ -15,9 +21,10 @@ pub fn store<'a, S: Shelf>(name: &'a str, bytes: &[u8], shelf: &mut S) -> Result
     ensures stored { (S.seen shelf.old).told ≡ true → OnOk result ((S.seen shelf.new).file name.now ≡ Some bytes.now) }
     ensures refused { IfErr result (IsUnstored (S.seen shelf.old) (S.seen shelf.new) name.now) }
 {
+    let unwritten = cannot_write(alloc, name)?;
     match shelf.store(name, bytes) {
         Ok(()) => Ok(()),
-        Err(StoreRefused::Failed) => Err(Refusal::CannotWrite(name)),
+        Err(StoreRefused::Failed) => Err(Refusal::CannotWrite(name, unwritten)),
         Err(StoreRefused::Memory) => Err(Refusal::Memory),
     }
 }

@@ -2,7 +2,7 @@
 //! A query's fault becomes its text while the network is there, since it may name a link.
 ghost use Rattle.std.specs.Prelude.{◌≡◌, ℕ, List, Some, option_map, IfOk, IfErr};
 ghost use Rattle.wi_quantity.specs.Faults.{IsFault};
-ghost use Rattle.wi_query.specs.Meaning.{IsQuery};
+ghost use Rattle.wi_query.specs.Meaning.{HasAutomata, IsQuery};
 ghost use Rattle.wi_files.specs.Asked.{AreBadTexts, IsAsked, IsBadQuery, IsBadWeights, WeighsBy};
 
 use std::alloc::Global;
@@ -28,10 +28,12 @@ pub fn read_texts<'a>(
     weights: Option<&str>,
 ) -> Result<Asked, Refusal<'a>>
     ensures read { IfOk result (λ asked. IsAsked net.now query.now (option_map (λ s. s.now) weights.entry) asked.query asked.vector) }
+    ensures automata { IfOk result (λ asked. HasAutomata asked.query) }
     ensures refused { IfErr result (λ refusal. AreBadTexts net.now query.now (option_map (λ s. s.now) weights.entry) refusal) }
 {
     net.keeps();
     let query = query_of(alloc, net, query)?;
+    query.keeps();
     match vector_of(alloc, weights) {
         Ok(vector) => Ok(Asked { query, vector }),
         Err(refusal) => {

@@ -44,7 +44,7 @@ pub fn store_tree<'a, S: Shelf>(
     ensures refused { IfErr result (λ refusal. IsTreeNotKept (S.seen shelf.old) (S.seen shelf.new) (Some name.now) tree.now refusal) }
 {
     let bytes = tree_bytes(alloc, tree)?;
-    let stored = store(name, bytes.as_slice(), shelf);
+    let stored = store(alloc, name, bytes.as_slice(), shelf);
     drop(bytes);
     stored
 }
@@ -84,7 +84,7 @@ fn feed_parts<'a, S: Shelf>(
     let mut feeder = TreeFeeder::new(alloc);
     let mut at = 0;
     loop {
-        let part = match next_part(name, at, shelf) {
+        let part = match next_part(alloc, name, at, shelf) {
             Ok(part) => part,
             Err(refusal) => {
                 drop(feeder);

@@ -11,7 +11,7 @@ use crate::tree_file::{store_tree, tree_bytes};
 use std::alloc::Global;
 use wi_base::{NoMemory, Shelf, StoreRefused};
 use wi_cert::TreeCertificate;
-use wi_outcome::Refusal;
+use wi_outcome::{Refusal, cannot_write};
 
 /// Stores the first of two trees under a name, and the second, if there is one, under that name followed by `.below`.
 pub fn store_trees<'a, S: Shelf>(
@@ -27,7 +27,7 @@ pub fn store_trees<'a, S: Shelf>(
     ensures others { StandBut (IsOfTwo (Some name.now)) (S.seen shelf.old) (S.seen shelf.new) }
     ensures left { IfErr result (λ refusal. IsLeft refusal (S.seen shelf.old) (S.seen shelf.new)) }
     ensures calm { OnOk result (IsCalm (S.seen shelf.old) (S.seen shelf.new)) }
-    ensures stored { OnOk result (AreTreesStored (Some name.now) (S.seen shelf.new) first.now (option_map (λ tree. tree.now) second.entry)) }
+    ensures stored { OnOk result (AreTreesStored (Some name.now) (S.seen shelf.old) (S.seen shelf.new) first.now (option_map (λ tree. tree.now) second.entry)) }
     ensures refused { IfErr result (AreUnstored (S.seen shelf.old) (S.seen shelf.new) (Some name.now) first.now (option_map (λ tree. tree.now) second.entry)) }
 {
     match second {
@@ -50,7 +50,7 @@ fn store_both<'a, S: Shelf>(
     ensures others { StandBut (IsOfTwo (Some name.now)) (S.seen shelf.old) (S.seen shelf.new) }
     ensures left { IfErr result (λ refusal. IsLeft refusal (S.seen shelf.old) (S.seen shelf.new)) }
     ensures calm { OnOk result (IsCalm (S.seen shelf.old) (S.seen shelf.new)) }
-    ensures stored { OnOk result (AreTreesStored (Some name.now) (S.seen shelf.new) first.now (Some second.now)) }
+    ensures stored { OnOk result (AreTreesStored (Some name.now) (S.seen shelf.old) (S.seen shelf.new) first.now (Some second.now)) }
     ensures refused { IfErr result (AreUnstored (S.seen shelf.old) (S.seen shelf.new) (Some name.now) first.now (Some second.now)) }
 {
     let first = tree_bytes(alloc, first)?;
@@ -84,7 +84,7 @@ fn store_bytes<'a, S: Shelf>(
     ensures refused { IfErr result (AreUnstoredBytes (S.seen shelf.old) (S.seen shelf.new) name.now first.now) }
 {
     let below = below_name(alloc, name)?;
-    let stored = store_in_turn(first, second, name, below.as_str(), shelf);
+    let stored = store_in_turn(alloc, first, second, name, below.as_str(), shelf);
     drop(below);
     stored
 }
@@ -98,6 +98,7 @@ fn below_name(alloc: Global, name: &str) -> Result<String, NoMemory>
 
 // Stores bytes under a name, and then others under a second name.
 fn store_in_turn<'a, S: Shelf>(
+    alloc: Global,
     first: &[u8],
     second: &[u8],
     name: &'a str,
@@ -113,10 +114,11 @@ fn store_in_turn<'a, S: Shelf>(
     ensures second { (S.seen shelf.new).told ≡ true → OnOk result ((S.seen shelf.new).file (below_name name.now) ≡ Some second.now) }
     ensures refused { IfErr result (AreUnstoredBytes (S.seen shelf.old) (S.seen shelf.new) name.now first.now) }
 {
-    store(name, first, shelf)?;
+    let unwritten = cannot_write(alloc, below)?;
+    store(alloc, name, first, shelf)?;
     match shelf.store(below, second) {
         Ok(()) => Ok(()),
-        Err(StoreRefused::Failed) => Err(Refusal::CannotWriteBelow(name)),
+        Err(StoreRefused::Failed) => Err(Refusal::CannotWriteBelow(name, unwritten)),
         Err(StoreRefused::Memory) => Err(Refusal::NoMemoryBelow(name)),
     }
 }

@@ -2,7 +2,7 @@
 use Rattle.std.proofs.Common.{◌≡◌, ℕ, ◌⊎◌, inl, inr, subst, sym}
 use Rattle.std.specs.Prelude.{codes}
 use Rattle.wi_base.specs.Sink.{SinkSeen}
-use Rattle.wi_outcome.specs.Edges.{Says, SaysWhy, kept}
+use Rattle.wi_outcome.specs.Edges.{Says, SaysWhy}
 use Rattle.wi_outcome.specs.Texts.{IsPutTogether, status_of, text_of}
 use Rattle.wi_outcome.specs.declared.refusal.Refusal.{Refusal}
 
@@ -11,7 +11,7 @@ said_words refusal known status old new result is status_is says =
     inl (subst (λ (r : Refusal). Says (text_of r) (status_of refusal) old new result) (sym is) (subst (λ (s : ℕ). Says (text_of known) s old new result) status_is says))
 
 pub said_made : (refusal known : Refusal) (status : ℕ) (old new : SinkSeen) (result : ℕ) → refusal ≡ known → status ≡ status_of refusal → IsPutTogether known
-    → Says (text_of known) status old new result ⊎ Says (codes "whatif: out of memory\n") (kept status) old new result → SaysWhy refusal old new result
+    → Says (text_of known) status old new result ⊎ Says (codes "whatif: out of memory\n") 11 old new result → SaysWhy refusal old new result
 said_made refusal known status old new result is status_is made (inl says) = said_words refusal known status old new result is status_is says
 said_made refusal known status old new result is status_is made (inr wants) =
-    inr (subst IsPutTogether (sym is) made, subst (λ (s : ℕ). Says (codes "whatif: out of memory\n") (kept s) old new result) status_is wants)
+    inr (subst IsPutTogether (sym is) made, wants)

@@ -36,11 +36,11 @@ Says text status old new result =
     ⊎ (PutPart text old new × (result ≡ 10))
     ⊎ (PutNothing old new × (result ≡ kept status))
 
--- it was said why; or that memory ran out, where the text is put together and there was none for it
+-- it was said why; or that memory ran out, where the text is put together when it is said and there was none for it
 abbrev pub SaysWhy : Refusal → SinkSeen → SinkSeen → ℕ → Type 0
 SaysWhy refusal old new result =
     Says (text_of refusal) (status_of refusal) old new result
-    ⊎ (IsPutTogether refusal × Says (codes "whatif: out of memory\n") (kept (status_of refusal)) old new result)
+    ⊎ (IsPutTogether refusal × Says (codes "whatif: out of memory\n") 11 old new result)
 
 -- a report was printed, and nothing was said; or it wasn't, and it was said why
 abbrev pub Prints : ℕ → List ℕ → SinkSeen → SinkSeen → SinkSeen → SinkSeen → ℕ → Type 0

@@ -16,12 +16,19 @@ use Rattle.wi_wire.specs.declared.refused.StackRefused.TheVariants as stack
 use Rattle.wi_outcome.specs.declared.refusal.Refusal.{Refusal}
 use Rattle.wi_outcome.specs.declared.refusal.Refusal.TheVariants.{BadLine, BadStack, CannotPrint, CannotRead, CannotWrite, CannotWriteBelow, LargeCertificate, LargeNetwork, LongScript, ManyNodes, Memory, Network, NoMemoryBelow, NotAccepted, NotHex, NotWritten, Overflow, Plan, Query, Script, TooLong, TreeNotWritten, Unprotected, Usage, Weights}
 
+-- what is said of a call that failed, by the name of its file
+abbrev pub cannot_read_text : List ℕ → List ℕ
+cannot_read_text name = codes "whatif: cannot read " ++ name ++ codes "\n"
+
+abbrev pub cannot_write_text : List ℕ → List ℕ
+cannot_write_text name = codes "whatif: cannot write " ++ name ++ codes "\n"
+
 -- what is said
 abbrev pub text_of : Refusal → List ℕ
 text_of Usage = codes "usage: whatif verify NETWORK QUERY [--weights W] [--certificate FILE]\n       whatif check NETWORK QUERY CERTIFICATE [--weights W]\n       whatif play NETWORK SCRIPT K\n       whatif gen SEED SIZE\n       whatif exact NETWORK QUERY [--weights W] [--certificate FILE]\n       whatif check-exact NETWORK QUERY CERTIFICATE [--weights W]\n       whatif tolerate NETWORK QUERY LIMIT [--weights W] [--certificate FILE]\n       whatif protect PLAN\n       whatif packets NETWORK QUERY [--weights W]\n       whatif stack HEX\n"
-text_of (CannotRead name) = codes "whatif: cannot read " ++ name.now ++ codes "\n"
-text_of (CannotWrite name) = codes "whatif: cannot write " ++ name.now ++ codes "\n"
-text_of (CannotWriteBelow name) = codes "whatif: cannot write " ++ name.now ++ codes ".below\n"
+text_of (CannotRead said) = said
+text_of (CannotWrite name said) = said
+text_of (CannotWriteBelow name said) = said
 text_of (NoMemoryBelow name) = codes "whatif: out of memory\n"
 text_of (Network f) = fault_text f
 text_of (Query said) = said
@@ -44,9 +51,12 @@ text_of (BadStack refused) = stack_refused_text refused
 text_of CannotPrint = codes "whatif: cannot print\n"
 text_of Memory = codes "whatif: out of memory\n"
 
--- the text is put together from parts, which takes memory
+-- the text is put together when it is said, which takes memory
 abbrev pub IsPutTogether : Refusal → Type 0
 IsPutTogether Usage = ⊥
+IsPutTogether (CannotRead said) = ⊥
+IsPutTogether (CannotWrite name said) = ⊥
+IsPutTogether (CannotWriteBelow name said) = ⊥
 IsPutTogether (Query said) = ⊥
 IsPutTogether LongScript = ⊥
 IsPutTogether LargeCertificate = ⊥
@@ -62,9 +72,9 @@ IsPutTogether _ = Unit {0}
 -- the exit status that goes with it
 abbrev pub status_of : Refusal → ℕ
 status_of Usage = 9
-status_of (CannotRead name) = 10
-status_of (CannotWrite name) = 10
-status_of (CannotWriteBelow name) = 10
+status_of (CannotRead said) = 10
+status_of (CannotWrite name said) = 10
+status_of (CannotWriteBelow name said) = 10
 status_of (NoMemoryBelow name) = 11
 status_of (Network fault.Memory) = 11
 status_of (Network f) = 3

@@ -5,4 +5,4 @@ mod printed;
 mod refusal;
 
 pub use printed::{Printed, print};
-pub use refusal::{NODE_LIMIT, Refusal, say, status_of};
+pub use refusal::{NODE_LIMIT, Refusal, cannot_read, cannot_write, say, status_of};

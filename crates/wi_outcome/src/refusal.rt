@@ -1,9 +1,9 @@
 //! Each way to end without an answer is a case here, with one text and one status, so that none can be added without both. A
 //! text that is constant is put as it stands, and takes no memory; where there is none for another, a constant one is put in
-//! its place.
+//! its place. What is said of a failed call is made before the call, so that no memory can be wanting for it afterwards.
 ghost use Rattle.std.specs.Prelude.{◌≡◌, ◌⊎◌, ◌++◌, ◌<◌, ◌-◌, ◌^◌, ℕ, List, codes, IfOk};
 ghost use Rattle.wi_outcome.specs.Edges.{Says, SaysWhy, kept};
-ghost use Rattle.wi_outcome.specs.Texts.{status_of};
+ghost use Rattle.wi_outcome.specs.Texts.{cannot_read_text, cannot_write_text, status_of};
 
 use std::alloc::Global;
 use wi_base::{NoMemory, PutRefused, Sink};
@@ -36,12 +36,12 @@ const NO_MEMORY: &[u8] = b"whatif: out of memory\n";
 pub enum Refusal<'a> {
     /// The words are no command.
     Usage,
-    /// The call that was to fetch this file failed.
-    CannotRead(&'a str),
-    /// The call that was to store under this name failed.
-    CannotWrite(&'a str),
-    /// The first of two trees is stored under this name, and the call that was to store the second failed.
-    CannotWriteBelow(&'a str),
+    /// The call that was to fetch a file failed, of which this is said.
+    CannotRead(Text),
+    /// The call that was to store under this name failed, of which this is said.
+    CannotWrite(&'a str, Text),
+    /// The first of two trees is stored under this name, and the call that was to store the second failed, of which this is said.
+    CannotWriteBelow(&'a str, Text),
     /// The first of two trees is stored under this name, and memory ran out for the second.
     NoMemoryBelow(&'a str),
     /// The network file has this fault.
@@ -111,8 +111,8 @@ pub fn status_of(refusal: &Refusal<'_>) -> u8
         Refusal::TooLong(_) => 7,
         Refusal::Usage => 9,
         Refusal::CannotRead(_) => 10,
-        Refusal::CannotWrite(_) => 10,
-        Refusal::CannotWriteBelow(_) => 10,
+        Refusal::CannotWrite(_, _) => 10,
+        Refusal::CannotWriteBelow(_, _) => 10,
         Refusal::NoMemoryBelow(_) => 11,
         Refusal::CannotPrint => 10,
         Refusal::Script(ScriptRefused::Memory) => 11,
@@ -145,27 +145,9 @@ pub fn say<E: Sink>(alloc: Global, refusal: Refusal<'_>, err: &mut E) -> u8
     let status = status_of(&refusal);
     match refusal {
         Refusal::Usage => put(USAGE, status, err),
-        Refusal::CannotRead(name) => {
-            put_made(
-                cannot(alloc, "whatif: cannot read ", name, "\n"),
-                status,
-                err,
-            )
-        }
-        Refusal::CannotWrite(name) => {
-            put_made(
-                cannot(alloc, "whatif: cannot write ", name, "\n"),
-                status,
-                err,
-            )
-        }
-        Refusal::CannotWriteBelow(name) => {
-            put_made(
-                cannot(alloc, "whatif: cannot write ", name, ".below\n"),
-                status,
-                err,
-            )
-        }
+        Refusal::CannotRead(text) => put(text.as_bytes(), status, err),
+        Refusal::CannotWrite(_, text) => put(text.as_bytes(), status, err),
+        Refusal::CannotWriteBelow(_, text) => put(text.as_bytes(), status, err),
         Refusal::NoMemoryBelow(_) => put(NO_MEMORY, status, err),
         Refusal::Network(fault) => put_made(network_fault_text(alloc, fault), status, err),
         Refusal::Query(text) => put(text.as_bytes(), status, err),
@@ -212,11 +194,11 @@ pub fn say<E: Sink>(alloc: Global, refusal: Refusal<'_>, err: &mut E) -> u8
 fn put_made<E: Sink>(text: Result<Text, NoMemory>, status: u8, err: &mut E) -> u8
     requires { (E.seen err.old).faults < 2 ^ 64 - 1 }
     ensures told { (E.seen err.new).told ≡ (E.seen err.old).told }
-    ensures said { (wanted : List ℕ) → IfOk text (λ t. t ≡ wanted) → Says wanted status (E.seen err.old) (E.seen err.new) result ⊎ Says (codes "whatif: out of memory\n") (kept status) (E.seen err.old) (E.seen err.new) result }
+    ensures said { (wanted : List ℕ) → IfOk text (λ t. t ≡ wanted) → Says wanted status (E.seen err.old) (E.seen err.new) result ⊎ Says (codes "whatif: out of memory\n") 11 (E.seen err.old) (E.seen err.new) result }
 {
     match text {
         Ok(text) => put(text.as_bytes(), status, err),
-        Err(NoMemory::Memory) => put(NO_MEMORY, kept(status), err),
+        Err(NoMemory::Memory) => put(NO_MEMORY, 11, err),
     }
 }
 
@@ -240,13 +222,27 @@ fn kept(status: u8) -> u8
     if status == 10 { 10 } else { 11 }
 }
 
+/// What is to be said if a file can't be read.
+pub fn cannot_read(alloc: Global, name: &str) -> Result<Text, NoMemory>
+    ensures { IfOk result (λ text. text ≡ cannot_read_text name.now) }
+{
+    cannot(alloc, "whatif: cannot read ", name)
+}
+
+/// What is to be said if nothing can be stored under a name.
+pub fn cannot_write(alloc: Global, name: &str) -> Result<Text, NoMemory>
+    ensures { IfOk result (λ text. text ≡ cannot_write_text name.now) }
+{
+    cannot(alloc, "whatif: cannot write ", name)
+}
+
 // What is said of a call that failed, with the name of its file.
-fn cannot(alloc: Global, what: &str, name: &str, end: &str) -> Result<Text, NoMemory>
-    ensures { IfOk result (λ text. text ≡ what.now ++ name.now ++ end.now) }
+fn cannot(alloc: Global, what: &str, name: &str) -> Result<Text, NoMemory>
+    ensures { IfOk result (λ text. text ≡ what.now ++ name.now ++ codes "\n") }
 {
     let mut text = Text::new(alloc);
     text.put(what)?;
     text.put(name)?;
-    text.put(end)?;
+    text.put("\n")?;
     Ok(text)
 }

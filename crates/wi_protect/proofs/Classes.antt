@@ -34,7 +34,7 @@ bypasses_count x (bypass ∷ bypasses) = omega (arith, length-append (numbered_t
 abbrev count : Class → List Class → List (List ℕ) → ℕ
 count class classes names = length (names_of class classes names)
 
-all_ip : (classes : List Class) (names : List (List ℕ)) → list_all (is_no_later Ip) classes ≡ true → (count Mpls classes names ≡ 0) × (count Smpls classes names ≡ 0)
+pub all_ip : (classes : List Class) (names : List (List ℕ)) → list_all (is_no_later Ip) classes ≡ true → (count Mpls classes names ≡ 0) × (count Smpls classes names ≡ 0)
 all_ip [] names h = (refl, refl)
 all_ip (Ip ∷ classes) [] h = (refl, refl)
 all_ip (Ip ∷ classes) (s ∷ names) h = all_ip classes names h

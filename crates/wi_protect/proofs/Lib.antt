@@ -13,4 +13,5 @@ pub mod Lookups
 pub mod Placing
 pub mod Classes
 pub mod Protection
+pub mod Naming
 mod Samples

@@ -1,9 +1,10 @@
-//! Where the packets of a plan's network go is a law beside the call that makes the network: it speaks of the network that is
-//! asked for, holds for every network and every plan over it, and runs no code.
+//! Where the packets of a plan's network go, and which names its labels have, are laws beside the call that makes the network:
+//! they speak of the network that is asked for, hold for every network and every plan over it, and run no code.
 ghost use Rattle.wi_net.specs.Net.{Net};
 ghost use Rattle.wi_net.specs.Network.{IsNetwork};
 ghost use Rattle.wi_plan.specs.declared.plan.Plan.{Plan};
 ghost use Rattle.wi_plan.specs.Plans.{IsPlan};
+ghost use Rattle.wi_protect.specs.Naming.{AreNamed};
 ghost use Rattle.wi_protect.specs.Protection.{AreProtected};
 
 /// In the network of a plan a packet that sets out on a path's first link, with the path's label alone, has one trace that
@@ -13,4 +14,11 @@ ghost use Rattle.wi_protect.specs.Protection.{AreProtected};
 /// bypass of which none did, each of them is replaced by its bypass. Any links may fail, not only whole risk groups.
 pub fn protected_paths()
     ensures { (net : Net) (plan : Plan) → IsNetwork net → IsPlan net plan → AreProtected net plan }
+{}
+
+/// In the network of a plan each `ip` label of the file keeps its name, and the labels that the tables give along the P-th path
+/// are named `pP.1`, `pP.2` and so on, those along the X-th bypass `bX.1`, `bX.2`. So an `ip` label that was numbered wrongly
+/// can't stand for another of the file, in the tables and in what is said of them alike.
+pub fn labels_are_named()
+    ensures { (net : Net) (plan : Plan) → IsNetwork net → AreNamed net plan }
 {}

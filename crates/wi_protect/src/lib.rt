@@ -9,6 +9,6 @@ mod network;
 mod refused;
 mod rows;
 
-pub use laws::protected_paths;
+pub use laws::{labels_are_named, protected_paths};
 pub use network::protect;
 pub use refused::ProtectRefused;

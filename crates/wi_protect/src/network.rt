@@ -6,11 +6,12 @@ ghost use Rattle.wi_net.specs.Builder.{links_alone};
 ghost use Rattle.wi_plan.specs.Plans.{IsPlan};
 ghost use Rattle.wi_protect.specs.Refusals.{has_taken, has_too_many, Protects};
 ghost use Rattle.wi_protect.specs.Protected.{protected};
+ghost use Rattle.wi_protect.specs.Naming.{AreNamed};
 ghost use Rattle.wi_protect.specs.Protection.{AreProtected};
 
 use crate::detours::detours_of;
 use crate::labels::{add_labels, bypass_label_count, has_taken, path_label_count};
-use crate::laws::protected_paths;
+use crate::laws::{labels_are_named, protected_paths};
 use crate::refused::ProtectRefused;
 use crate::rows::{add_bypasses, add_paths};
 use std::alloc::Global;
@@ -25,9 +26,11 @@ pub fn protect(alloc: Global, net: &Network, plan: &Plan) -> Result<Network, Pro
     requires { IsPlan net.now plan.now }
     ensures network { Protects net.now plan.now result }
     ensures paths { AreProtected net.now plan.now }
+    ensures names { AreNamed net.now plan.now }
 {
     net.keeps();
     protected_paths();
+    labels_are_named();
     made(alloc, net, plan)
 }
 

@@ -1,6 +1,5 @@
 -- The causes and the outcomes of the steps within a reading or a storing.
-use Rattle.std.specs.Prelude.{◌≡◌, ℕ, ◌<◌, ◌≤◌, true, List, [], ◌∷◌, ◌++◌, length, codes, Some, Ok}
-use Rattle.wi_base.specs.declared.shelf.CallKind.TheVariants.{Store}
+use Rattle.std.specs.Prelude.{◌≡◌, ℕ, ◌<◌, ◌≤◌, true, List, ◌++◌, length, codes, Some, Ok}
 use Rattle.wi_base.specs.Shelf.{ShelfSeen, IsLonger}
 use Rattle.wi_net.specs.Net.{Net}
 use Rattle.wi_netjson.specs.File.{network_of}
@@ -51,15 +50,15 @@ FromStack bytes refusal = ⊥
 -- ---- storing
 -- the call that was to store under a name failed, or found no memory
 abbrev pub IsUnstored : ShelfSeen → ShelfSeen → List ℕ → Refusal → Type 0
-IsUnstored old new name (CannotWrite named) = StoreFailed (Some name) named.now old new
+IsUnstored old new name (CannotWrite named said) = (Some name ≡ Some named.now) × StoreFailed said named.now old new
 IsUnstored old new name Memory = IsCalm old new
 IsUnstored old new name refusal = ⊥
 
 -- the same of two names, of which the first then has these bytes where the second fails
 abbrev pub AreUnstoredBytes : ShelfSeen → ShelfSeen → List ℕ → List ℕ → Refusal → Type 0
-AreUnstoredBytes old new name bytes (CannotWriteBelow named) =
-    (named.now ≡ name) × (new.told ≡ true → new.file name ≡ Some bytes) × (new.failed ≡ old.failed ++ (Store, below_name name) ∷ [])
-AreUnstoredBytes old new name bytes (NoMemoryBelow named) = (named.now ≡ name) × (new.told ≡ true → new.file name ≡ Some bytes) × IsCalm old new
+AreUnstoredBytes old new name bytes (CannotWriteBelow named said) =
+    (Some name ≡ Some named.now) × (new.told ≡ true → new.file name ≡ Some bytes) × StoreFailed said (below_name named.now) old new
+AreUnstoredBytes old new name bytes (NoMemoryBelow named) = (Some name ≡ Some named.now) × (new.told ≡ true → new.file name ≡ Some bytes) × IsCalm old new
 AreUnstoredBytes old new name bytes refusal = IsUnstored old new name refusal
 
 -- bytes are the text of a tree that isn't too large to be written
@@ -75,7 +74,7 @@ IsNotMade t refusal = ⊥
 -- ---- reading in parts
 -- a part couldn't be fetched, or there are too many bytes
 abbrev pub FromParts : ShelfSeen → ShelfSeen → List ℕ → Refusal → Type 0
-FromParts old new name (CannotRead named) = FetchFailed named.now name old new
+FromParts old new name (CannotRead said) = FetchFailed said name old new
 FromParts old new name LargeCertificate = IsCalm old new × (old.told ≡ true → IsLonger (old.file name) 268435456)
 FromParts old new name Memory = IsCalm old new
 FromParts old new name refusal = ⊥

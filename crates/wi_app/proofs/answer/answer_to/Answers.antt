@@ -5,6 +5,9 @@ use Rattle.wi_app.specs.Generated.{IsSummary}
 use Rattle.wi_app.proofs.Outcomes.{with_status_0}
 use Rattle.wi_app.proofs.answer.answer_to.Goals as goal
 
+pub returns-in-Verify-clause-answered : goal.returns-in-Verify-clause-answered
+returns-in-Verify-clause-answered g c = rw c.in-Verify.is c.verify.ensures.answered
+
 pub returns-in-Verify-clause-refused : goal.returns-in-Verify-clause-refused
 returns-in-Verify-clause-refused g c = rw c.in-Verify.is c.verify.ensures.refused
 

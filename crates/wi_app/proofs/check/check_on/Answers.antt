@@ -12,4 +12,4 @@ returns-clause-accepted g c =
 
 pub returns-clause-refused : goal.returns-clause-refused
 returns-clause-refused g c =
-    certificate_refused c.check_for-printed.result (g.S.Shelf.seen c.args.shelf.now) (g.S.Shelf.seen c.check_for-printed.new.shelf) _ _ _ _ _ _ c.in_ok-asked.ensures.read c.check_for-printed.ensures.refused
+    certificate_refused c.check_for-printed.result (g.S.Shelf.seen c.args.shelf.now) (g.S.Shelf.seen c.check_for-printed.new.shelf) _ _ _ _ _ _ c.in_ok-asked.ensures.read c.in_ok-asked.ensures.automata c.check_for-printed.ensures.refused

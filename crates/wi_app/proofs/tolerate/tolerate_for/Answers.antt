@@ -15,7 +15,7 @@ stored-printed-requires-clause-second g c = second_writable (problem_of c.args.n
 
 pub returns-clause-told_with : goal.returns-clause-told_with
 returns-clause-told_with g c =
-    told_with c.stored-printed.result (problem_of c.args.net.now c.args.query.now c.args.vector.now) c.args.most _ (g.S.Shelf.seen c.stored-printed.new.shelf) c.in_ok-found.found _
+    told_with c.stored-printed.result (problem_of c.args.net.now c.args.query.now c.args.vector.now) c.args.most _ (g.S.Shelf.seen c.args.shelf.now) (g.S.Shelf.seen c.stored-printed.new.shelf) c.in_ok-found.found _
     c.in_ok-found.ensures.found c.text_for-text.ensures c.stored-printed.ensures.status c.stored-printed.ensures.text c.stored-printed.ensures.stored
 
 pub returns-clause-refused : goal.returns-clause-refused

@@ -10,8 +10,8 @@ returns-in_err-asked-clause-refused g c = err_as _ _ _ c.from_residual.ensures.1
 
 pub returns-clause-answered : goal.returns-clause-answered
 returns-clause-answered g c =
-    asked_told c.tolerate_for-printed.result (λ problem. IsToldWith problem c.args.most (option_map (λ s. s.now) c.args.file) (g.S.Shelf.seen c.tolerate_for-printed.new.shelf)) _ _ _ _ _ c.in_ok-asked.ensures.read c.tolerate_for-printed.ensures.told_with
+    asked_told c.tolerate_for-printed.result (λ problem. IsToldWith problem c.args.most (option_map (λ s. s.now) c.args.file) (g.S.Shelf.seen c.args.shelf.now) (g.S.Shelf.seen c.tolerate_for-printed.new.shelf)) _ _ _ _ _ c.in_ok-asked.ensures.read c.in_ok-asked.ensures.automata c.tolerate_for-printed.ensures.told_with
 
 pub returns-clause-refused : goal.returns-clause-refused
 returns-clause-refused g c =
-    asked_refused c.tolerate_for-printed.result (FromTolerating c.args.most) (FromTreesStore c.args.most _) (g.S.Shelf.seen c.args.shelf.now) (g.S.Shelf.seen c.tolerate_for-printed.new.shelf) _ _ _ _ _ c.in_ok-asked.ensures.read c.tolerate_for-printed.ensures.refused
+    asked_refused c.tolerate_for-printed.result (FromTolerating c.args.most) (FromTreesStore c.args.most _) (g.S.Shelf.seen c.args.shelf.now) (g.S.Shelf.seen c.tolerate_for-printed.new.shelf) _ _ _ _ _ c.in_ok-asked.ensures.read c.in_ok-asked.ensures.automata c.tolerate_for-printed.ensures.refused

@@ -12,8 +12,8 @@ returns-in_err-asked-clause-refused g c = err_as _ _ _ c.from_residual.ensures.1
 
 pub returns-clause-answered : goal.returns-clause-answered
 returns-clause-answered g c =
-    asked_told c.reported-printed.result (λ problem. IsReported (printed_by c.args.content) problem (option_map (λ s. s.now) c.args.file) (g.S.Shelf.seen c.reported-printed.new.shelf)) _ _ _ _ _ c.in_ok-asked.ensures.read c.reported-printed.ensures.reported
+    asked_told c.reported-printed.result (λ problem. IsReported (printed_by c.args.content) problem (option_map (λ s. s.now) c.args.file) (g.S.Shelf.seen c.reported-printed.new.shelf)) _ _ _ _ _ c.in_ok-asked.ensures.read c.in_ok-asked.ensures.automata c.reported-printed.ensures.reported
 
 pub returns-clause-refused : goal.returns-clause-refused
 returns-clause-refused g c =
-    asked_refused c.reported-printed.result FromDecision (FromStore _) (g.S.Shelf.seen c.args.shelf.now) (g.S.Shelf.seen c.reported-printed.new.shelf) _ _ _ _ _ c.in_ok-asked.ensures.read c.reported-printed.ensures.refused
+    asked_refused c.reported-printed.result FromDecision (FromStore _) (g.S.Shelf.seen c.args.shelf.now) (g.S.Shelf.seen c.reported-printed.new.shelf) _ _ _ _ _ c.in_ok-asked.ensures.read c.in_ok-asked.ensures.automata c.reported-printed.ensures.refused

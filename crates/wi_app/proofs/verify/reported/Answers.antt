@@ -7,7 +7,7 @@ use Rattle.wi_app.proofs.Outcomes.{decided_refused, decided_reported}
 use Rattle.wi_app.proofs.verify.reported.Goals as goal
 
 pub text_by-text-requires-clause-run : goal.text_by-text-requires-clause-run
-text_by-text-requires-clause-run g c = answer_known (problem_of c.args.net.now c.args.query.now c.args.vector.now) c.in_ok-answer.answer c.in_ok-answer.ensures.holds
+text_by-text-requires-clause-run g c = answer_known (problem_of c.args.net.now c.args.query.now c.args.vector.now) c.in_ok-answer.answer c.in_ok-answer.ensures.certified.holds
 
 pub returns-in_err-answer-clause-refused : goal.returns-in_err-answer-clause-refused
 returns-in_err-answer-clause-refused g c = err_as _ _ _ c.from_residual.ensures.1 (inl (c.in_err-answer.ensures.refused, refl))
@@ -15,9 +15,9 @@ returns-in_err-answer-clause-refused g c = err_as _ _ _ c.from_residual.ensures.
 pub returns-clause-reported : goal.returns-clause-reported
 returns-clause-reported g c =
     decided_reported c.stored-printed.result (printed_by c.args.content) (problem_of c.args.net.now c.args.query.now c.args.vector.now) _ (g.S.Shelf.seen c.stored-printed.new.shelf) c.in_ok-answer.answer c.in_ok-answer.certificate _ _
-    c.in_ok-answer.ensures.holds c.in_ok-answer.ensures.shown c.in_ok-answer.ensures.certified c.status_for-status.ensures c.text_by-text.ensures c.stored-printed.ensures.status c.stored-printed.ensures.text c.stored-printed.ensures.kept
+    c.in_ok-answer.ensures.certified c.status_for-status.ensures c.text_by-text.ensures c.stored-printed.ensures.status c.stored-printed.ensures.text c.stored-printed.ensures.kept
 
 pub returns-clause-refused : goal.returns-clause-refused
 returns-clause-refused g c =
     decided_refused c.stored-printed.result (g.S.Shelf.seen c.args.shelf.now) (g.S.Shelf.seen c.stored-printed.new.shelf) (problem_of c.args.net.now c.args.query.now c.args.vector.now) _ c.in_ok-answer.answer c.in_ok-answer.certificate
-    c.in_ok-answer.ensures.holds c.in_ok-answer.ensures.certified c.stored-printed.ensures.refused
+    c.in_ok-answer.ensures.certified c.stored-printed.ensures.refused

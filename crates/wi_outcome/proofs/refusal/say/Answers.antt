@@ -5,10 +5,6 @@ pub returns-in-Usage-clause-said : goal.returns-in-Usage-clause-said
 returns-in-Usage-clause-said g c =
     said_words _ _ _ (g.E.Sink.seen c.args.err.now) (g.E.Sink.seen c.put.new.err) _ c.in-Usage.is c.status_of-status.ensures c.put.ensures.said
 
-pub returns-in-CannotRead-clause-said : goal.returns-in-CannotRead-clause-said
-returns-in-CannotRead-clause-said g c =
-    said_made _ _ _ (g.E.Sink.seen c.args.err.now) (g.E.Sink.seen c.put_made.new.err) _ c.in-CannotRead.is c.status_of-status.ensures tt (c.put_made.ensures.said _ c.cannot.ensures)
-
 pub returns-in-Overflow-clause-said : goal.returns-in-Overflow-clause-said
 returns-in-Overflow-clause-said g c =
     said_made _ _ _ (g.E.Sink.seen c.args.err.now) (g.E.Sink.seen c.put_made-in-Overflow.new.err) _ c.in-Overflow.is c.status_of-status.ensures tt (c.put_made-in-Overflow.ensures.said _ c.overflow_text.ensures)
@@ -24,10 +20,6 @@ returns-in-LongScript-clause-said g c =
 pub returns-in-CannotPrint-clause-said : goal.returns-in-CannotPrint-clause-said
 returns-in-CannotPrint-clause-said g c =
     said_words _ _ _ (g.E.Sink.seen c.args.err.now) (g.E.Sink.seen c.put-in-CannotPrint.new.err) _ c.in-CannotPrint.is c.status_of-status.ensures c.put-in-CannotPrint.ensures.said
-
-pub returns-in-CannotWrite-clause-said : goal.returns-in-CannotWrite-clause-said
-returns-in-CannotWrite-clause-said g c =
-    said_made _ _ _ (g.E.Sink.seen c.args.err.now) (g.E.Sink.seen c.put_made-in-CannotWrite.new.err) _ c.in-CannotWrite.is c.status_of-status.ensures tt (c.put_made-in-CannotWrite.ensures.said _ c.cannot-in-CannotWrite.ensures)
 
 pub returns-in-LargeCertificate-clause-said : goal.returns-in-LargeCertificate-clause-said
 returns-in-LargeCertificate-clause-said g c =
@@ -72,7 +64,3 @@ returns-in-Unprotected-clause-said g c =
 pub returns-in-LargeNetwork-clause-said : goal.returns-in-LargeNetwork-clause-said
 returns-in-LargeNetwork-clause-said g c =
     said_words _ _ _ (g.E.Sink.seen c.args.err.now) (g.E.Sink.seen c.put-in-LargeNetwork.new.err) _ c.in-LargeNetwork.is c.status_of-status.ensures c.put-in-LargeNetwork.ensures.said
-
-pub returns-in-CannotWriteBelow-clause-said : goal.returns-in-CannotWriteBelow-clause-said
-returns-in-CannotWriteBelow-clause-said g c =
-    said_made _ _ _ (g.E.Sink.seen c.args.err.now) (g.E.Sink.seen c.put_made-in-CannotWriteBelow.new.err) _ c.in-CannotWriteBelow.is c.status_of-status.ensures tt (c.put_made-in-CannotWriteBelow.ensures.said _ c.cannot-in-CannotWriteBelow.ensures)

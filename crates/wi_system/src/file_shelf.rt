@@ -1,15 +1,16 @@
-//! Files of the system are touched here alone. No contract can say what they hold, so this shelf tells nothing, and notes what
-//! fails; room for a note is made first, and where there is none, no file is touched.
+//! Files of the system are touched here and in `store` alone. No contract can say what they hold, so this shelf tells nothing,
+//! and notes what fails; room for a note is made first, and where there is none, no file is touched.
 ghost use Rattle.std.specs.Prelude.{◌≡◌, ◌≤◌, ◌<◌, [], None, false, IfOk, IsErrOf, vec_len, vec_capacity, string_bytes};
 ghost use Rattle.wi_base.specs.Shelf.{after_fetch};
 ghost use Rattle.wi_base.specs.FailedCalls.{calls_of};
 ghost use Rattle.wi_base.specs.declared.shelf.CallKind.{CallKind};
 
-use crate::transfer::{read_part, read_within, write_whole};
+use crate::store::store_file;
+use crate::transfer::{read_part, read_within};
 use std::alloc::Global;
+use std::fs;
 use std::marker::Model;
 use std::rt::Files;
-use std::{fs, io};
 use wi_base::{CallKind, FailedCall, FetchRefused, Shelf, StoreRefused, room_to_note};
 
 /// The files of the system, by their paths. It doesn't tell what they hold. It notes its failed calls, and makes room
@@ -76,13 +77,11 @@ impl<R: Files + Drop> Shelf for FileShelf<R> {
         let Ok(this_store) = room_to_note(&mut self.failed, CallKind::Store, name) else {
             return Err(StoreRefused::Memory);
         };
-        match store_file(&self.files, name, bytes) {
-            Ok(()) => Ok(()),
-            Err(_) => {
-                self.failed.push_reserved(this_store);
-                Err(StoreRefused::Failed)
-            }
+        let stored = store_file(self.alloc, &self.files, name, bytes);
+        if stored == Err(StoreRefused::Failed) {
+            self.failed.push_reserved(this_store);
         }
+        stored
     }
 }
 
@@ -133,10 +132,4 @@ fn fetch_part_of_file<R: Files>(
         Ok(mut file) => read_part(alloc, &mut file, at, most),
         Err(_) => Err(FetchRefused::Failed),
     }
-}
-
-// Empties a file or makes it, and writes the bytes.
-fn store_file<R: Files>(files: &R, name: &str, bytes: &[u8]) -> io::Result<()> {
-    let mut file = fs::create(files, name)?;
-    write_whole(&mut file, bytes)
 }

@@ -2,6 +2,7 @@
 #![tactic(auto)]
 
 mod file_shelf;
+mod store;
 mod stream_sink;
 #[cfg(test)]
 mod tests;

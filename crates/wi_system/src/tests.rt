@@ -5,10 +5,11 @@ ghost use Rattle.std.specs.Prelude.{◌≤◌, IfOk};
 use crate::file_shelf::FileShelf;
 use crate::stream_sink::StreamSink;
 use crate::transfer::{read_within, write_whole};
-use std::alloc::Global;
+use std::alloc::{Allocator, Global};
 use std::fmt::Debug;
-use std::fs;
-use std::io::{self, ErrorKind, Read, Write};
+use std::fs::{self, Metadata, OpenFile, OpenOptions, Permissions};
+use std::io::{self, ErrorKind, Read, Seek, SeekFrom, Write};
+use std::os::unix::fs::{PermissionsExt, symlink};
 use std::process::Abort;
 use std::rt::Files;
 use std::test::Fail;
@@ -149,17 +150,28 @@ fn fetches_parts<R: Files + Drop>(
 // The second takes the place of the first, which is longer.
 const TEXTS: &[&str] = &["the first text\n", "the second\n"];
 
+// What a file has.
+fn has(rt: &(impl Files + Abort), alloc: Global, name: &str, text: &str) -> Result<(), Fail> {
+    let read = io::read_to_string(alloc, fs::open(rt, name)?)?;
+    equal(rt, read.as_str(), text);
+    drop(read);
+    Ok(())
+}
+
+fn is_absent(rt: &(impl Files + Abort), name: &str) -> Result<(), Fail> {
+    equal(rt, fs::exists(rt, name)?, false);
+    Ok(())
+}
+
 fn is_stored<R: Files + Drop>(
     rt: &(impl Files + Abort),
     alloc: Global,
     shelf: &mut FileShelf<R>,
+    name: &str,
     text: &str,
 ) -> Result<(), Fail> {
-    equal(rt, shelf.store("stored", text.as_bytes()), Ok(()));
-    let read = io::read_to_string(alloc, fs::open(rt, "stored")?)?;
-    equal(rt, read.as_str(), text);
-    drop(read);
-    Ok(())
+    equal(rt, shelf.store(name, text.as_bytes()), Ok(()));
+    has(rt, alloc, name, text)
 }
 
 fn stores<R: Files + Drop>(
@@ -168,7 +180,8 @@ fn stores<R: Files + Drop>(
     shelf: &mut FileShelf<R>,
 ) -> Result<(), Fail> {
     for text in TEXTS {
-        is_stored(rt, alloc, shelf, text)?;
+        is_stored(rt, alloc, shelf, "stored", text)?;
+        is_absent(rt, "stored.part0")?;
     }
     fs::remove_file(rt, "stored")?;
     are_noted(rt, shelf.failed(), &[]);
@@ -183,7 +196,56 @@ fn what_is_stored_is_read_back(rt: HostRuntime) -> Result<(), Fail> {
     said
 }
 
-// One can't be made, and one takes no byte. With each, the failed calls up to it.
+#[test]
+fn what_a_kill_left_stands_and_is_in_nobodys_way(rt: HostRuntime) -> Result<(), Fail> {
+    let mut shelf = FileShelf::new(rt.alloc(), &rt);
+    let said = stores_beside(&rt, rt.alloc(), &mut shelf);
+    drop(shelf);
+    said
+}
+
+fn stores_beside<R: Files + Drop>(
+    rt: &(impl Files + Abort),
+    alloc: Global,
+    shelf: &mut FileShelf<R>,
+) -> Result<(), Fail> {
+    fs::write(rt, "killed.part0", "a part")?;
+    is_stored(rt, alloc, shelf, "killed", "whole")?;
+    has(rt, alloc, "killed.part0", "a part")?;
+    is_absent(rt, "killed.part1")?;
+    fs::remove_file(rt, "killed.part0")?;
+    fs::remove_file(rt, "killed")?;
+    Ok(())
+}
+
+#[test]
+fn a_link_stays_and_permissions_do(rt: HostRuntime) -> Result<(), Fail> {
+    let mut shelf = FileShelf::new(rt.alloc(), &rt);
+    let said = stores_behind_a_link(&rt, rt.alloc(), &mut shelf);
+    drop(shelf);
+    said
+}
+
+// The permissions are such as no new file has.
+fn stores_behind_a_link<R: Files + Drop>(
+    rt: &(impl Files + Abort),
+    alloc: Global,
+    shelf: &mut FileShelf<R>,
+) -> Result<(), Fail> {
+    fs::write(rt, "behind", "the older one")?;
+    fs::set_permissions(rt, "behind", Permissions::from_mode(0o606))?;
+    symlink(rt, "behind", "link")?;
+    is_stored(rt, alloc, shelf, "link", "the newer one")?;
+    has(rt, alloc, "behind", "the newer one")?;
+    equal(rt, fs::symlink_metadata(rt, "link")?.is_symlink(), true);
+    let mode = fs::metadata(rt, "behind")?.permissions().mode();
+    equal(rt, mode & 0o777, 0o606);
+    fs::remove_file(rt, "link")?;
+    fs::remove_file(rt, "behind")?;
+    Ok(())
+}
+
+// Two can't be made, and one takes no byte. With each, the failed calls up to it.
 const NOT_STORED: &[(&str, &[Noted])] = &[
     (
         "no such folder/file",
@@ -196,6 +258,14 @@ const NOT_STORED: &[(&str, &[Noted])] = &[
             (CallKind::Store, "/dev/full"),
         ],
     ),
+    (
+        "",
+        &[
+            (CallKind::Store, "no such folder/file"),
+            (CallKind::Store, "/dev/full"),
+            (CallKind::Store, ""),
+        ],
+    ),
 ];
 
 fn are_not_stored<R: Files + Drop>(rt: &impl Abort, shelf: &mut FileShelf<R>) {
@@ -206,10 +276,169 @@ fn are_not_stored<R: Files + Drop>(rt: &impl Abort, shelf: &mut FileShelf<R>) {
 }
 
 #[test]
-fn a_store_that_fails_is_noted(rt: HostRuntime) {
+fn a_store_that_fails_is_noted_and_leaves_nothing(rt: HostRuntime) -> Result<(), Fail> {
     let mut shelf = FileShelf::new(rt.alloc(), &rt);
     are_not_stored(&rt, &mut shelf);
     drop(shelf);
+    is_absent(&rt, ".part0")
+}
+
+// What fails on a disk.
+#[derive(Clone, Copy, PartialEq)]
+enum Fault {
+    // It is full once a write has taken five bytes.
+    Full,
+    // Nothing is renamed.
+    Mounted,
+}
+
+// A file on such a disk.
+#[derive(Drop)]
+struct FaultyFile<F: Drop> {
+    file: F,
+    fault: Fault,
+}
+
+impl<F: Read + Drop> Read for FaultyFile<F> {
+    fn read(&mut self, buf: &mut [u8]) -> io::Result<usize> {
+        self.file.read(buf)
+    }
+}
+
+impl<F: Write + Drop> Write for FaultyFile<F> {
+    fn write(&mut self, buf: &[u8]) -> io::Result<usize> {
+        match (self.fault, buf.get(..5)) {
+            (Fault::Mounted, _) => self.file.write(buf),
+            (Fault::Full, Some(five)) => self.file.write(five),
+            (Fault::Full, None) => Err(io::Error::from(ErrorKind::StorageFull)),
+        }
+    }
+
+    fn flush(&mut self) -> io::Result<()> {
+        self.file.flush()
+    }
+}
+
+impl<F: Seek + Drop> Seek for FaultyFile<F> {
+    fn seek(&mut self, to: SeekFrom) -> io::Result<u64> {
+        self.file.seek(to)
+    }
+}
+
+impl<F: OpenFile + Drop> OpenFile for FaultyFile<F> {
+    fn metadata(&self) -> io::Result<Metadata> {
+        self.file.metadata()
+    }
+
+    fn set_len(&self, size: u64) -> io::Result<()> {
+        self.file.set_len(size)
+    }
+
+    fn sync_all(&self) -> io::Result<()> {
+        self.file.sync_all()
+    }
+
+    fn sync_data(&self) -> io::Result<()> {
+        self.file.sync_data()
+    }
+
+    fn set_permissions(&self, perm: Permissions) -> io::Result<()> {
+        self.file.set_permissions(perm)
+    }
+}
+
+// Files of the system, on a disk with a fault.
+#[derive(Drop)]
+struct FaultyDisk<'a, R> {
+    files: &'a R,
+    fault: Fault,
+}
+
+impl<'a, R: Files> Files for FaultyDisk<'a, R> {
+    type File = FaultyFile<R::File>;
+
+    type Dir = R::Dir;
+
+    fn open_file(&self, how: &OpenOptions, path: &str) -> io::Result<FaultyFile<R::File>> {
+        let file = self.files.open_file(how, path)?;
+        Ok(FaultyFile {
+            file,
+            fault: self.fault,
+        })
+    }
+
+    fn open_dir(&self, path: &str) -> io::Result<R::Dir> {
+        self.files.open_dir(path)
+    }
+
+    fn metadata(&self, path: &str) -> io::Result<Metadata> {
+        self.files.metadata(path)
+    }
+
+    fn symlink_metadata(&self, path: &str) -> io::Result<Metadata> {
+        self.files.symlink_metadata(path)
+    }
+
+    fn copy(&self, from: &str, to: &str) -> io::Result<u64> {
+        self.files.copy(from, to)
+    }
+
+    fn rename(&self, from: &str, to: &str) -> io::Result<()> {
+        match self.fault {
+            Fault::Full => self.files.rename(from, to),
+            Fault::Mounted => Err(io::Error::from(ErrorKind::ResourceBusy)),
+        }
+    }
+
+    fn remove_file(&self, path: &str) -> io::Result<()> {
+        self.files.remove_file(path)
+    }
+
+    fn create_dir(&self, path: &str) -> io::Result<()> {
+        self.files.create_dir(path)
+    }
+
+    fn remove_dir(&self, path: &str) -> io::Result<()> {
+        self.files.remove_dir(path)
+    }
+
+    fn remove_dir_all<B: Allocator>(&self, alloc: B, path: &str) -> io::Result<()> {
+        self.files.remove_dir_all(alloc, path)
+    }
+}
+
+// What fails, what a store of `the newer one` says then, and what stands after it in the place of `the older one`.
+const FAULTS: &[(Fault, Result<(), StoreRefused>, &str)] = &[
+    (Fault::Full, Err(StoreRefused::Failed), "the older one"),
+    (Fault::Mounted, Ok(()), "the newer one"),
+];
+
+fn stores_on<R: Files + Abort>(
+    rt: &R,
+    alloc: Global,
+    fault: Fault,
+    said: Result<(), StoreRefused>,
+    stands: &str,
+) -> Result<(), Fail> {
+    fs::write(rt, "faulty", "the older one")?;
+    let mut shelf = FileShelf::new(alloc, FaultyDisk { files: rt, fault });
+    let stored = shelf.store("faulty", b"the newer one");
+    drop(shelf);
+    equal(rt, stored, said);
+    has(rt, alloc, "faulty", stands)?;
+    is_absent(rt, "faulty.part0")?;
+    fs::remove_file(rt, "faulty")?;
+    Ok(())
+}
+
+#[test]
+fn a_full_disk_leaves_the_older_file_and_a_mounted_one_is_written_where_it_stands(
+    rt: HostRuntime,
+) -> Result<(), Fail> {
+    for (fault, said, stands) in FAULTS {
+        stores_on(&rt, rt.alloc(), *fault, *said, stands)?;
+    }
+    Ok(())
 }
 
 // Pieces, and what a put of each answers.

@@ -5,6 +5,7 @@ ghost use Rattle.std.specs.Prelude.{◌≤◌, ◌<◌, ◌≡◌, IfOk, IfSome,
 ghost use Rattle.std.specs.Io.KnownBytes.{Appends};
 
 use std::alloc::Global;
+use std::fs::OpenFile;
 use std::io::{self, ErrorKind, Read, Seek, SeekFrom, Write};
 use wi_base::FetchRefused;
 
@@ -77,4 +78,12 @@ pub(crate) fn write_whole<W: Write>(to: &mut W, piece: &[u8]) -> io::Result<()>
         rest = &rest[written..];
     }
     Ok(())
+}
+
+/// Writes a piece whole, and waits until it is on the disk.
+pub(crate) fn write_synced<W: Write + OpenFile>(to: &mut W, piece: &[u8]) -> io::Result<()>
+    ensures { OnOk result (Appends (W.contents to.old) (W.contents to.new) piece.now) }
+{
+    write_whole(to, piece)?;
+    to.sync_all()
 }

@@ -1,5 +1,6 @@
--- The tables along paths and bypasses: facility backup (RFC 4090, 3.2), each label taken off one hop before its end
--- (penultimate hop popping, RFC 3031, 3.16). Labels are numbered on from one of a number: along a path, and along a bypass.
+-- The tables along paths and bypasses: facility backup (RFC 4090, 3.2). A bypass's label is taken off one hop before the bypass
+-- ends (penultimate hop popping, RFC 3031, 3.16), a path's by the router that its last link leaves. Labels are numbered on from
+-- one of a number: along a path, and along a bypass.
 use Rattle.std.specs.Prelude.{ℕ, ◌+◌, ◌==◌, if◌then◌else◌, List, [], ◌∷◌, ◌++◌, Option, Some, None}
 use Rattle.wi_labels.specs.declared.label.Label.{Label}
 use Rattle.wi_labels.specs.declared.label.Class.TheVariants.{Mpls, Smpls}

@@ -20,8 +20,8 @@ use wi_net::{Network, NetworkBuilder};
 use wi_plan::{Bypass, Path, Plan};
 
 /// The network that a plan asks for: the network's routers and links, its labels and those of the plan, and the plan's
-/// tables: label-switched paths with facility backup (RFC 4090, 3.2), each label taken off one hop before its end (RFC 3031,
-/// 3.16). It is refused where the name of a new label is taken, and else where there would be too many labels.
+/// tables: label-switched paths with facility backup (RFC 4090, 3.2), a bypass's label taken off one hop before the bypass ends
+/// (RFC 3031, 3.16). It is refused where the name of a new label is taken, and else where there would be too many labels.
 pub fn protect(alloc: Global, net: &Network, plan: &Plan) -> Result<Network, ProtectRefused>
     requires { IsPlan net.now plan.now }
     ensures network { Protects net.now plan.now result }

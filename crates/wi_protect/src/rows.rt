@@ -1,5 +1,5 @@
 //! A path's packets carry the path's label on its inner links, and the bypass's on top of it where they go around a link. The
-//! label of each hop is taken off one hop before it ends (penultimate hop popping, RFC 3031, 3.16), so where a bypass ends
+//! bypass's is taken off one hop before the bypass ends (penultimate hop popping, RFC 3031, 3.16), so where a bypass ends
 //! there is the row of the link that it leads around. Each row is added once: it costs a look-up of the way around its link.
 ghost use Rattle.std.specs.Prelude.{◌≡◌, ◌+◌, ◌≤◌, ◌<◌, ◌^◌, ◌-◌, ◌∷◌, [], true, length, IfOk, OnOk};
 ghost use Rattle.wi_protect.specs.Labels.{moved_by, paths_labels, bypasses_labels};

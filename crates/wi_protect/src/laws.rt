@@ -17,8 +17,8 @@ pub fn protected_paths()
 {}
 
 /// In the network of a plan each `ip` label of the file keeps its name, and the labels that the tables give along the P-th path
-/// are named `pP.1`, `pP.2` and so on, those along the X-th bypass `bX.1`, `bX.2`. So an `ip` label that was numbered wrongly
-/// can't stand for another of the file, in the tables and in what is said of them alike.
+/// are named `pP.1`, `pP.2` and so on, those along the X-th bypass `bX.1`, `bX.2`. So the tables, and what is said of where
+/// packets go, mean the labels that the text of the network names.
 pub fn labels_are_named()
     ensures { (net : Net) (plan : Plan) → IsNetwork net → AreNamed net plan }
 {}

@@ -20,7 +20,7 @@ use Rattle.wi_accept.specs.Answers.{IsDecided}
 use Rattle.wi_report.specs.Reports.{IsKnownRun}
 use Rattle.wi_base.specs.Shelf.{ShelfSeen}
 use Rattle.wi_app.specs.Decided.{IsReported, status_for}
-use Rattle.wi_app.specs.Run.{MayEnd}
+use Rattle.wi_app.specs.Wanted.{EndsAnswered}
 
 -- a packet sets out on a link and with labels of the network
 pub start_known : (net : Net) (fails : List LinkId) (run : Run) → is_start net fails run.first run.header ≡ true → IsKnownRun net run
@@ -66,11 +66,11 @@ may_fail net question weigh (Some w) (Some run) None h = elim h [ ]
 may_fail net question weigh (Some w) None verdict h = elim h [ ]
 may_fail net question weigh None run verdict h = elim h [ ]
 
-word_ends : (problem : Problem) (file : Option (List ℕ)) (word : Word) (status : ℕ) (w : Option (List ℕ)) (run : Option Run) (verdict : Option Verdict) → Holds problem.net (asks problem) (weighs problem) word w run verdict → status ≡ status_for word
-    → MayEnd problem file status
-word_ends problem file Yes status w run verdict h is = inl is
-word_ends problem file No status w run verdict h is = inr (inl is)
-word_ends problem file Inconclusive status w run verdict h is = inr (inr (inl (is, may_fail problem.net (asks problem) (weighs problem) w run verdict h)))
+word_ends : (problem : Problem) (word : Word) (status : ℕ) (w : Option (List ℕ)) (run : Option Run) (verdict : Option Verdict) → Holds problem.net (asks problem) (weighs problem) word w run verdict → status ≡ status_for word
+    → EndsAnswered problem status
+word_ends problem Yes status w run verdict h is = inl (inl is)
+word_ends problem No status w run verdict h is = inl (inr is)
+word_ends problem Inconclusive status w run verdict h is = inr (is, may_fail problem.net (asks problem) (weighs problem) w run verdict h)
 
-pub answer_ends : (printed : Problem → Answer → List ℕ) (problem : Problem) (file : Option (List ℕ)) (shelf : ShelfSeen) (status : ℕ) (text : List ℕ) → IsReported printed problem file shelf status text → MayEnd problem file status
-answer_ends printed problem file shelf status text r = word_ends problem file r.answer.word status (option_map components r.answer.weight) r.answer.run r.answer.verdict r.holds r.status_is
+pub answer_ends : (printed : Problem → Answer → List ℕ) (problem : Problem) (file : Option (List ℕ)) (shelf : ShelfSeen) (status : ℕ) (text : List ℕ) → IsReported printed problem file shelf status text → EndsAnswered problem status
+answer_ends printed problem file shelf status text r = word_ends problem r.answer.word status (option_map components r.answer.weight) r.answer.run r.answer.verdict r.holds r.status_is

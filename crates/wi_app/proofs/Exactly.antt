@@ -1,5 +1,5 @@
 -- Exact answers: what they show can be shown, and from the parts of both commands to the whole.
-use Rattle.std.proofs.Common.{◌≡◌, ◌⊎◌, ℕ, nat_eq, true, false, List, length, Option, Some, None, Result, Ok, Err, inl, inr, ap, refl, subst, sym, ◌∙◌}
+use Rattle.std.proofs.Common.{◌≡◌, ℕ, List, length, Option, Some, None, Result, Ok, Err, inl, inr, ap, refl, subst, sym, ◌∙◌}
 use Rattle.std.specs.Prelude.{option_map, IfErr, IfOk, IfSome, OnOk}
 use Rattle.wi_base.specs.declared.shelf.CallKind.TheVariants.{Store}
 use Rattle.wi_base.specs.Shelf.{ShelfSeen}
@@ -12,11 +12,8 @@ use Rattle.wi_world.specs.declared.answer.Verdict.{Verdict}
 use Rattle.wi_world.specs.declared.answer.Verdict.TheVariants.{Fits, Exceeds, UsesFailed}
 use Rattle.wi_world.specs.Holds.{Question, Weighing}
 use Rattle.wi_quantity.specs.Weighing.{components}
-use Rattle.wi_quantity.specs.declared.vector.Part.{Part}
-use Rattle.wi_query.specs.Meaning.{HasAutomata}
-use Rattle.wi_query.specs.declared.query.Query.{Query}
 use Rattle.wi_trace.specs.declared.answer.Answer.{Answer}
-use Rattle.wi_build.specs.Problems.{Problem, IsProblem, asks, problem_of, weighs}
+use Rattle.wi_build.specs.Problems.{Problem, IsProblem, asks, weighs}
 use Rattle.wi_cert.specs.declared.tree.TreeCertificate.{TreeCertificate}
 use Rattle.wi_cert.specs.Trees.{IsTreeText}
 use Rattle.wi_trees.specs.Trees.{HoldsExactly}
@@ -24,24 +21,20 @@ use Rattle.wi_accept.specs.Answers.{word_of}
 use Rattle.wi_accept.specs.Trees.{IsDecidedExactly}
 use Rattle.wi_branch.specs.declared.refused.ExactRefused.TheVariants as none
 use Rattle.wi_report.specs.Reports.{IsKnownRun, accepted_text, exact_report_of}
-use Rattle.wi_words.specs.Commands.{CheckExact}
 use Rattle.std.proofs.lemmas.Bool.{and_parts}
 use Rattle.wi_world.specs.Moves.{follows, is_start, is_usable}
-use Rattle.wi_outcome.specs.Texts.{status_of}
 use Rattle.wi_outcome.specs.declared.printed.Printed.{Printed}
 use Rattle.wi_outcome.specs.declared.refusal.Refusal.{Refusal}
 use Rattle.wi_outcome.specs.declared.refusal.Refusal.TheVariants.{CannotWrite, ManyNodes, Memory, NotAccepted, Overflow, TooLong, TreeNotWritten}
-use Rattle.wi_files.specs.Asked.{IsAsked}
 use Rattle.wi_files.specs.Certificates.{IsCertificateFile, IsLarge, IsNamed, IsTreeNotKept, IsTreeStored}
-use Rattle.wi_files.specs.Networks.{HoldsNetwork}
 use Rattle.wi_files.specs.Shelves.{IsCalm}
 use Rattle.wi_files.proofs.Causes.{longer}
 use Rattle.wi_app.specs.Decided.{status_for}
-use Rattle.wi_app.specs.Exact.{EndsUnsplit, FromSplitting, FromTree, FromTreeStore, IsAcceptedTree, IsReportedExactly, IsShownExactly, IsTreeTooLarge}
-use Rattle.wi_app.specs.Run.{FromCommand, IsAnswered, MayEndExactly}
-use Rattle.wi_app.specs.private.Stages.{FromCheckingExactly, FromDeciding, IsTreeBelieved, IsTreeNotBelieved}
+use Rattle.wi_app.specs.Exact.{EndsUnsplit, FromSplitting, FromTree, FromTreeStore, IsBelievedTreeFile, IsReportedExactly, IsShownExactly, IsTreeBelieved, IsTreeTooLarge}
+use Rattle.wi_app.specs.Wanted.{EndsExactly, FromAnswer}
+use Rattle.wi_app.specs.private.Stages.{IsTreeNotBelieved}
 use Rattle.wi_app.proofs.Answers.{start_known}
-use Rattle.wi_app.proofs.Asked.{asked_problem}
+use Rattle.wi_app.proofs.Ending.{Ends, ends_as}
 
 -- ---- what an exact answer is like
 
@@ -60,17 +53,16 @@ exact_run_known net question weigh Inconclusive w (Some run) verdict h = elim h 
 pub exact_known : (problem : Problem) (a : Answer) → IsDecidedExactly problem a → IfSome a.run (λ run. IsKnownRun problem.net run)
 exact_known problem a h = exact_run_known problem.net (asks problem) (weighs problem) a.word (option_map components a.weight) a.run a.verdict h
 
-exact_word_ends : (problem : Problem) (file : Option (List ℕ)) (word : Word) (status : ℕ) (w : Option (List ℕ)) (run : Option Run) (verdict : Option Verdict) → HoldsExactly problem.net (asks problem) (weighs problem) word w run verdict
-    → status ≡ status_for word → MayEndExactly (EndsUnsplit problem) (IsTreeTooLarge problem) file status
-exact_word_ends problem file Yes status w run verdict h is = inl is
-exact_word_ends problem file No status w run verdict h is = inr (inl is)
-exact_word_ends problem file Inconclusive status w run verdict h is = elim h [ ]
+exact_word_ends : (problem : Problem) (word : Word) (status : ℕ) (w : Option (List ℕ)) (run : Option Run) (verdict : Option Verdict) → HoldsExactly problem.net (asks problem) (weighs problem) word w run verdict → status ≡ status_for word → EndsExactly status
+exact_word_ends problem Yes status w run verdict h is = inl is
+exact_word_ends problem No status w run verdict h is = inr is
+exact_word_ends problem Inconclusive status w run verdict h is = elim h [ ]
 
-pub exact_answer_ends : (problem : Problem) (file : Option (List ℕ)) (shelf : ShelfSeen) (status : ℕ) (text : List ℕ) → IsReportedExactly problem file shelf status text → MayEndExactly (EndsUnsplit problem) (IsTreeTooLarge problem) file status
-exact_answer_ends problem file shelf status text r = exact_word_ends problem file r.answer.word status (option_map components r.answer.weight) r.answer.run r.answer.verdict r.is.exact.holds r.status_is
+pub exact_answer_ends : (problem : Problem) (file : Option (List ℕ)) (shelf : ShelfSeen) (status : ℕ) (text : List ℕ) → IsReportedExactly problem file shelf status text → EndsExactly status
+exact_answer_ends problem file shelf status text r = exact_word_ends problem r.answer.word status (option_map components r.answer.weight) r.answer.run r.answer.verdict r.is.exact.holds r.status_is
 
 -- where there is none, the status is that of its cause
-pub unsplit_due : (problem : Problem) (refusal : Refusal) → FromSplitting problem refusal → (nat_eq (status_of refusal) 10 ≡ false) × ((status_of refusal ≡ 11) ⊎ EndsUnsplit problem (status_of refusal))
+pub unsplit_due : (problem : Problem) (refusal : Refusal) → FromSplitting problem refusal → Ends (EndsUnsplit problem) refusal
 unsplit_due problem (Overflow w terms) cause = (refl, inr (none.Overflow cause.1.0 cause.1.1 cause.1.2 w, cause.1.3, refl))
 unsplit_due problem (TooLong effort) cause = (refl, inr (none.TooLong cause.0 effort, cause.1, refl))
 unsplit_due problem ManyNodes cause = (refl, inr (none.NodeLimit cause.0, cause.1, refl))
@@ -95,50 +87,30 @@ shown_reported (Ok printed) problem file shelf answer t status nodes text is due
 }
 
 -- where the tree isn't stored, the store failed, or memory ran out, or it is too large
-pub tree_unkept_due : (old new : ShelfSeen) (file : Option (List ℕ)) (t : TreeCertificate) (refusal : Refusal) → IsCalm old new → IsTreeNotKept old new file t refusal
-    → (nat_eq (status_of refusal) 10 ≡ false) × ((status_of refusal ≡ 11) ⊎ ((status_of refusal ≡ 14) × IsNamed file × IsLarge t))
+tree_unkept_due : (old new : ShelfSeen) (file : Option (List ℕ)) (t : TreeCertificate) (refusal : Refusal) → IsCalm old new → IsTreeNotKept old new file t refusal → Ends (λ status. (status ≡ 14) × IsNamed file × IsLarge t) refusal
 tree_unkept_due old new file t TreeNotWritten calm cause = (refl, inr (refl, cause.1, cause.2))
 tree_unkept_due old new file t (CannotWrite named said) calm cause = absurd (longer old.failed (Store, named.now) (sym cause.2.1 ∙ calm))
 tree_unkept_due old new file t Memory calm cause = (refl, inl refl)
 tree_unkept_due old new file t refusal calm cause = elim cause [ ]
 
+pub tree_store_due : (old new : ShelfSeen) (file : Option (List ℕ)) (problem : Problem) (refusal : Refusal) → IsCalm old new → FromTreeStore file old new problem refusal → Ends (λ status. (status ≡ 14) × IsNamed file × IsTreeTooLarge problem) refusal
+tree_store_due old new file problem refusal calm cause =
+    ends_as (λ status. (status ≡ 14) × IsNamed file × IsLarge cause.tree) (λ status. (status ≡ 14) × IsNamed file × IsTreeTooLarge problem) refusal
+    (λ status due. (due.0, due.1, record { answer = cause.answer; tree = cause.tree; is = cause.is; large = due.2 }))
+    (tree_unkept_due old new file cause.tree refusal calm cause.unkept)
+
 pub shown_refused : (r : Result Printed Refusal) (old new : ShelfSeen) (problem : Problem) (file : Option (List ℕ)) (answer : Answer) (t : TreeCertificate) → IsShownExactly problem answer t
-    → IfErr r (λ refusal. IsTreeNotKept old new file t refusal) → IfErr r (λ refusal. FromDeciding FromSplitting (FromTreeStore file) old new problem refusal)
+    → IfErr r (λ refusal. IsTreeNotKept old new file t refusal) → IfErr r (λ refusal. FromAnswer FromSplitting (FromTreeStore file) old new problem refusal)
 shown_refused (Ok printed) old new problem file answer t is cause = tt
 shown_refused (Err refusal) old new problem file answer t is cause = inr (record { answer = answer; tree = t; is = is; unkept = cause })
 
 -- ---- check-exact
 
--- a tree that is accepted for what texts ask of a network is an answer to a command
-pub check_exactly_answered : (r : Result Printed Refusal) (old later new : ShelfSeen) (name query file : List ℕ) (weights : Option (List ℕ)) (net : Net) → later ≡ old → (old.told ≡ true → HoldsNetwork (old.file name) net)
-    → IfOk r (λ printed. printed.status ≡ 0)
-    → IfOk r (λ printed. (bytes : List ℕ) × (t : TreeCertificate) × IsCertificateFile later file bytes × IsAcceptedTree net query weights bytes t × (printed.text ≡ accepted_text (word_of t.shown.claim)))
-    → IfOk r (λ printed. IsAnswered old new (CheckExact name query file weights) printed.status printed.text)
-check_exactly_answered (Ok printed) old later new name query file weights net same holds status accepted =
-    (net, accepted.0, accepted.1, holds, subst (λ (s : ShelfSeen). IsCertificateFile s file accepted.0) same accepted.2, accepted.3, status, accepted.4)
-check_exactly_answered (Err refusal) old later new name query file weights net same holds status accepted = tt
-
-pub check_exactly_refused : (r : Result Printed Refusal) (old later new : ShelfSeen) (name query file : List ℕ) (weights : Option (List ℕ)) (net : Net) → later ≡ old → (old.told ≡ true → HoldsNetwork (old.file name) net)
-    → IfErr r (λ refusal. FromCheckingExactly later new net query file weights refusal) → IfErr r (λ refusal. FromCommand old new (CheckExact name query file weights) refusal)
-check_exactly_refused (Ok printed) old later new name query file weights net same holds cause = tt
-check_exactly_refused (Err refusal) old later new name query file weights net same holds cause = elim (subst (λ (s : ShelfSeen). FromCheckingExactly s new net query file weights refusal) same cause) [
-  | inl texts ↦ inr (inl (net, holds, texts.0, texts.1))
-  | inr tree ↦ inr (inr (net, holds, tree))
-]
-
-pub believed_tree_accepted : (r : Result Printed Refusal) (shelf : ShelfSeen) (net : Net) (text file : List ℕ) (weights : Option (List ℕ)) (query : Query) (vector : List (List Part)) → IsAsked net text weights query vector
-    → IfOk r (λ printed. (bytes : List ℕ) × (t : TreeCertificate) × IsCertificateFile shelf file bytes × IsTreeText t bytes × IsTreeBelieved (problem_of net query vector) t × (printed.text ≡ accepted_text (word_of t.shown.claim)))
-    → IfOk r (λ printed. (bytes : List ℕ) × (t : TreeCertificate) × IsCertificateFile shelf file bytes × IsAcceptedTree net text weights bytes t × (printed.text ≡ accepted_text (word_of t.shown.claim)))
-believed_tree_accepted (Ok printed) shelf net text file weights query vector asked found =
-    let b = found.4 in
-    (found.0, found.1, found.2, record { query = query; vector = vector; asked = asked; problem_is = b.problem_is; reads = found.3; accepted = b.accepted; holds = b.holds }, found.5)
-believed_tree_accepted (Err refusal) shelf net text file weights query vector asked found = tt
-
 pub tree_file_believed : (r : Result Printed Refusal) (shelf : ShelfSeen) (problem : Problem) (file bytes : List ℕ) (t : TreeCertificate) → IsCertificateFile shelf file bytes → IsTreeText t bytes → OnOk r (IsTreeBelieved problem t)
-    → IfOk r (λ printed. printed.text ≡ accepted_text (word_of t.shown.claim))
-    → IfOk r (λ printed. (bytes : List ℕ) × (t : TreeCertificate) × IsCertificateFile shelf file bytes × IsTreeText t bytes × IsTreeBelieved problem t × (printed.text ≡ accepted_text (word_of t.shown.claim)))
-tree_file_believed (Ok printed) shelf problem file bytes t held reads believed text = (bytes, t, held, reads, believed, text)
-tree_file_believed (Err refusal) shelf problem file bytes t held reads believed text = tt
+    → IfOk r (λ printed. printed.status ≡ 0) → IfOk r (λ printed. printed.text ≡ accepted_text (word_of t.shown.claim))
+    → IfOk r (λ printed. (t : TreeCertificate) × IsBelievedTreeFile shelf problem file t × (printed.status ≡ 0) × (printed.text ≡ accepted_text (word_of t.shown.claim)))
+tree_file_believed (Ok printed) shelf problem file bytes t held reads believed status text = (t, record { bytes = bytes; held = held; reads = reads; believed = believed }, status, text)
+tree_file_believed (Err refusal) shelf problem file bytes t held reads believed status text = tt
 
 tree_not_believed : (old new : ShelfSeen) (problem : Problem) (file bytes : List ℕ) (t : TreeCertificate) (refusal : Refusal) → IsProblem problem → IsCalm old new → IsCertificateFile old file bytes → IsTreeText t bytes → IsTreeNotBelieved problem t refusal
     → FromTree old new problem file refusal
@@ -150,8 +122,3 @@ pub tree_file_not_believed : (r : Result Printed Refusal) (old new : ShelfSeen) 
     → IfErr r (λ refusal. IsTreeNotBelieved problem t refusal) → IfErr r (λ refusal. FromTree old new problem file refusal)
 tree_file_not_believed (Ok printed) old new problem file bytes t is calm held reads cause = tt
 tree_file_not_believed (Err refusal) old new problem file bytes t is calm held reads cause = tree_not_believed old new problem file bytes t refusal is calm held reads cause
-
-pub tree_refused : (r : Result Printed Refusal) (old new : ShelfSeen) (net : Net) (text file : List ℕ) (weights : Option (List ℕ)) (query : Query) (vector : List (List Part)) → IsAsked net text weights query vector → HasAutomata query
-    → IfErr r (λ refusal. FromTree old new (problem_of net query vector) file refusal) → IfErr r (λ refusal. FromCheckingExactly old new net text file weights refusal)
-tree_refused (Ok printed) old new net text file weights query vector asked automata cause = tt
-tree_refused (Err refusal) old new net text file weights query vector asked automata cause = inr (query, vector, asked, asked_problem net text weights query vector asked automata, cause)

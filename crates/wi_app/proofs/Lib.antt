@@ -1,5 +1,7 @@
-pub mod Asked
 pub mod Answers
+pub mod Ending
+pub mod Asking
+pub mod Checking
 pub mod Exactly
 pub mod Tolerating
 pub mod Protecting

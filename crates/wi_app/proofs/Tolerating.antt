@@ -1,26 +1,24 @@
 -- How many failures it takes: from the parts of the command to the whole.
-use Rattle.std.proofs.Common.{◌≡◌, ◌⊎◌, ℕ, zero, suc, nat_eq, false, List, Option, Some, None, Result, Ok, Err, inl, inr, refl, subst, sym, ◌∙◌}
+use Rattle.std.proofs.Common.{◌≡◌, ℕ, zero, suc, List, Option, Some, None, Result, Ok, Err, inl, inr, refl, subst, sym, ◌∙◌}
 use Rattle.std.specs.Prelude.{IfErr, IfOk, IfSome}
 use Rattle.wi_base.specs.declared.shelf.CallKind.TheVariants.{Store}
 use Rattle.wi_base.specs.Shelf.{ShelfSeen}
 use Rattle.wi_base.specs.declared.no_memory.NoMemory.{NoMemory}
-use Rattle.wi_net.specs.Net.{Net}
 use Rattle.wi_build.specs.Problems.{Problem}
 use Rattle.wi_cert.specs.declared.tree.TreeCertificate.{TreeCertificate}
 use Rattle.wi_cert.specs.Trees.{IsTreeWritable}
 use Rattle.wi_branch.specs.declared.tolerance.Tolerance.{Tolerance}
 use Rattle.wi_branch.specs.declared.tolerance.Tolerance.TheVariants.{At, NoneUpTo}
-use Rattle.wi_outcome.specs.Texts.{status_of}
 use Rattle.wi_outcome.specs.declared.printed.Printed.{Printed}
 use Rattle.wi_outcome.specs.declared.refusal.Refusal.{Refusal}
 use Rattle.wi_outcome.specs.declared.refusal.Refusal.TheVariants.{CannotWrite, CannotWriteBelow, Memory, NoMemoryBelow, TreeNotWritten}
 use Rattle.wi_files.specs.Certificates.{AreTreesStored, AreUnstored, IsNamed, IsOneLarge}
 use Rattle.wi_files.specs.Shelves.{IsCalm, below_name}
 use Rattle.wi_files.proofs.Causes.{longer}
-use Rattle.wi_app.specs.Run.{MayEndExactly}
-use Rattle.wi_app.specs.Asked.{ForAsked}
+use Rattle.wi_app.specs.Exact.{EndsUnsplit}
 use Rattle.wi_app.specs.Tolerance.{AreTreesTooLarge, EndsUntold, FromTolerating, FromTreesStore, IsTold, IsToldWith, allowing, first_tree, second_tree, tolerance_status, tolerance_text}
-use Rattle.wi_app.specs.private.Stages.{FromDeciding}
+use Rattle.wi_app.specs.Wanted.{EndsExactly, FromAnswer}
+use Rattle.wi_app.proofs.Ending.{Ends, ends_as}
 use Rattle.wi_app.proofs.Exactly.{unsplit_due}
 
 -- ---- what is told
@@ -49,42 +47,30 @@ told_with (Ok printed) problem most file old new found text told is status made 
   text_is = subst (λ (x : Result (List ℕ) NoMemory). IfOk x (λ s. s ≡ tolerance_text problem most found)) made is;
 }
 
--- the fetch of the network left the shelf as it was
-pub told_later : (r : Result Printed Refusal) (old later new : ShelfSeen) (net : Net) (query : List ℕ) (weights : Option (List ℕ)) (most : ℕ) (file : Option (List ℕ)) → later ≡ old
-    → IfOk r (λ printed. ForAsked net query weights (λ problem. IsToldWith problem most file later new printed.status printed.text))
-    → IfOk r (λ printed. ForAsked net query weights (λ problem. IsToldWith problem most file old new printed.status printed.text))
-told_later r old later new net query weights most file same told =
-    subst (λ (s : ShelfSeen). IfOk r (λ printed. ForAsked net query weights (λ problem. IsToldWith problem most file s new printed.status printed.text))) same told
-
-pub tolerance_ends : (problem : Problem) (most : ℕ) (file : Option (List ℕ)) (old new : ShelfSeen) (status : ℕ) (text : List ℕ) → IsToldWith problem most file old new status text → MayEndExactly (EndsUntold problem most) (AreTreesTooLarge problem most) file status
+pub tolerance_ends : (problem : Problem) (most : ℕ) (file : Option (List ℕ)) (old new : ShelfSeen) (status : ℕ) (text : List ℕ) → IsToldWith problem most file old new status text → EndsExactly status
 tolerance_ends problem most file old new status text r = by_word r.found r.status_is
   where
-    by_word : (found : Tolerance) → status ≡ tolerance_status found → MayEndExactly (EndsUntold problem most) (AreTreesTooLarge problem most) file status
+    by_word : (found : Tolerance) → status ≡ tolerance_status found → EndsExactly status
     by_word (At k answer tree below) is = inl is
-    by_word (NoneUpTo tree) is = inr (inl is)
+    by_word (NoneUpTo tree) is = inr is
 
 -- ---- what isn't told
 
 -- the status is that of the cause at the number where it stopped
-pub untold_due : (most : ℕ) (problem : Problem) (refusal : Refusal) → FromTolerating most problem refusal → (nat_eq (status_of refusal) 10 ≡ false) × ((status_of refusal ≡ 11) ⊎ EndsUntold problem most (status_of refusal))
-untold_due most problem refusal cause = let due = unsplit_due (allowing problem cause.0) refusal cause.3 in (
-  due.0,
-  elim due.1 [
-    | inl want ↦ inl want
-    | inr ends ↦ inr (cause.0, cause.1, cause.2, ends)
-  ],
-)
+pub untold_due : (most : ℕ) (problem : Problem) (refusal : Refusal) → FromTolerating most problem refusal → Ends (EndsUntold problem most) refusal
+untold_due most problem refusal cause =
+    ends_as (EndsUnsplit (allowing problem cause.0)) (EndsUntold problem most) refusal (λ status ends. (cause.0, cause.1, cause.2, ends)) (unsplit_due (allowing problem cause.0) refusal cause.3)
 
 -- ---- what isn't stored
 
 -- where the trees aren't stored, the cause says so of the trees that were found
 pub trees_refused : (r : Result Printed Refusal) (most : ℕ) (file : Option (List ℕ)) (old new : ShelfSeen) (problem : Problem) (found : Tolerance) → IsTold problem most found
-    → IfErr r (λ refusal. AreUnstored old new file (first_tree found) (second_tree found) refusal) → IfErr r (λ refusal. FromDeciding (FromTolerating most) (FromTreesStore most file) old new problem refusal)
+    → IfErr r (λ refusal. AreUnstored old new file (first_tree found) (second_tree found) refusal) → IfErr r (λ refusal. FromAnswer (FromTolerating most) (FromTreesStore most file) old new problem refusal)
 trees_refused (Ok printed) most file old new problem found told cause = tt
 trees_refused (Err refusal) most file old new problem found told cause = inr (record { found = found; told = told; unstored = cause })
 
 unstored_due : (old new : ShelfSeen) (file : Option (List ℕ)) (first : TreeCertificate) (second : Option TreeCertificate) (refusal : Refusal) → IsCalm old new → AreUnstored old new file first second refusal
-    → (nat_eq (status_of refusal) 10 ≡ false) × ((status_of refusal ≡ 11) ⊎ ((status_of refusal ≡ 14) × IsNamed file × IsOneLarge first second))
+    → Ends (λ status. (status ≡ 14) × IsNamed file × IsOneLarge first second) refusal
 unstored_due old new file first second TreeNotWritten calm cause = (refl, inr (refl, cause.1, cause.2))
 unstored_due old new file first second (CannotWrite named said) calm cause = absurd (longer old.failed (Store, named.now) (sym cause.2.1 ∙ calm))
 unstored_due old new file first second (CannotWriteBelow named said) calm cause = absurd (longer old.failed (Store, below_name named.now) (sym cause.3.1 ∙ calm))
@@ -93,11 +79,8 @@ unstored_due old new file first second Memory calm cause = (refl, inl refl)
 unstored_due old new file first second refusal calm cause = elim cause [ ]
 
 pub trees_due : (most : ℕ) (file : Option (List ℕ)) (old new : ShelfSeen) (problem : Problem) (refusal : Refusal) → IsCalm old new → FromTreesStore most file old new problem refusal
-    → (nat_eq (status_of refusal) 10 ≡ false) × ((status_of refusal ≡ 11) ⊎ ((status_of refusal ≡ 14) × IsNamed file × AreTreesTooLarge problem most))
-trees_due most file old new problem refusal calm cause = let due = unstored_due old new file (first_tree cause.found) (second_tree cause.found) refusal calm cause.unstored in (
-  due.0,
-  elim due.1 [
-    | inl want ↦ inl want
-    | inr large ↦ inr (large.0, large.1, record { found = cause.found; told = cause.told; large = large.2 })
-  ],
-)
+    → Ends (λ status. (status ≡ 14) × IsNamed file × AreTreesTooLarge problem most) refusal
+trees_due most file old new problem refusal calm cause =
+    ends_as (λ status. (status ≡ 14) × IsNamed file × IsOneLarge (first_tree cause.found) (second_tree cause.found)) (λ status. (status ≡ 14) × IsNamed file × AreTreesTooLarge problem most) refusal
+    (λ status due. (due.0, due.1, record { found = cause.found; told = cause.told; large = due.2 }))
+    (unstored_due old new file (first_tree cause.found) (second_tree cause.found) refusal calm cause.unstored)

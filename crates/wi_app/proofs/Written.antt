@@ -36,7 +36,7 @@ use Rattle.wi_cert.proofs.WritingLemmas.{text_parts}
 use Rattle.wi_accept.specs.Answers.{IsDecided, answer_of, labels_of, run_of, steps_of}
 use Rattle.wi_accept.proofs.AcceptedLemmas.{answer_holds}
 use Rattle.wi_decide.specs.Refusals.{IsUnrefused}
-use Rattle.wi_words.specs.Commands.{Command, Verify, Check, Exact, CheckExact, command_of}
+use Rattle.wi_words.specs.Commands.{Asking, Command, Ask, Verify, Check, Exact, CheckExact, command_of}
 use Rattle.wi_accept.specs.Trees.{IsDecidedExactly}
 use Rattle.wi_netjson.specs.declared.fault.NetFault.TheVariants as network_fault
 use Rattle.wi_quantity.specs.declared.fault.WeightFault.TheVariants as weights_fault
@@ -52,9 +52,9 @@ use Rattle.wi_files.specs.Certificates.{IsCertificateFile, IsTreeStored}
 use Rattle.wi_files.specs.Networks.{HoldsNetwork}
 use Rattle.wi_files.specs.Shelves.{IsCalm, OthersStand}
 use Rattle.wi_app.specs.Asked.{ForAsked}
-use Rattle.wi_app.specs.Certificates.{IsAcceptedText, IsStored}
+use Rattle.wi_app.specs.Certificates.{IsBelieved, IsBelievedFile, IsStored}
 use Rattle.wi_app.specs.Decided.{IsReported, report_in}
-use Rattle.wi_app.specs.Exact.{IsAcceptedTree, IsReportedExactly}
+use Rattle.wi_app.specs.Exact.{IsBelievedTreeFile, IsReportedExactly, IsTreeBelieved}
 use Rattle.wi_app.specs.Run.{AreAnswered, CanBeAnswered, Completes, Does, IsAnswered, IsStatus, TellsFor}
 
 -- ---- the text isn't too long to be read
@@ -145,18 +145,18 @@ text_short problem answer c bytes is holds due shows written short =
 
 -- ---- what was stored can be checked
 
-can_check : (old new : ShelfSeen) (name text file : List ℕ) (weights : Option (List ℕ)) (status : ℕ) (report : List ℕ) → name ≢ file → old.told ≡ true → new.told ≡ true → OthersStand (Some file) old new
-    → IsAnswered old new (Verify name text weights (Some file)) status report → CanBeAnswered new (Check name text file weights)
-can_check old new name text file weights status report apart told still stand answer = (answer.0, subst (λ f. HoldsNetwork f answer.0) (sym (stand name other)) (answer.1 told), (stored.0, certificate, held, accepted))
+can_check : (old new : ShelfSeen) (asking : Asking) (file : List ℕ) (status : ℕ) (report : List ℕ) → asking.network ≢ file → old.told ≡ true → OthersStand (Some file) old new
+    → IsAnswered old new (Ask asking (Verify (Some file))) status report → CanBeAnswered new (Ask asking (Check file))
+can_check old new asking file status report apart told stand answer = (answer.0, subst (λ f. HoldsNetwork f answer.0) (sym (stand asking.network other)) (answer.1 told), (asked.0, asked.1, asked.2, (certificate, in_file)))
   where
-    asked : ForAsked answer.0 text weights (λ problem. IsReported report_in problem (Some file) new status report)
+    asked : ForAsked answer.0 asking.query asking.weights (λ problem. IsReported report_in problem (Some file) new status report)
     asked = answer.2
-
-    reported : IsReported report_in (problem_of answer.0 asked.0 asked.1) (Some file) new status report
-    reported = asked.4
 
     problem : Problem
     problem = problem_of answer.0 asked.0 asked.1
+
+    reported : IsReported report_in problem (Some file) new status report
+    reported = asked.4
 
     stored : IsStored (Some file) new problem reported.answer
     stored = reported.stored
@@ -164,8 +164,8 @@ can_check old new name text file weights status report apart told still stand an
     certificate : Certificate
     certificate = stored.1.certificate
 
-    other : Some file ≢ Some name
-    other e = apart (sym (same_Some file name e))
+    other : Some file ≢ Some asking.network
+    other e = apart (sym (same_Some file asking.network e))
 
     held : IsCertificateFile new file stored.0
     held = record {
@@ -173,16 +173,15 @@ can_check old new name text file weights status report apart told still stand an
       short = text_short problem reported.answer certificate stored.0 stored.1.is.problem_is reported.holds reported.shown stored.1.is.made.shows stored.1.text stored.1.short;
     }
 
-    accepted : IsAcceptedText answer.0 text weights stored.0 certificate
-    accepted = record {
-      query = asked.0;
-      vector = asked.1;
-      asked = asked.2;
+    believed : IsBelieved problem certificate
+    believed = record {
       problem_is = stored.1.is.problem_is;
-      reads = stored.1.text;
       accepted = stored.1.is.accepted;
       holds = answer_holds problem certificate stored.1.is.problem_is stored.1.is.made.writable stored.1.is.accepted;
     }
+
+    in_file : IsBelievedFile new problem file certificate
+    in_file = record { bytes = stored.0; held = held; reads = stored.1.text; believed = believed }
 
 -- ---- a status below 3 is an answer's
 
@@ -234,52 +233,62 @@ answered_then words later command next shelf between after out printed err said 
   | inr refused ↦ (let high = why_high refused.refusal err said status refused.said in absurd (omega (arith, high, low)))
 ]
 
-pub written_accepted : (verifying checking : List (List ℕ)) (name text file : List ℕ) (weights : Option (List ℕ)) (shelf between after : ShelfSeen) (out printed err said later_out later_printed later_err later_said : SinkSeen) (status result : ℕ)
-    → command_of verifying ≡ Some (Verify name text weights (Some file)) → command_of checking ≡ Some (Check name text file weights) → name ≢ file
+pub written_accepted : (verifying checking : List (List ℕ)) (asking : Asking) (file : List ℕ) (shelf between after : ShelfSeen) (out printed err said later_out later_printed later_err later_said : SinkSeen) (status result : ℕ)
+    → command_of verifying ≡ Some (Ask asking (Verify (Some file))) → command_of checking ≡ Some (Ask asking (Check file)) → asking.network ≢ file
     → shelf.told ≡ true → between.told ≡ true → OthersStand (Some file) shelf between → Does verifying shelf between out printed err said status → status < 3
     → Completes checking between after later_out later_printed later_err later_said result → IsCalm between after → later_printed.faults ≡ later_out.faults → later_said.faults ≡ later_err.faults
     → (result ≡ 0) ⊎ (result ≡ 11)
-written_accepted verifying checking name text file weights shelf between after out printed err said later_out later_printed later_err later_said status result asks checks apart told still stand does low completes calm no_fault silent =
-    answered_then verifying checking (Verify name text weights (Some file)) (Check name text file weights) shelf between after out printed err said later_out later_printed later_err later_said status result asks checks still
-    (λ status report answer. can_check shelf between name text file weights status report apart told still stand answer) does low completes calm no_fault silent
+written_accepted verifying checking asking file shelf between after out printed err said later_out later_printed later_err later_said status result verifies checks apart told still stand does low completes calm no_fault silent =
+    status_0 (answered_then verifying checking (Ask asking (Verify (Some file))) (Ask asking (Check file)) shelf between after out printed err said later_out later_printed later_err later_said status result verifies checks still
+    (λ status report answer. can_check shelf between asking file status report apart told stand answer) does low completes calm no_fault silent)
+  where
+    status_0 : IsStatus between (Ask asking (Check file)) result ⊎ (result ≡ 11) → (result ≡ 0) ⊎ (result ≡ 11)
+    status_0 (inl is) = inl is.2.4
+    status_0 (inr want) = inr want
 
 -- ---- the same of trees
 
-can_check_exactly : (old new : ShelfSeen) (name text file : List ℕ) (weights : Option (List ℕ)) (status : ℕ) (report : List ℕ) → name ≢ file → old.told ≡ true → OthersStand (Some file) old new
-    → IsAnswered old new (Exact name text weights (Some file)) status report → CanBeAnswered new (CheckExact name text file weights)
-can_check_exactly old new name text file weights status report apart told stand answer = (answer.0, subst (λ f. HoldsNetwork f answer.0) (sym (stand name other)) (answer.1 told), (stored.0, reported.tree, held, accepted))
+can_check_exactly : (old new : ShelfSeen) (asking : Asking) (file : List ℕ) (status : ℕ) (report : List ℕ) → asking.network ≢ file → old.told ≡ true → OthersStand (Some file) old new
+    → IsAnswered old new (Ask asking (Exact (Some file))) status report → CanBeAnswered new (Ask asking (CheckExact file))
+can_check_exactly old new asking file status report apart told stand answer = (answer.0, subst (λ f. HoldsNetwork f answer.0) (sym (stand asking.network other)) (answer.1 told), (asked.0, asked.1, asked.2, (reported.tree, in_file)))
   where
-    asked : ForAsked answer.0 text weights (λ problem. IsReportedExactly problem (Some file) new status report)
+    asked : ForAsked answer.0 asking.query asking.weights (λ problem. IsReportedExactly problem (Some file) new status report)
     asked = answer.2
 
-    reported : IsReportedExactly (problem_of answer.0 asked.0 asked.1) (Some file) new status report
+    problem : Problem
+    problem = problem_of answer.0 asked.0 asked.1
+
+    reported : IsReportedExactly problem (Some file) new status report
     reported = asked.4
 
     stored : IsTreeStored (Some file) new reported.tree
     stored = reported.stored
 
-    other : Some file ≢ Some name
-    other e = apart (sym (same_Some file name e))
+    other : Some file ≢ Some asking.network
+    other e = apart (sym (same_Some file asking.network e))
 
     held : IsCertificateFile new file stored.0
     held = record { held = stored.3; short = stored.2 }
 
-    accepted : IsAcceptedTree answer.0 text weights stored.0 reported.tree
-    accepted = record {
-      query = asked.0;
-      vector = asked.1;
-      asked = asked.2;
+    believed : IsTreeBelieved problem reported.tree
+    believed = record {
       problem_is = reported.is.problem_is;
-      reads = stored.1;
       accepted = reported.is.accepted;
-      holds = subst (IsDecidedExactly (problem_of answer.0 asked.0 asked.1)) (sym reported.is.exact.made.shows) reported.is.exact.holds;
+      holds = subst (IsDecidedExactly problem) (sym reported.is.exact.made.shows) reported.is.exact.holds;
     }
 
-pub tree_accepted : (asking checking : List (List ℕ)) (name text file : List ℕ) (weights : Option (List ℕ)) (shelf between after : ShelfSeen) (out printed err said later_out later_printed later_err later_said : SinkSeen) (status result : ℕ)
-    → command_of asking ≡ Some (Exact name text weights (Some file)) → command_of checking ≡ Some (CheckExact name text file weights) → name ≢ file
-    → shelf.told ≡ true → between.told ≡ true → OthersStand (Some file) shelf between → Does asking shelf between out printed err said status → status < 3
+    in_file : IsBelievedTreeFile new problem file reported.tree
+    in_file = record { bytes = stored.0; held = held; reads = stored.1; believed = believed }
+
+pub tree_accepted : (answering checking : List (List ℕ)) (asking : Asking) (file : List ℕ) (shelf between after : ShelfSeen) (out printed err said later_out later_printed later_err later_said : SinkSeen) (status result : ℕ)
+    → command_of answering ≡ Some (Ask asking (Exact (Some file))) → command_of checking ≡ Some (Ask asking (CheckExact file)) → asking.network ≢ file
+    → shelf.told ≡ true → between.told ≡ true → OthersStand (Some file) shelf between → Does answering shelf between out printed err said status → status < 3
     → Completes checking between after later_out later_printed later_err later_said result → IsCalm between after → later_printed.faults ≡ later_out.faults → later_said.faults ≡ later_err.faults
     → (result ≡ 0) ⊎ (result ≡ 11)
-tree_accepted asking checking name text file weights shelf between after out printed err said later_out later_printed later_err later_said status result asks checks apart told still stand does low completes calm no_fault silent =
-    answered_then asking checking (Exact name text weights (Some file)) (CheckExact name text file weights) shelf between after out printed err said later_out later_printed later_err later_said status result asks checks still
-    (λ status report answer. can_check_exactly shelf between name text file weights status report apart told stand answer) does low completes calm no_fault silent
+tree_accepted answering checking asking file shelf between after out printed err said later_out later_printed later_err later_said status result answers checks apart told still stand does low completes calm no_fault silent =
+    status_0 (answered_then answering checking (Ask asking (Exact (Some file))) (Ask asking (CheckExact file)) shelf between after out printed err said later_out later_printed later_err later_said status result answers checks still
+    (λ status report answer. can_check_exactly shelf between asking file status report apart told stand answer) does low completes calm no_fault silent)
+  where
+    status_0 : IsStatus between (Ask asking (CheckExact file)) result ⊎ (result ≡ 11) → (result ≡ 0) ⊎ (result ≡ 11)
+    status_0 (inl is) = inl is.2.4
+    status_0 (inr want) = inr want

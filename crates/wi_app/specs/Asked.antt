@@ -1,11 +1,13 @@
 -- What texts ask of a network: a problem.
 use Rattle.std.specs.Prelude.{◌⊎◌, ℕ, List, Option}
+use Rattle.wi_base.specs.Shelf.{ShelfSeen}
 use Rattle.wi_net.specs.Net.{Net}
 use Rattle.wi_query.specs.declared.query.Query.{Query}
 use Rattle.wi_quantity.specs.declared.vector.Part.{Part}
 use Rattle.wi_build.specs.Problems.{Problem, IsProblem, problem_of}
 use Rattle.wi_outcome.specs.declared.refusal.Refusal.{Refusal}
 use Rattle.wi_files.specs.Asked.{AreBadTexts, IsAsked}
+use Rattle.wi_files.specs.Shelves.{IsCalm}
 
 -- texts are a query of the network and weights, which ask a problem, and this holds of it. That it is one ties the query's automata to
 -- its expressions: the text does not
@@ -13,6 +15,6 @@ abbrev pub ForAsked : Net → List ℕ → Option (List ℕ) → (Problem → Ty
 ForAsked net text weights P =
     (query : Query) × (vector : List (List Part)) × IsAsked net text weights query vector × IsProblem (problem_of net query vector) × P (problem_of net query vector)
 
--- the texts are the cause, or else what both ask, for which there is such a cause
-abbrev pub FromAsked : (Problem → Refusal → Type 0) → Net → List ℕ → Option (List ℕ) → Refusal → Type 0
-FromAsked Undecided net text weights refusal = AreBadTexts net text weights refusal ⊎ ForAsked net text weights (λ problem. Undecided problem refusal)
+-- the texts are the cause; or, these asking a problem, what is wanted of it
+abbrev pub FromAsked : (Problem → Refusal → Type 0) → ShelfSeen → ShelfSeen → Net → List ℕ → Option (List ℕ) → Refusal → Type 0
+FromAsked From old new net text weights refusal = (AreBadTexts net text weights refusal × IsCalm old new) ⊎ ForAsked net text weights (λ problem. From problem refusal)

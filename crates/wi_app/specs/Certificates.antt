@@ -1,11 +1,8 @@
 -- Certificates as they are stored, and as they are checked.
 use Rattle.std.specs.Prelude.{◌≡◌, ℕ, ◌<◌, ◌≤◌, true, List, length, Option, Some, None}
 use Rattle.wi_base.specs.Shelf.{ShelfSeen}
-use Rattle.wi_net.specs.Net.{Net}
-use Rattle.wi_quantity.specs.declared.vector.Part.{Part}
-use Rattle.wi_query.specs.declared.query.Query.{Query}
 use Rattle.wi_trace.specs.declared.answer.Answer.{Answer}
-use Rattle.wi_build.specs.Problems.{Problem, IsProblem, problem_of}
+use Rattle.wi_build.specs.Problems.{Problem, IsProblem}
 use Rattle.wi_cert.specs.declared.certificate.Certificate.{Certificate}
 use Rattle.wi_cert.specs.declared.check_refused.CheckRefused.{CheckRefused}
 use Rattle.wi_cert.specs.Sheets.{certificates}
@@ -16,7 +13,6 @@ use Rattle.wi_accept.specs.Makers.{IsMaker}
 use Rattle.wi_decide.specs.Refusals.{IsUnrefused}
 use Rattle.wi_outcome.specs.declared.refusal.Refusal.{Refusal}
 use Rattle.wi_outcome.specs.declared.refusal.Refusal.TheVariants.{NotAccepted}
-use Rattle.wi_files.specs.Asked.{IsAsked}
 use Rattle.wi_files.specs.Certificates.{FromLines, IsCertificateFile, IsNotKept}
 use Rattle.wi_files.specs.Shelves.{IsCalm}
 
@@ -60,15 +56,18 @@ pub record FromStore (file : Option (List ℕ)) (old new : ShelfSeen) (problem :
   pub unkept : IsNotKept old new file certificate refusal
 
 -- ---- checked
--- bytes are the text of a certificate against which nothing speaks, for what texts ask of a network
-pub record IsAcceptedText (net : Net) (text : List ℕ) (weights : Option (List ℕ)) (bytes : List ℕ) (c : Certificate) : Type 0 where
-  pub query : Query
-  pub vector : List (List Part)
-  pub asked : IsAsked net text weights query vector
-  pub problem_is : IsProblem (problem_of net query vector)
+-- nothing speaks against a certificate for a problem, and its answer holds
+pub record IsBelieved (problem : Problem) (c : Certificate) : Type 0 where
+  pub problem_is : IsProblem problem
+  pub accepted : IsAccepted problem c
+  pub holds : IsDecided problem (answer_of problem c.shown)
+
+-- such a certificate is in a file
+pub record IsBelievedFile (shelf : ShelfSeen) (problem : Problem) (name : List ℕ) (c : Certificate) : Type 0 where
+  pub bytes : List ℕ
+  pub held : IsCertificateFile shelf name bytes
   pub reads : IsText c bytes
-  pub accepted : IsAccepted (problem_of net query vector) c
-  pub holds : IsDecided (problem_of net query vector) (answer_of (problem_of net query vector) c.shown)
+  pub believed : IsBelieved problem c
 
 -- this speaks against the certificate in a file, and nothing before it
 pub record IsRefusedFile (shelf : ShelfSeen) (problem : Problem) (name : List ℕ) (fault : CheckRefused) : Type 0 where

@@ -1,11 +1,8 @@
 -- Exact answers: the report on what texts ask of a network and why there is none, and the tree as it is stored and as it is checked.
 use Rattle.std.specs.Prelude.{◌≡◌, ℕ, List, length, Option}
 use Rattle.wi_base.specs.Shelf.{ShelfSeen}
-use Rattle.wi_net.specs.Net.{Net}
-use Rattle.wi_query.specs.declared.query.Query.{Query}
-use Rattle.wi_quantity.specs.declared.vector.Part.{Part}
 use Rattle.wi_trace.specs.declared.answer.Answer.{Answer}
-use Rattle.wi_build.specs.Problems.{Problem, IsProblem, problem_of}
+use Rattle.wi_build.specs.Problems.{Problem, IsProblem}
 use Rattle.wi_cert.specs.declared.tree.TreeCertificate.{TreeCertificate}
 use Rattle.wi_cert.specs.declared.check_refused.CheckRefused.{CheckRefused}
 use Rattle.wi_cert.specs.Text.{IsBadLine}
@@ -19,7 +16,6 @@ use Rattle.wi_branch.specs.Exactly.{IsExact, IsInexact}
 use Rattle.wi_report.specs.Reports.{exact_report_of}
 use Rattle.wi_outcome.specs.declared.refusal.Refusal.{Refusal}
 use Rattle.wi_outcome.specs.declared.refusal.Refusal.TheVariants.{ManyNodes, Memory, Overflow, TooLong}
-use Rattle.wi_files.specs.Asked.{IsAsked}
 use Rattle.wi_files.specs.Certificates.{IsCertificateFile, IsLarge, IsTreeNotKept, IsTreeStored}
 use Rattle.wi_app.specs.Certificates.{FromFile}
 use Rattle.wi_app.specs.Decided.{status_for}
@@ -74,15 +70,18 @@ pub record FromTreeStore (file : Option (List ℕ)) (old new : ShelfSeen) (probl
   pub unkept : IsTreeNotKept old new file tree refusal
 
 -- ---- checked
--- bytes are the text of a tree against which nothing speaks, for what texts ask of a network
-pub record IsAcceptedTree (net : Net) (text : List ℕ) (weights : Option (List ℕ)) (bytes : List ℕ) (t : TreeCertificate) : Type 0 where
-  pub query : Query
-  pub vector : List (List Part)
-  pub asked : IsAsked net text weights query vector
-  pub problem_is : IsProblem (problem_of net query vector)
+-- nothing speaks against a tree for a problem, and its answer holds without doubt
+pub record IsTreeBelieved (problem : Problem) (t : TreeCertificate) : Type 0 where
+  pub problem_is : IsProblem problem
+  pub accepted : IsTreeAccepted problem t
+  pub holds : IsDecidedExactly problem (answer_of problem t.shown)
+
+-- such a tree is in a file
+pub record IsBelievedTreeFile (shelf : ShelfSeen) (problem : Problem) (name : List ℕ) (t : TreeCertificate) : Type 0 where
+  pub bytes : List ℕ
+  pub held : IsCertificateFile shelf name bytes
   pub reads : IsTreeText t bytes
-  pub accepted : IsTreeAccepted (problem_of net query vector) t
-  pub holds : IsDecidedExactly (problem_of net query vector) (answer_of (problem_of net query vector) t.shown)
+  pub believed : IsTreeBelieved problem t
 
 -- this speaks against the tree in a file, and nothing before it
 pub record IsRefusedTree (shelf : ShelfSeen) (problem : Problem) (name : List ℕ) (fault : CheckRefused) : Type 0 where

@@ -3,6 +3,7 @@ pub mod Certificates
 pub mod Decided
 pub mod Exact
 pub mod Tolerance
+pub mod Wanted
 pub mod Generated
 pub mod Run
 pub mod private

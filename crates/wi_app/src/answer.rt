@@ -6,13 +6,8 @@ ghost use Rattle.wi_words.specs.Shown.{shown};
 ghost use Rattle.wi_files.specs.Shelves.{IsCalm, IsLeft, StandBut};
 ghost use Rattle.wi_app.specs.Run.{AreAnswered, FromCommand, FromWords, IsAnswered, IsStoredBy};
 
-use crate::check::check;
-use crate::check_exact::check_exact;
-use crate::exact::exact;
-use crate::packets::packets;
+use crate::ask::ask;
 use crate::ring::summary_of_ring;
-use crate::tolerate::tolerate;
-use crate::verify::verify;
 use std::alloc::Global;
 use wi_base::Shelf;
 use wi_files::{play, protect, stack};
@@ -53,45 +48,10 @@ fn answer_to<'a, S: Shelf>(
     ensures refused { IfErr result (λ refusal. FromCommand (S.seen shelf.old) (S.seen shelf.new) (shown command.entry) refusal) }
 {
     match command {
-        Command::Verify {
-            network,
-            query,
-            weights,
-            certificate,
-        } => verify(alloc, network, query, weights, certificate, shelf),
-        Command::Check {
-            network,
-            query,
-            certificate,
-            weights,
-        } => check(alloc, network, query, certificate, weights, shelf),
+        Command::Ask { asking, wanted } => ask(alloc, asking, wanted, shelf),
         Command::Play { network, script, k } => play(alloc, network, script, k, shelf),
         Command::Gen { seed, size } => summary_of_ring(alloc, seed, size),
-        Command::Exact {
-            network,
-            query,
-            weights,
-            certificate,
-        } => exact(alloc, network, query, weights, certificate, shelf),
-        Command::CheckExact {
-            network,
-            query,
-            certificate,
-            weights,
-        } => check_exact(alloc, network, query, certificate, weights, shelf),
-        Command::Tolerate {
-            network,
-            query,
-            most,
-            weights,
-            certificate,
-        } => tolerate(alloc, network, query, most, weights, certificate, shelf),
         Command::Protect { plan } => protect(alloc, plan, shelf),
-        Command::Packets {
-            network,
-            query,
-            weights,
-        } => packets(alloc, network, query, weights, shelf),
         Command::Stack { hex } => stack(alloc, hex),
     }
 }

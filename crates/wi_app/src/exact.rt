@@ -1,23 +1,20 @@
 //! As of `verify`, the report is made before the tree is stored, and both before anything is printed.
 ghost use Rattle.std.specs.Prelude.{◌≡◌, Ok, option_map, length, IfOk, IfErr};
 ghost use Rattle.wi_world.specs.Moves.{AreBounds};
-ghost use Rattle.wi_words.specs.Commands.{Exact};
 ghost use Rattle.wi_cert.specs.Trees.{IsTreeWritable};
 ghost use Rattle.wi_build.specs.Problems.{Problem, problem_of};
 ghost use Rattle.wi_branch.specs.Exactly.{IsInexact};
 ghost use Rattle.wi_files.specs.Certificates.{IsTreeNotKept, IsTreeStored};
 ghost use Rattle.wi_files.specs.Shelves.{IsCalm, IsLeft, OthersStand};
-ghost use Rattle.wi_app.specs.Asked.{ForAsked};
 ghost use Rattle.wi_app.specs.Exact.{FromSplitting, FromTreeStore, IsReportedExactly, IsShownExactly};
-ghost use Rattle.wi_app.specs.Run.{FromCommand, IsAnswered};
-ghost use Rattle.wi_app.specs.private.Stages.{FromAnswering, FromDeciding};
+ghost use Rattle.wi_app.specs.Wanted.{FromAnswer};
 
 use crate::verify::status_for;
 use std::alloc::Global;
 use wi_base::{NoMemory, Shelf};
 use wi_branch::{ExactRefused, exact as exact_answer};
 use wi_cert::TreeCertificate;
-use wi_files::{network, read_texts, store_tree};
+use wi_files::store_tree;
 use wi_net::Network;
 use wi_outcome::{NODE_LIMIT, Printed, Refusal};
 use wi_quantity::Vector;
@@ -26,53 +23,9 @@ use wi_report::exact_report;
 use wi_text::Text;
 use wi_trace::Answer;
 
-/// The report on the exact answer to a query of the network of a file, or why not. Runs are weighed by the weights, or by their
-/// effort alone. The tree that shows the answer is stored under a name, if there is one.
+/// The report on the exact answer to a query, or why there is none. The tree that shows the answer is stored under a name, if there is
+/// one.
 pub fn exact<'a, S: Shelf>(
-    alloc: Global,
-    name: &'a str,
-    query: &str,
-    weights: Option<&str>,
-    file: Option<&'a str>,
-    shelf: &mut S,
-) -> Result<Printed, Refusal<'a>>
-    ensures told { (S.seen shelf.new).told ≡ (S.seen shelf.old).told }
-    ensures others { OthersStand (option_map (λ s. s.now) file.entry) (S.seen shelf.old) (S.seen shelf.new) }
-    ensures left { IfErr result (λ refusal. IsLeft refusal (S.seen shelf.old) (S.seen shelf.new)) }
-    ensures calm { IfOk result (λ _. IsCalm (S.seen shelf.old) (S.seen shelf.new)) }
-    ensures answered { IfOk result (λ printed. IsAnswered (S.seen shelf.old) (S.seen shelf.new) (Exact name.now query.now (option_map (λ s. s.now) weights.entry) (option_map (λ s. s.now) file.entry)) printed.status printed.text) }
-    ensures refused { IfErr result (λ refusal. FromCommand (S.seen shelf.old) (S.seen shelf.new) (Exact name.now query.now (option_map (λ s. s.now) weights.entry) (option_map (λ s. s.now) file.entry)) refusal) }
-{
-    let net = network(alloc, name, shelf)?;
-    let printed = answer_exactly(alloc, &net, query, weights, file, shelf);
-    drop(net);
-    printed
-}
-
-// The report on the exact answer to a query of a network.
-fn answer_exactly<'a, S: Shelf>(
-    alloc: Global,
-    net: &Network,
-    query: &str,
-    weights: Option<&str>,
-    file: Option<&'a str>,
-    shelf: &mut S,
-) -> Result<Printed, Refusal<'a>>
-    ensures told { (S.seen shelf.new).told ≡ (S.seen shelf.old).told }
-    ensures others { OthersStand (option_map (λ s. s.now) file.entry) (S.seen shelf.old) (S.seen shelf.new) }
-    ensures left { IfErr result (λ refusal. IsLeft refusal (S.seen shelf.old) (S.seen shelf.new)) }
-    ensures calm { IfOk result (λ _. IsCalm (S.seen shelf.old) (S.seen shelf.new)) }
-    ensures answered { IfOk result (λ printed. ForAsked net.now query.now (option_map (λ s. s.now) weights.entry) (λ problem. IsReportedExactly problem (option_map (λ s. s.now) file.entry) (S.seen shelf.new) printed.status printed.text)) }
-    ensures refused { IfErr result (FromAnswering FromSplitting (FromTreeStore (option_map (λ s. s.now) file.entry)) (S.seen shelf.old) (S.seen shelf.new) net.now query.now (option_map (λ s. s.now) weights.entry)) }
-{
-    let asked = read_texts(alloc, net, query, weights)?;
-    let printed = report_exactly(alloc, net, &asked.query, &asked.vector, file, shelf);
-    drop(asked);
-    printed
-}
-
-// The report on the exact answer to a query that was read.
-fn report_exactly<'a, S: Shelf>(
     alloc: Global,
     net: &Network,
     query: &Query,
@@ -86,7 +39,7 @@ fn report_exactly<'a, S: Shelf>(
     ensures left { IfErr result (λ refusal. IsLeft refusal (S.seen shelf.old) (S.seen shelf.new)) }
     ensures calm { IfOk result (λ _. IsCalm (S.seen shelf.old) (S.seen shelf.new)) }
     ensures reported { IfOk result (λ printed. IsReportedExactly (problem_of net.now query.now vector.now) (option_map (λ s. s.now) file.entry) (S.seen shelf.new) printed.status printed.text) }
-    ensures refused { IfErr result (FromDeciding FromSplitting (FromTreeStore (option_map (λ s. s.now) file.entry)) (S.seen shelf.old) (S.seen shelf.new) (problem_of net.now query.now vector.now)) }
+    ensures refused { IfErr result (FromAnswer FromSplitting (FromTreeStore (option_map (λ s. s.now) file.entry)) (S.seen shelf.old) (S.seen shelf.new) (problem_of net.now query.now vector.now)) }
 {
     let (answer, tree) = decided_exactly(alloc, net, query, vector)?;
     let nodes = tree.nodes.as_slice().len();

@@ -3,12 +3,12 @@
 
 mod answer;
 mod app;
+mod ask;
 mod check;
 mod check_exact;
 mod decided;
 mod exact;
 mod laws;
-mod packets;
 mod ring;
 mod tolerate;
 mod verify;

@@ -7,9 +7,10 @@ ghost use Rattle.wi_cert.specs.Text.{IsWritable};
 ghost use Rattle.wi_gen.specs.Ring.{net_of, ring_of};
 ghost use Rattle.wi_gen.specs.Texts.{query_text, weights_text};
 ghost use Rattle.wi_report.specs.Summaries.{summary_of};
+ghost use Rattle.wi_app.specs.Certificates.{IsBelieved};
 ghost use Rattle.wi_app.specs.Decided.{FromDecision};
 ghost use Rattle.wi_app.specs.Generated.{FromRing, IsSummary, IsSummed};
-ghost use Rattle.wi_app.specs.private.Stages.{IsBelieved, IsNotBelieved};
+ghost use Rattle.wi_app.specs.private.Stages.{IsNotBelieved};
 
 use crate::check::accepted_word;
 use crate::decided::decided;

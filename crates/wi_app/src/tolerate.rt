@@ -2,21 +2,18 @@
 //! is printed.
 ghost use Rattle.std.specs.Prelude.{◌≡◌, Ok, Some, option_map, IfOk, IfErr, IfSome, OnOk};
 ghost use Rattle.wi_world.specs.Moves.{AreBounds};
-ghost use Rattle.wi_words.specs.Commands.{Tolerate};
 ghost use Rattle.wi_cert.specs.Trees.{IsTreeWritable};
 ghost use Rattle.wi_build.specs.Problems.{problem_of};
 ghost use Rattle.wi_files.specs.Certificates.{AreTreesStored, AreUnstored};
 ghost use Rattle.wi_files.specs.Shelves.{IsCalm, IsLeft, IsOfTwo, StandBut};
-ghost use Rattle.wi_app.specs.Asked.{ForAsked};
-ghost use Rattle.wi_app.specs.Run.{FromCommand, IsAnswered};
 ghost use Rattle.wi_app.specs.Tolerance.{FromTolerating, FromTreesStore, IsTold, IsToldWith, first_tree, second_tree, tolerance_status, tolerance_text};
-ghost use Rattle.wi_app.specs.private.Stages.{FromAnswering, FromDeciding};
+ghost use Rattle.wi_app.specs.Wanted.{FromAnswer};
 
 use crate::exact::refusal_for;
 use std::alloc::Global;
 use wi_base::{NoMemory, Shelf};
 use wi_branch::{Tolerance, TolerateRefused, tolerate as tolerance_of};
-use wi_files::{network, read_texts, store_trees};
+use wi_files::store_trees;
 use wi_net::Network;
 use wi_outcome::{NODE_LIMIT, Printed, Refusal};
 use wi_quantity::Vector;
@@ -24,55 +21,9 @@ use wi_query::Query;
 use wi_report::{none_up_to_text, tolerance_report};
 use wi_text::Text;
 
-/// How many failures it takes, if they are at most `most`, to a query of the network of a file; or why that isn't known. The query's own
-/// number isn't used. The trees that show it are stored under a name and that name followed by `.below`, if there is a name.
+/// How many failures it takes to a query, if they are at most `most`; or why that isn't known. The query's own number isn't used. The
+/// trees that show it are stored under a name and that name followed by `.below`, if there is a name.
 pub fn tolerate<'a, S: Shelf>(
-    alloc: Global,
-    name: &'a str,
-    query: &str,
-    most: u32,
-    weights: Option<&str>,
-    file: Option<&'a str>,
-    shelf: &mut S,
-) -> Result<Printed, Refusal<'a>>
-    ensures told { (S.seen shelf.new).told ≡ (S.seen shelf.old).told }
-    ensures others { StandBut (IsOfTwo (option_map (λ s. s.now) file.entry)) (S.seen shelf.old) (S.seen shelf.new) }
-    ensures left { IfErr result (λ refusal. IsLeft refusal (S.seen shelf.old) (S.seen shelf.new)) }
-    ensures calm { IfOk result (λ _. IsCalm (S.seen shelf.old) (S.seen shelf.new)) }
-    ensures answered { IfOk result (λ printed. IsAnswered (S.seen shelf.old) (S.seen shelf.new) (Tolerate name.now query.now most (option_map (λ s. s.now) weights.entry) (option_map (λ s. s.now) file.entry)) printed.status printed.text) }
-    ensures refused { IfErr result (λ refusal. FromCommand (S.seen shelf.old) (S.seen shelf.new) (Tolerate name.now query.now most (option_map (λ s. s.now) weights.entry) (option_map (λ s. s.now) file.entry)) refusal) }
-{
-    let net = network(alloc, name, shelf)?;
-    let printed = tolerate_on(alloc, &net, query, most, weights, file, shelf);
-    drop(net);
-    printed
-}
-
-// The same, on the network of the file.
-fn tolerate_on<'a, S: Shelf>(
-    alloc: Global,
-    net: &Network,
-    query: &str,
-    most: u32,
-    weights: Option<&str>,
-    file: Option<&'a str>,
-    shelf: &mut S,
-) -> Result<Printed, Refusal<'a>>
-    ensures told { (S.seen shelf.new).told ≡ (S.seen shelf.old).told }
-    ensures others { StandBut (IsOfTwo (option_map (λ s. s.now) file.entry)) (S.seen shelf.old) (S.seen shelf.new) }
-    ensures left { IfErr result (λ refusal. IsLeft refusal (S.seen shelf.old) (S.seen shelf.new)) }
-    ensures calm { IfOk result (λ _. IsCalm (S.seen shelf.old) (S.seen shelf.new)) }
-    ensures answered { IfOk result (λ printed. ForAsked net.now query.now (option_map (λ s. s.now) weights.entry) (λ problem. IsToldWith problem most (option_map (λ s. s.now) file.entry) (S.seen shelf.old) (S.seen shelf.new) printed.status printed.text)) }
-    ensures refused { IfErr result (FromAnswering (FromTolerating most) (FromTreesStore most (option_map (λ s. s.now) file.entry)) (S.seen shelf.old) (S.seen shelf.new) net.now query.now (option_map (λ s. s.now) weights.entry)) }
-{
-    let asked = read_texts(alloc, net, query, weights)?;
-    let printed = tolerate_for(alloc, net, &asked.query, &asked.vector, most, file, shelf);
-    drop(asked);
-    printed
-}
-
-// The same, for a query that was read.
-fn tolerate_for<'a, S: Shelf>(
     alloc: Global,
     net: &Network,
     query: &Query,
@@ -87,7 +38,7 @@ fn tolerate_for<'a, S: Shelf>(
     ensures left { IfErr result (λ refusal. IsLeft refusal (S.seen shelf.old) (S.seen shelf.new)) }
     ensures calm { IfOk result (λ _. IsCalm (S.seen shelf.old) (S.seen shelf.new)) }
     ensures told_with { IfOk result (λ printed. IsToldWith (problem_of net.now query.now vector.now) most (option_map (λ s. s.now) file.entry) (S.seen shelf.old) (S.seen shelf.new) printed.status printed.text) }
-    ensures refused { IfErr result (FromDeciding (FromTolerating most) (FromTreesStore most (option_map (λ s. s.now) file.entry)) (S.seen shelf.old) (S.seen shelf.new) (problem_of net.now query.now vector.now)) }
+    ensures refused { IfErr result (FromAnswer (FromTolerating most) (FromTreesStore most (option_map (λ s. s.now) file.entry)) (S.seen shelf.old) (S.seen shelf.new) (problem_of net.now query.now vector.now)) }
 {
     let found = tolerance(alloc, net, query, vector, most)?;
     let text = text_for(alloc, net, query, vector, most, &found);

@@ -1,25 +1,23 @@
 //! The report is made before the certificate is stored, and both before anything is printed: so whatever is refused has stored
-//! nothing, and what is printed has its certificate. The network is let go before anything is printed. What `packets` prints is
-//! made here, too: it asks the same, and prints more of the same answer.
+//! nothing, and what is printed has its certificate. What `packets` prints is made here, too: it asks the same, and prints more of the
+//! same answer.
 ghost use Rattle.std.specs.Prelude.{◌≡◌, Ok, option_map, IfOk, IfErr, IfSome};
 ghost use Rattle.wi_world.specs.Moves.{AreBounds};
-ghost use Rattle.wi_words.specs.Commands.{Verify};
 ghost use Rattle.wi_cert.specs.Text.{IsWritable};
 ghost use Rattle.wi_build.specs.Problems.{problem_of};
 ghost use Rattle.wi_report.specs.Reports.{IsKnownRun};
 ghost use Rattle.wi_files.specs.Certificates.{IsKept, IsNotKept};
 ghost use Rattle.wi_files.specs.Shelves.{IsCalm, IsLeft, OthersStand};
-ghost use Rattle.wi_app.specs.Asked.{ForAsked};
 ghost use Rattle.wi_app.specs.Certificates.{FromStore};
 ghost use Rattle.wi_app.specs.Decided.{FromDecision, IsReported, status_for};
-ghost use Rattle.wi_app.specs.Run.{FromCommand, IsAnswered};
-ghost use Rattle.wi_app.specs.private.Stages.{FromAnswering, FromDeciding, printed_by};
+ghost use Rattle.wi_app.specs.Wanted.{FromAnswer};
+ghost use Rattle.wi_app.specs.private.Stages.{printed_by};
 
 use crate::decided::decided;
 use std::alloc::Global;
 use wi_base::{NoMemory, Shelf};
 use wi_cert::Certificate;
-use wi_files::{network, read_texts, store_certificate};
+use wi_files::store_certificate;
 use wi_net::Network;
 use wi_outcome::{Printed, Refusal};
 use wi_quantity::Vector;
@@ -37,62 +35,8 @@ pub enum Content {
     ReportAndPackets,
 }
 
-/// The report on a query of the network of a file, or why not. Runs are weighed by the weights, or by their effort alone. The
-/// certificate is stored under a name, if there is one.
+/// What is printed of the answer to a query, or why there is none. Its certificate is stored under a name, if there is one.
 pub fn verify<'a, S: Shelf>(
-    alloc: Global,
-    name: &'a str,
-    query: &str,
-    weights: Option<&str>,
-    file: Option<&'a str>,
-    shelf: &mut S,
-) -> Result<Printed, Refusal<'a>>
-    ensures told { (S.seen shelf.new).told ≡ (S.seen shelf.old).told }
-    ensures others { OthersStand (option_map (λ s. s.now) file.entry) (S.seen shelf.old) (S.seen shelf.new) }
-    ensures left { IfErr result (λ refusal. IsLeft refusal (S.seen shelf.old) (S.seen shelf.new)) }
-    ensures calm { IfOk result (λ _. IsCalm (S.seen shelf.old) (S.seen shelf.new)) }
-    ensures answered { IfOk result (λ printed. IsAnswered (S.seen shelf.old) (S.seen shelf.new) (Verify name.now query.now (option_map (λ s. s.now) weights.entry) (option_map (λ s. s.now) file.entry)) printed.status printed.text) }
-    ensures refused { IfErr result (λ refusal. FromCommand (S.seen shelf.old) (S.seen shelf.new) (Verify name.now query.now (option_map (λ s. s.now) weights.entry) (option_map (λ s. s.now) file.entry)) refusal) }
-{
-    let net = network(alloc, name, shelf)?;
-    let printed = answer(alloc, &net, query, weights, Content::Report, file, shelf);
-    drop(net);
-    printed
-}
-
-/// What is printed of the answer to a query of a network, or why not. Its certificate is stored under a name, if there is one.
-pub fn answer<'a, S: Shelf>(
-    alloc: Global,
-    net: &Network,
-    query: &str,
-    weights: Option<&str>,
-    content: Content,
-    file: Option<&'a str>,
-    shelf: &mut S,
-) -> Result<Printed, Refusal<'a>>
-    ensures told { (S.seen shelf.new).told ≡ (S.seen shelf.old).told }
-    ensures others { OthersStand (option_map (λ s. s.now) file.entry) (S.seen shelf.old) (S.seen shelf.new) }
-    ensures left { IfErr result (λ refusal. IsLeft refusal (S.seen shelf.old) (S.seen shelf.new)) }
-    ensures calm { IfOk result (λ _. IsCalm (S.seen shelf.old) (S.seen shelf.new)) }
-    ensures answered { IfOk result (λ printed. ForAsked net.now query.now (option_map (λ s. s.now) weights.entry) (λ problem. IsReported (printed_by content) problem (option_map (λ s. s.now) file.entry) (S.seen shelf.new) printed.status printed.text)) }
-    ensures refused { IfErr result (FromAnswering FromDecision (FromStore (option_map (λ s. s.now) file.entry)) (S.seen shelf.old) (S.seen shelf.new) net.now query.now (option_map (λ s. s.now) weights.entry)) }
-{
-    let asked = read_texts(alloc, net, query, weights)?;
-    let printed = reported(
-        alloc,
-        net,
-        &asked.query,
-        &asked.vector,
-        content,
-        file,
-        shelf,
-    );
-    drop(asked);
-    printed
-}
-
-// What is printed of the answer to a query that was read.
-fn reported<'a, S: Shelf>(
     alloc: Global,
     net: &Network,
     query: &Query,
@@ -107,7 +51,7 @@ fn reported<'a, S: Shelf>(
     ensures left { IfErr result (λ refusal. IsLeft refusal (S.seen shelf.old) (S.seen shelf.new)) }
     ensures calm { IfOk result (λ _. IsCalm (S.seen shelf.old) (S.seen shelf.new)) }
     ensures reported { IfOk result (λ printed. IsReported (printed_by content) (problem_of net.now query.now vector.now) (option_map (λ s. s.now) file.entry) (S.seen shelf.new) printed.status printed.text) }
-    ensures refused { IfErr result (FromDeciding FromDecision (FromStore (option_map (λ s. s.now) file.entry)) (S.seen shelf.old) (S.seen shelf.new) (problem_of net.now query.now vector.now)) }
+    ensures refused { IfErr result (FromAnswer FromDecision (FromStore (option_map (λ s. s.now) file.entry)) (S.seen shelf.old) (S.seen shelf.new) (problem_of net.now query.now vector.now)) }
 {
     let (answer, certificate) = decided(alloc, net, query, vector)?;
     let text = text_by(alloc, net, query, vector, &answer, content);

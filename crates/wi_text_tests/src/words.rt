@@ -2,7 +2,7 @@
 use std::alloc::Global;
 use std::process::Abort;
 use std::test::Fail;
-use wi_words::{Command, command_of};
+use wi_words::{Command, Wanted, command_of};
 
 fn words_of(alloc: Global, text: &str) -> Result<Vec<String>, Fail> {
     let mut words = Vec::new(alloc);
@@ -23,17 +23,16 @@ fn is_verify(
     let words = words_of(alloc, text)?;
     match command_of(alloc, words.as_slice())? {
         Some(
-            Command::Verify {
-                network: n,
-                query: q,
-                weights: w,
-                certificate: c,
+            Command::Ask {
+                asking,
+                wanted: Wanted::Verify { certificate: c },
             },
         ) => {
             assert!(rt;
-                n == network && q == query && w == weights && c == certificate,
+                asking.network == network && asking.query == query,
                 "{text}"
             );
+            assert!(rt; asking.weights == weights && c == certificate, "{text}");
         }
         _ => assert!(rt; false, "{text}"),
     }
@@ -50,17 +49,13 @@ fn is_check(
     let words = words_of(alloc, text)?;
     match command_of(alloc, words.as_slice())? {
         Some(
-            Command::Check {
-                network,
-                query,
-                certificate: c,
-                weights: w,
+            Command::Ask {
+                asking,
+                wanted: Wanted::Check { certificate: c },
             },
         ) => {
-            assert!(rt;
-                network == "n" && query == "q" && c == certificate && w == weights,
-                "{text}"
-            );
+            assert!(rt; asking.network == "n" && asking.query == "q", "{text}");
+            assert!(rt; asking.weights == weights && c == certificate, "{text}");
         }
         _ => assert!(rt; false, "{text}"),
     }
@@ -104,13 +99,13 @@ fn is_packets(
     let words = words_of(alloc, text)?;
     match command_of(alloc, words.as_slice())? {
         Some(
-            Command::Packets {
-                network: n,
-                query,
-                weights: w,
+            Command::Ask {
+                asking,
+                wanted: Wanted::Packets,
             },
         ) => {
-            assert!(rt; n == network && query == "q" && w == weights, "{text}");
+            assert!(rt; asking.network == network && asking.query == "q", "{text}");
+            assert!(rt; asking.weights == weights, "{text}");
         }
         _ => assert!(rt; false, "{text}"),
     }

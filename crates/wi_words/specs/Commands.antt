@@ -83,18 +83,28 @@ is_empty (x ∷ xs) = false
 abbrev pub are_taken : List Text → Bool
 are_taken words = is_empty (fault_of program words)
 
--- a command, with what was given to it: the names of files, the texts of a query and of weights, how many risk groups may fail, the
--- seed and the size of a ring, a text that is to be bytes
+-- what is asked of a network: the name of its file, the text of a query, and that of weights
+pub record Asking : Type 0 where
+  pub network : Text
+  pub query : Text
+  pub weights : Option Text
+
+-- what is wanted of it, with the name of the certificate's file; and up to how many failures
+pub data Wanted : Type 0 where
+  Verify : (certificate : Option Text) → Wanted
+  Check : (certificate : Text) → Wanted
+  Exact : (certificate : Option Text) → Wanted
+  CheckExact : (certificate : Text) → Wanted
+  Tolerate : (most : ℕ) (certificate : Option Text) → Wanted
+  Packets : Wanted
+
+-- a command, with what was given to it: what is asked and wanted, or the names of files, how many risk groups may fail, the seed and
+-- the size of a ring, a text that is to be bytes
 pub data Command : Type 0 where
-  Verify : (network query : Text) (weights certificate : Option Text) → Command
-  Check : (network query certificate : Text) (weights : Option Text) → Command
+  Ask : (asking : Asking) (wanted : Wanted) → Command
   Play : (network script : Text) (k : ℕ) → Command
   Gen : (seed size : ℕ) → Command
-  Exact : (network query : Text) (weights certificate : Option Text) → Command
-  CheckExact : (network query certificate : Text) (weights : Option Text) → Command
-  Tolerate : (network query : Text) (most : ℕ) (weights certificate : Option Text) → Command
   Protect : (plan : Text) → Command
-  Packets : (network query : Text) (weights : Option Text) → Command
   Stack : (hex : Text) → Command
 
 -- a number from a least to a most one: a decimal without leading zeros
@@ -116,16 +126,25 @@ abbrev pub IsFit : Command → Type 0
 IsFit (Gen seed size) = (4 ≤ size) × (size ≤ 2000)
 IsFit _ = Unit {0}
 
--- the command of a subcommand's entries: what is asked of a network, and what a certificate is held against
-abbrev pub asked_of : (Text → Text → Option Text → Option Text → Command) → List Row → Option Command
-asked_of ask rows =
-    option_and_then (λ network. option_map (λ query. ask network query (first_of (codes "weights") rows) (first_of (codes "certificate") rows)) (first_of (codes "QUERY") rows))
-    (first_of (codes "NETWORK") rows)
+-- what a subcommand's entries ask of a network
+abbrev pub asking_in : List Row → Option Asking
+asking_in rows =
+    option_and_then (λ network. option_map (λ query. record { network = network; query = query; weights = first_of (codes "weights") rows }) (first_of (codes "QUERY") rows)) (first_of (codes "NETWORK") rows)
 
-abbrev pub checked_of : (Text → Text → Text → Option Text → Command) → List Row → Option Command
-checked_of check rows =
-    option_and_then (λ network. option_and_then (λ query. option_map (λ certificate. check network query certificate (first_of (codes "weights") rows)) (first_of (codes "CERTIFICATE") rows)) (first_of (codes "QUERY") rows))
-    (first_of (codes "NETWORK") rows)
+-- what the subcommand with a name wants of it, if it is one that asks something of a network
+abbrev pub wanted_named : Text → List Row → Option Wanted
+wanted_named name rows =
+    if bytes_eq name (codes "verify") then Some (Verify (first_of (codes "certificate") rows))
+    else if bytes_eq name (codes "check") then option_map Check (first_of (codes "CERTIFICATE") rows)
+    else if bytes_eq name (codes "exact") then Some (Exact (first_of (codes "certificate") rows))
+    else if bytes_eq name (codes "check-exact") then option_map CheckExact (first_of (codes "CERTIFICATE") rows)
+    else if bytes_eq name (codes "tolerate") then option_map (λ most. Tolerate most (first_of (codes "certificate") rows)) (option_and_then most_failed (first_of (codes "LIMIT") rows))
+    else if bytes_eq name (codes "packets") then Some Packets
+    else None
+
+-- the command of a subcommand's entries
+abbrev pub asked_of : Text → List Row → Option Command
+asked_of name rows = option_and_then (λ wanted. option_map (λ asking. Ask asking wanted) (asking_in rows)) (wanted_named name rows)
 
 abbrev pub play_of : List Row → Option Command
 play_of rows =
@@ -135,33 +154,19 @@ play_of rows =
 abbrev pub gen_of : List Row → Option Command
 gen_of rows = option_and_then (λ seed. option_map (λ size. Gen seed size) (option_and_then size_in (first_of (codes "SIZE") rows))) (option_and_then seed_in (first_of (codes "SEED") rows))
 
-abbrev pub tolerate_of : List Row → Option Command
-tolerate_of rows =
-    option_and_then (λ network. option_and_then (λ query. option_map (λ most. Tolerate network query most (first_of (codes "weights") rows) (first_of (codes "certificate") rows)) (option_and_then most_failed (first_of (codes "LIMIT") rows))) (first_of (codes "QUERY") rows))
-    (first_of (codes "NETWORK") rows)
-
 abbrev pub protect_of : List Row → Option Command
 protect_of rows = option_map (λ plan. Protect plan) (first_of (codes "PLAN") rows)
-
-abbrev pub packets_of : List Row → Option Command
-packets_of rows = option_and_then (λ network. option_map (λ query. Packets network query (first_of (codes "weights") rows)) (first_of (codes "QUERY") rows)) (first_of (codes "NETWORK") rows)
 
 abbrev pub stack_of : List Row → Option Command
 stack_of rows = option_map (λ hex. Stack hex) (first_of (codes "HEX") rows)
 
 abbrev pub command_named : Text × List Row → Option Command
 command_named met =
-    if bytes_eq met.0 (codes "verify") then asked_of Verify met.1
-    else if bytes_eq met.0 (codes "check") then checked_of Check met.1
-    else if bytes_eq met.0 (codes "play") then play_of met.1
+    if bytes_eq met.0 (codes "play") then play_of met.1
     else if bytes_eq met.0 (codes "gen") then gen_of met.1
-    else if bytes_eq met.0 (codes "exact") then asked_of Exact met.1
-    else if bytes_eq met.0 (codes "check-exact") then checked_of CheckExact met.1
-    else if bytes_eq met.0 (codes "tolerate") then tolerate_of met.1
     else if bytes_eq met.0 (codes "protect") then protect_of met.1
-    else if bytes_eq met.0 (codes "packets") then packets_of met.1
     else if bytes_eq met.0 (codes "stack") then stack_of met.1
-    else None
+    else asked_of met.0 met.1
 
 -- the command that the words are, if they are one. The first word is the program's name and isn't looked at
 abbrev pub command_of : List Text → Option Command

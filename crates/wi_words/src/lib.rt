@@ -18,21 +18,10 @@ use wi_base::NoMemory;
 /// What the program is asked to do.
 #[derive(Clone, Copy)]
 pub enum Command<'a> {
-    /// `verify NETWORK QUERY [--weights W] [--certificate FILE]`: the name of the network file, the text of the query, that of the
-    /// weights, and the name under which the certificate is to be stored.
-    Verify {
-        network: &'a str,
-        query: &'a str,
-        weights: Option<&'a str>,
-        certificate: Option<&'a str>,
-    },
-    /// `check NETWORK QUERY CERTIFICATE [--weights W]`: the name of the network file, the text of the query, the name of the
-    /// certificate's file, and the text of the weights.
-    Check {
-        network: &'a str,
-        query: &'a str,
-        certificate: &'a str,
-        weights: Option<&'a str>,
+    /// Something is asked of a network, and of it something is wanted.
+    Ask {
+        asking: Asking<'a>,
+        wanted: Wanted<'a>,
     },
     /// `play NETWORK SCRIPT K`: the names of the network file and of the script, and how many risk groups may be failed.
     Play {
@@ -45,44 +34,54 @@ pub enum Command<'a> {
         seed: u64,
         size: u32,
     },
-    /// `exact NETWORK QUERY [--weights W] [--certificate FILE]`: as for `verify`.
-    Exact {
-        network: &'a str,
-        query: &'a str,
-        weights: Option<&'a str>,
-        certificate: Option<&'a str>,
-    },
-    /// `check-exact NETWORK QUERY CERTIFICATE [--weights W]`: as for `check`.
-    CheckExact {
-        network: &'a str,
-        query: &'a str,
-        certificate: &'a str,
-        weights: Option<&'a str>,
-    },
-    /// `tolerate NETWORK QUERY LIMIT [--weights W] [--certificate FILE]`: the name of the network file, the text of the query, the
-    /// most failures that are asked for, the text of the weights, and the name under which the first tree is to be stored. The
-    /// second one is stored under that name followed by `.below`.
-    Tolerate {
-        network: &'a str,
-        query: &'a str,
-        most: u32,
-        weights: Option<&'a str>,
-        certificate: Option<&'a str>,
-    },
     /// `protect PLAN`: the name of the network file that has the plan.
     Protect {
         plan: &'a str,
-    },
-    /// `packets NETWORK QUERY [--weights W]`: the name of the network file, the text of the query, and that of the weights.
-    Packets {
-        network: &'a str,
-        query: &'a str,
-        weights: Option<&'a str>,
     },
     /// `stack HEX`: the text that is to be bytes, whatever it is.
     Stack {
         hex: &'a str,
     },
+}
+
+/// What is asked of a network: `NETWORK QUERY [--weights W]`.
+#[derive(Clone, Copy)]
+pub struct Asking<'a> {
+    /// The name of the network file.
+    pub network: &'a str,
+    /// The text of the query.
+    pub query: &'a str,
+    /// The text of the weights.
+    pub weights: Option<&'a str>,
+}
+
+/// What is wanted of what is asked.
+#[derive(Clone, Copy)]
+pub enum Wanted<'a> {
+    /// `verify .. [--certificate FILE]`: the answer, whose certificate is to be stored under a name.
+    Verify {
+        certificate: Option<&'a str>,
+    },
+    /// `check NETWORK QUERY CERTIFICATE ..`: whether the certificate in a file is accepted.
+    Check {
+        certificate: &'a str,
+    },
+    /// `exact .. [--certificate FILE]`: the exact answer, whose tree is to be stored under a name.
+    Exact {
+        certificate: Option<&'a str>,
+    },
+    /// `check-exact NETWORK QUERY CERTIFICATE ..`: whether the tree in a file is accepted.
+    CheckExact {
+        certificate: &'a str,
+    },
+    /// `tolerate NETWORK QUERY LIMIT .. [--certificate FILE]`: how many failures it takes, up to so many. The first tree is to be
+    /// stored under a name, and the second one under that name followed by `.below`.
+    Tolerate {
+        most: u32,
+        certificate: Option<&'a str>,
+    },
+    /// `packets ..`: the answer, and the packets of the run that it shows.
+    Packets,
 }
 
 /// The command that the words are, if they are one. The first word is the program's name and isn't looked at; asking for

@@ -1,13 +1,13 @@
 //! Clap tells which word belongs to which argument, and numbers are judged here, by our own definition of a number: clap's would
 //! take `+1` and `007`. The texts of a command are lent by the words.
-ghost use Rattle.std.specs.Prelude.{◌≡◌, ◌≤◌, ◌^◌, true, None, IfSome, if◌then◌else◌, option_map, option_and_then};
+ghost use Rattle.std.specs.Prelude.{◌≡◌, ◌≤◌, ◌^◌, true, None, IfSome, option_map, option_and_then};
 ghost use Rattle.std.specs.Str.Parse.{digits_value};
 ghost use Rattle.wi_text.specs.Characters.{is_number};
 ghost use Rattle.clap.specs.Words.{first_of, found_of, rows_of, subcommand_rows_of};
-ghost use Rattle.wi_words.specs.Commands.{Check, CheckExact, Exact, IsFit, Verify, asked_of, checked_of, command_named, gen_of, most_failed, number_within, packets_of, play_of, protect_of, seed_in, size_in, stack_of, tolerate_of};
-ghost use Rattle.wi_words.specs.Shown.{shown};
+ghost use Rattle.wi_words.specs.Commands.{IsFit, asked_of, asking_in, command_named, gen_of, most_failed, number_within, play_of, protect_of, seed_in, size_in, stack_of, wanted_named};
+ghost use Rattle.wi_words.specs.Shown.{asking_shown, shown, wanted_shown};
 
-use crate::Command;
+use crate::{Asking, Command, Wanted};
 use clap::ArgMatches;
 use wi_text::is_number;
 
@@ -71,56 +71,59 @@ fn number_of(text: &str) -> Option<u64>
     text.parse::<u64>().ok()
 }
 
-// The command of a subcommand's entries, which has all operands: what is asked of a network, exactly or not.
-fn asked_of<'a>(matches: &ArgMatches<'a>, exactly: bool) -> Option<Command<'a>>
-    ensures command { option_map shown result ≡ asked_of (if exactly then Exact else Verify) (rows_of (found_of matches.now)) }
-    ensures fit { IfSome result (λ c. IsFit (shown c)) }
+// What a subcommand's entries ask of a network.
+fn asking_in<'a>(matches: &ArgMatches<'a>) -> Option<Asking<'a>>
+    ensures { option_map asking_shown result ≡ asking_in (rows_of (found_of matches.now)) }
 {
-    let network = value_of(matches, "NETWORK")?;
-    let query = value_of(matches, "QUERY")?;
-    let weights = value_of(matches, "weights");
-    let certificate = value_of(matches, "certificate");
-    Some(if exactly {
-        Command::Exact {
-            network,
-            query,
-            weights,
-            certificate,
-        }
-    } else {
-        Command::Verify {
-            network,
-            query,
-            weights,
-            certificate,
-        }
+    Some(Asking {
+        network: value_of(matches, "NETWORK")?,
+        query: value_of(matches, "QUERY")?,
+        weights: value_of(matches, "weights"),
     })
 }
 
-// What a certificate is held against, of an exact answer or not.
-fn checked_of<'a>(matches: &ArgMatches<'a>, exactly: bool) -> Option<Command<'a>>
-    ensures command { option_map shown result ≡ checked_of (if exactly then CheckExact else Check) (rows_of (found_of matches.now)) }
+// What the subcommand with this name wants of it, if it is one that asks something of a network.
+fn wanted_named<'a>(name: &str, matches: &ArgMatches<'a>) -> Option<Wanted<'a>>
+    ensures { option_map wanted_shown result ≡ wanted_named name.now (rows_of (found_of matches.now)) }
+{
+    match name {
+        "verify" => {
+            Some(Wanted::Verify {
+                certificate: value_of(matches, "certificate"),
+            })
+        }
+        "check" => {
+            Some(Wanted::Check {
+                certificate: value_of(matches, "CERTIFICATE")?,
+            })
+        }
+        "exact" => {
+            Some(Wanted::Exact {
+                certificate: value_of(matches, "certificate"),
+            })
+        }
+        "check-exact" => {
+            Some(Wanted::CheckExact {
+                certificate: value_of(matches, "CERTIFICATE")?,
+            })
+        }
+        "tolerate" => {
+            let most = most_failed(value_of(matches, "LIMIT")?)?;
+            let certificate = value_of(matches, "certificate");
+            Some(Wanted::Tolerate { most, certificate })
+        }
+        "packets" => Some(Wanted::Packets),
+        _ => None,
+    }
+}
+
+fn asked_of<'a>(name: &str, matches: &ArgMatches<'a>) -> Option<Command<'a>>
+    ensures command { option_map shown result ≡ asked_of name.now (rows_of (found_of matches.now)) }
     ensures fit { IfSome result (λ c. IsFit (shown c)) }
 {
-    let network = value_of(matches, "NETWORK")?;
-    let query = value_of(matches, "QUERY")?;
-    let certificate = value_of(matches, "CERTIFICATE")?;
-    let weights = value_of(matches, "weights");
-    Some(if exactly {
-        Command::CheckExact {
-            network,
-            query,
-            certificate,
-            weights,
-        }
-    } else {
-        Command::Check {
-            network,
-            query,
-            certificate,
-            weights,
-        }
-    })
+    let wanted = wanted_named(name, matches)?;
+    let asking = asking_in(matches)?;
+    Some(Command::Ask { asking, wanted })
 }
 
 fn play_of<'a>(matches: &ArgMatches<'a>) -> Option<Command<'a>>
@@ -142,42 +145,12 @@ fn gen_of<'a>(matches: &ArgMatches<'a>) -> Option<Command<'a>>
     Some(Command::Gen { seed, size })
 }
 
-fn tolerate_of<'a>(matches: &ArgMatches<'a>) -> Option<Command<'a>>
-    ensures command { option_map shown result ≡ tolerate_of (rows_of (found_of matches.now)) }
-    ensures fit { IfSome result (λ c. IsFit (shown c)) }
-{
-    let network = value_of(matches, "NETWORK")?;
-    let query = value_of(matches, "QUERY")?;
-    let most = most_failed(value_of(matches, "LIMIT")?)?;
-    Some(Command::Tolerate {
-        network,
-        query,
-        most,
-        weights: value_of(matches, "weights"),
-        certificate: value_of(matches, "certificate"),
-    })
-}
-
 fn protect_of<'a>(matches: &ArgMatches<'a>) -> Option<Command<'a>>
     ensures command { option_map shown result ≡ protect_of (rows_of (found_of matches.now)) }
     ensures fit { IfSome result (λ c. IsFit (shown c)) }
 {
     let plan = value_of(matches, "PLAN")?;
     Some(Command::Protect { plan })
-}
-
-fn packets_of<'a>(matches: &ArgMatches<'a>) -> Option<Command<'a>>
-    ensures command { option_map shown result ≡ packets_of (rows_of (found_of matches.now)) }
-    ensures fit { IfSome result (λ c. IsFit (shown c)) }
-{
-    let network = value_of(matches, "NETWORK")?;
-    let query = value_of(matches, "QUERY")?;
-    let weights = value_of(matches, "weights");
-    Some(Command::Packets {
-        network,
-        query,
-        weights,
-    })
 }
 
 fn stack_of<'a>(matches: &ArgMatches<'a>) -> Option<Command<'a>>
@@ -194,17 +167,11 @@ fn command_named<'a>(name: &str, matches: &ArgMatches<'a>) -> Option<Command<'a>
     ensures fit { IfSome result (λ c. IsFit (shown c)) }
 {
     match name {
-        "verify" => asked_of(matches, false),
-        "check" => checked_of(matches, false),
         "play" => play_of(matches),
         "gen" => gen_of(matches),
-        "exact" => asked_of(matches, true),
-        "check-exact" => checked_of(matches, true),
-        "tolerate" => tolerate_of(matches),
         "protect" => protect_of(matches),
-        "packets" => packets_of(matches),
         "stack" => stack_of(matches),
-        _ => None,
+        _ => asked_of(name, matches),
     }
 }
 

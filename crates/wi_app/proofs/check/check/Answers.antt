@@ -1,11 +1,22 @@
-use Rattle.wi_files.proofs.ShelfLemmas.{same_shelf}
-use Rattle.wi_app.proofs.Outcomes.{check_answered, check_refused}
+use Rattle.wi_build.specs.Problems.{problem_of}
+use Rattle.wi_cert.specs.Sheets.{certificates}
+use Rattle.wi_cert.specs.Text.{IsBadLine}
+use Rattle.wi_files.proofs.Causes.{err_as}
+use Rattle.wi_app.specs.Certificates.{FromCertificate, IsRefusedFile}
+use Rattle.wi_app.proofs.Checking.{file_believed, file_not_believed, lines_refused}
 use Rattle.wi_app.proofs.check.check.Goals as goal
 
-pub returns-clause-answered : goal.returns-clause-answered
-returns-clause-answered g c =
-    check_answered _ (g.S.Shelf.seen c.args.shelf.now) _ (g.S.Shelf.seen c.check_on-printed.new.shelf) _ _ _ _ _ (same_shelf _ _ c.in_ok-net.ensures.told c.in_ok-net.ensures.files c.in_ok-net.ensures.calm) c.in_ok-net.ensures.held c.check_on-printed.ensures.status c.check_on-printed.ensures.accepted
+pub returns-in_err-certificate-clause-refused : goal.returns-in_err-certificate-clause-refused
+returns-in_err-certificate-clause-refused g c =
+    let problem = problem_of c.args.net.now c.args.query.now c.args.vector.now in
+    let old = g.S.Shelf.seen c.args.shelf.now in
+    err_as (FromCertificate old (g.S.Shelf.seen c.fetch_certificate.new.shelf) problem c.args.file.now) _ _ c.from_residual.ensures.1 (lines_refused (IsBadLine certificates) (IsRefusedFile old problem c.args.file.now) old (g.S.Shelf.seen c.fetch_certificate.new.shelf) problem c.args.file.now _ c.in_err-certificate.ensures.refused)
+
+pub returns-clause-believed : goal.returns-clause-believed
+returns-clause-believed g c =
+    file_believed c.believed-printed.result (g.S.Shelf.seen c.args.shelf.now) (problem_of c.args.net.now c.args.query.now c.args.vector.now) c.args.file.now c.in_ok-certificate.ensures.read.0 c.in_ok-certificate.certificate c.in_ok-certificate.ensures.read.1 c.in_ok-certificate.ensures.read.2 c.believed-printed.ensures.believed c.believed-printed.ensures.status c.believed-printed.ensures.text
 
 pub returns-clause-refused : goal.returns-clause-refused
 returns-clause-refused g c =
-    check_refused _ (g.S.Shelf.seen c.args.shelf.now) (g.S.Shelf.seen c.network.new.shelf) (g.S.Shelf.seen c.check_on-printed.new.shelf) _ _ _ _ _ (same_shelf _ _ c.in_ok-net.ensures.told c.in_ok-net.ensures.files c.in_ok-net.ensures.calm) c.in_ok-net.ensures.held c.check_on-printed.ensures.refused
+    file_not_believed c.believed-printed.result (g.S.Shelf.seen c.args.shelf.now) (g.S.Shelf.seen c.fetch_certificate.new.shelf) (problem_of c.args.net.now c.args.query.now c.args.vector.now) c.args.file.now c.in_ok-certificate.ensures.read.0 c.in_ok-certificate.certificate
+    (record { network = c.keeps.ensures; automata = c.keeps-2.ensures; bounds_of = c.requires }) c.in_ok-certificate.ensures.calm c.in_ok-certificate.ensures.read.1 c.in_ok-certificate.ensures.read.2 c.believed-printed.ensures.refused

@@ -1,22 +1,23 @@
-use Rattle.std.specs.Prelude.{option_map}
-use Rattle.wi_files.proofs.ShelfLemmas.{left_later, others_later, same_shelf}
-use Rattle.wi_app.specs.Certificates.{FromStore}
-use Rattle.wi_app.specs.Decided.{FromDecision, IsReported, report_in}
-use Rattle.wi_app.proofs.Outcomes.{asking_answered, asking_refused}
+use Rattle.std.proofs.Common.{inl, refl}
+use Rattle.wi_build.specs.Problems.{problem_of}
+use Rattle.wi_files.proofs.Causes.{err_as}
+use Rattle.wi_app.specs.private.Stages.{printed_by}
+use Rattle.wi_app.proofs.Answers.{answer_known}
+use Rattle.wi_app.proofs.Outcomes.{decided_refused, decided_reported}
 use Rattle.wi_app.proofs.verify.verify.Goals as goal
 
-pub returns-clause-others : goal.returns-clause-others
-returns-clause-others g c =
-    others_later _ (g.S.Shelf.seen c.args.shelf.now) (g.S.Shelf.seen c.network.new.shelf) (g.S.Shelf.seen c.answer-printed.new.shelf) (same_shelf _ _ c.in_ok-net.ensures.told c.in_ok-net.ensures.files c.in_ok-net.ensures.calm) c.answer-printed.ensures.others
+pub text_by-text-requires-clause-run : goal.text_by-text-requires-clause-run
+text_by-text-requires-clause-run g c = answer_known (problem_of c.args.net.now c.args.query.now c.args.vector.now) c.in_ok-answer.answer c.in_ok-answer.ensures.certified.holds
 
-pub returns-clause-left : goal.returns-clause-left
-returns-clause-left g c =
-    left_later c.answer-printed.result (g.S.Shelf.seen c.args.shelf.now) (g.S.Shelf.seen c.network.new.shelf) (g.S.Shelf.seen c.answer-printed.new.shelf) (same_shelf _ _ c.in_ok-net.ensures.told c.in_ok-net.ensures.files c.in_ok-net.ensures.calm) c.answer-printed.ensures.left
+pub returns-in_err-answer-clause-refused : goal.returns-in_err-answer-clause-refused
+returns-in_err-answer-clause-refused g c = err_as _ _ _ c.from_residual.ensures.1 (inl (c.in_err-answer.ensures.refused, refl))
 
-pub returns-clause-answered : goal.returns-clause-answered
-returns-clause-answered g c =
-    asking_answered _ (λ problem. IsReported report_in problem (option_map (λ s. s.now) c.args.file) (g.S.Shelf.seen c.answer-printed.new.shelf)) (g.S.Shelf.seen c.args.shelf.now) c.args.name.now _ _ _ c.in_ok-net.ensures.held c.answer-printed.ensures.answered
+pub returns-clause-reported : goal.returns-clause-reported
+returns-clause-reported g c =
+    decided_reported c.stored-printed.result (printed_by c.args.content) (problem_of c.args.net.now c.args.query.now c.args.vector.now) _ (g.S.Shelf.seen c.stored-printed.new.shelf) c.in_ok-answer.answer c.in_ok-answer.certificate _ _
+    c.in_ok-answer.ensures.certified c.status_for-status.ensures c.text_by-text.ensures c.stored-printed.ensures.status c.stored-printed.ensures.text c.stored-printed.ensures.kept
 
 pub returns-clause-refused : goal.returns-clause-refused
 returns-clause-refused g c =
-    asking_refused _ FromDecision (FromStore _) (g.S.Shelf.seen c.args.shelf.now) (g.S.Shelf.seen c.network.new.shelf) (g.S.Shelf.seen c.answer-printed.new.shelf) c.args.name.now _ _ _ (same_shelf _ _ c.in_ok-net.ensures.told c.in_ok-net.ensures.files c.in_ok-net.ensures.calm) c.in_ok-net.ensures.held c.answer-printed.ensures.refused
+    decided_refused c.stored-printed.result (g.S.Shelf.seen c.args.shelf.now) (g.S.Shelf.seen c.stored-printed.new.shelf) (problem_of c.args.net.now c.args.query.now c.args.vector.now) _ c.in_ok-answer.answer c.in_ok-answer.certificate
+    c.in_ok-answer.ensures.certified c.stored-printed.ensures.refused

@@ -179,7 +179,7 @@ class World:
     def __init__(self, root):
         self.root = root
         listed = open(os.path.join(root, "crates.txt"), encoding="utf-8").read().split("\n")
-        self.crates = [line.split(":")[0] for line in listed if line.strip()]
+        self.crates = [line.split(":")[0] for line in listed if line.strip() and not line.startswith("#")]
         self.modules, self.definitions, self.sources = {}, {}, {}
         for crate in self.crates:
             self.read_crate(crate)

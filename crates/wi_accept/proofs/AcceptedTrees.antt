@@ -10,7 +10,7 @@ use Rattle.wi_world.specs.declared.run.Run.{Run}
 use Rattle.wi_net.specs.declared.parts.LinkId.{LinkId}
 use Rattle.wi_world.specs.Runs.{verdict_of, needs}
 use Rattle.wi_quantity.specs.Weighing.{components}
-use Rattle.wi_build.specs.Problems.{Problem, IsProblem, asks, weighs}
+use Rattle.wi_build.specs.Problems.{Problem, IsProblem, asks, weighs, within}
 use Rattle.wi_build.specs.Systems.{weight}
 use Rattle.wi_build.proofs.LawLemmas.{weight_tells}
 use Rattle.wi_cert.specs.declared.closed.Closed.{Closed}
@@ -32,7 +32,7 @@ use Rattle.wi_trees.proofs.TreeLaws.{tree_covers, least_from, no_from, yes_from}
 use Rattle.wi_trees.proofs.NodeLaws.{nodes_tree}
 use Rattle.wi_accept.specs.Answers.{padded, run_of, answer_of}
 use Rattle.wi_accept.specs.Causes.{is_wrong, bound_of, IsShownCause, IsClosedCause}
-use Rattle.wi_accept.specs.Trees.{within, link_of, branches_of, IsNode, IsTreeCause, IsTreeAccepted, IsDecidedExactly}
+use Rattle.wi_accept.specs.Trees.{link_of, branches_of, IsNode, IsTreeCause, IsTreeAccepted, IsDecidedExactly}
 use Rattle.wi_accept.proofs.OrderLemmas.{below_within}
 use Rattle.wi_accept.proofs.WeightLemmas.{six_components, shown_six, bound_weight, row_weights}
 use Rattle.wi_accept.proofs.Bounding.{none_within}

@@ -12,7 +12,7 @@ use Rattle.wi_world.specs.Holds.{Question}
 use Rattle.wi_quantity.specs.Weighing.{components}
 use Rattle.wi_trace.specs.declared.cause.Cause.{Cause}
 use Rattle.wi_pds.specs.Closed.{Summary}
-use Rattle.wi_build.specs.Problems.{Problem, asks}
+use Rattle.wi_build.specs.Problems.{Problem, asks, within}
 use Rattle.wi_cert.specs.declared.certificate.Certificate.{Certificate}
 use Rattle.wi_cert.specs.declared.check_refused.Part.{Part}
 use Rattle.wi_cert.specs.declared.check_refused.Part.TheVariants.{First, Path, Last}
@@ -26,7 +26,7 @@ use Rattle.wi_cert.specs.declared.tree.Node.{Node}
 use Rattle.wi_cert.specs.declared.tree.Node.TheVariants as node
 use Rattle.wi_cert.specs.declared.tree.TreeCertificate.{TreeCertificate}
 use Rattle.wi_net.specs.declared.bounds.Bounds.{Bounds}
-use Rattle.wi_accept.specs.Trees.{within, branches_of, IsNode, IsTreeCause, IsTreeRefusal}
+use Rattle.wi_accept.specs.Trees.{branches_of, IsNode, IsTreeCause, IsTreeRefusal}
 use Rattle.wi_cert.proofs.Cases.{some_same}
 use Rattle.wi_accept.specs.declared.need.Need.{Need}
 use Rattle.wi_accept.specs.declared.need.Need.TheVariants.{Head, Pair}

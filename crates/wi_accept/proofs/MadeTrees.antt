@@ -11,7 +11,7 @@ use Rattle.wi_quantity.specs.Weighing.{components}
 use Rattle.wi_trace.specs.declared.answer.Answer.{Answer}
 use Rattle.wi_pds.specs.Closed.{Within}
 use Rattle.wi_pds.specs.Runs.{Pops}
-use Rattle.wi_build.specs.Problems.{Problem, IsProblem, asks, weighs}
+use Rattle.wi_build.specs.Problems.{Problem, IsProblem, asks, weighs, within}
 use Rattle.wi_build.specs.Systems.{scale, weight, rules}
 use Rattle.wi_build.proofs.LawLemmas.{weight_tells}
 use Rattle.wi_cert.specs.declared.closed.Closed.{Closed}
@@ -29,7 +29,7 @@ use Rattle.wi_trees.proofs.BranchLaws.{root}
 use Rattle.wi_accept.specs.Answers.{word_of, padded, run_of, answer_of}
 use Rattle.wi_accept.specs.Causes.{is_wrong, bound_of}
 use Rattle.wi_accept.specs.Makers.{AreLeast}
-use Rattle.wi_accept.specs.Trees.{within, branches_of, IsMadeAt, IsTreeMaker, IsTreeAccepted, IsDecidedExactly}
+use Rattle.wi_accept.specs.Trees.{branches_of, IsMadeAt, IsTreeMaker, IsTreeAccepted, IsDecidedExactly}
 use Rattle.wi_accept.proofs.OrderLemmas.{within_below}
 use Rattle.wi_accept.proofs.RuleLemmas.{pops_answer}
 use Rattle.wi_accept.proofs.WeightLemmas.{pops_weight, shown_six, bound_weight}

@@ -10,7 +10,7 @@ use Rattle.wi_net.specs.Net.{Net, is_link}
 use Rattle.wi_net.specs.Network.{IsNetwork}
 use Rattle.wi_world.specs.declared.run.Run.{Run}
 use Rattle.wi_world.specs.Holds.{Matches}
-use Rattle.wi_build.specs.Problems.{Problem, IsProblem, asks}
+use Rattle.wi_build.specs.Problems.{Problem, IsProblem, asks, within}
 use Rattle.wi_cert.specs.declared.closed.Closed.{Closed}
 use Rattle.wi_cert.specs.declared.shown.Shown.{Shown}
 use Rattle.wi_cert.specs.declared.tree.Node.{Node}
@@ -19,7 +19,7 @@ use Rattle.wi_cert.specs.Trees.{makes_trees, IsLeafOf}
 use Rattle.wi_trees.specs.Branches.{IsBranch, CanSplit, with_down, with_up}
 use Rattle.wi_trees.specs.Nodes.{AreNodes}
 use Rattle.wi_trees.proofs.BranchLaws.{child_down, child_up}
-use Rattle.wi_accept.specs.Trees.{within, link_of, branched}
+use Rattle.wi_accept.specs.Trees.{link_of, branched}
 use Rattle.wi_accept.proofs.ListLemmas.{both_or_not}
 
 -- what matches matches within a branch too, and the other way round

@@ -6,7 +6,7 @@ use Rattle.wi_net.specs.declared.bounds.Bounds.{Bounds}
 use Rattle.wi_net.specs.declared.parts.LinkId.{LinkId}
 use Rattle.wi_trace.specs.declared.answer.Answer.{Answer}
 use Rattle.wi_quantity.specs.Weighing.{components}
-use Rattle.wi_build.specs.Problems.{Problem, asks, weighs}
+use Rattle.wi_build.specs.Problems.{Problem, asks, weighs, within}
 use Rattle.wi_cert.specs.declared.closed.Closed.{Closed}
 use Rattle.wi_cert.specs.declared.tree.Node.{Node}
 use Rattle.wi_cert.specs.declared.tree.Node.TheVariants as node
@@ -19,10 +19,6 @@ use Rattle.wi_trees.specs.Trees.{NoRunBelow, HoldsExactly}
 use Rattle.wi_accept.specs.Answers.{answer_of}
 use Rattle.wi_accept.specs.Causes.{bound_of, IsShownCause, IsClosedCause, IsFirstCause, IsToldFirst, HasNone}
 use Rattle.wi_accept.specs.Makers.{AreLeast}
-
--- the problem within a branch
-abbrev pub within : Problem → Bounds → Problem
-within problem branch = record problem { bounds = branch }
 
 abbrev pub link_of : ℕ → LinkId
 link_of e = record { 0 = e }

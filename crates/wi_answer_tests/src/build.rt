@@ -5,11 +5,11 @@ use crate::common::query_of;
 use std::alloc::Global;
 use std::process::Abort;
 use std::test::Fail;
-use wi_build::{Layout, LazySystem, build};
+use wi_build::{Layout, LazySystem, Problem, build};
 use wi_labels::Label;
 use wi_net::{LinkId, Network};
 use wi_pds::{Rule, RuleList, System, Word2};
-use wi_quantity::{Vector, Weight, read_weights};
+use wi_quantity::{Weight, read_weights};
 use wi_query::Query;
 use wi_rules::{Origin, Spot};
 use wi_samples::{N1, N1_FIBER, N1_NEAR, N2, N2_FIBER, N3, N4, N5, Sample, network};
@@ -142,18 +142,12 @@ fn list_is(
 fn listed_is(
     rt: &impl Abort,
     alloc: Global,
-    net: &Network,
-    query: &Query,
-    vector: &Vector,
+    problem: &Problem<'_>,
     list: &RuleList<Weight>,
     heads: &[HeadCase],
-) -> Result<(), Fail>
-    requires { AreBounds net.now query.now.bounds }
-{
-    let system = LazySystem::new(alloc, net, query, vector, &query.bounds)?;
-    let layout = Layout::of(net, query);
-    let outcome = rules_at_heads_are(rt, alloc, &system, &layout, list, heads);
-    drop(layout);
+) -> Result<(), Fail> {
+    let system = LazySystem::of(problem);
+    let outcome = rules_at_heads_are(rt, alloc, &system, system.layout(), list, heads);
     drop(system);
     outcome
 }
@@ -173,15 +167,11 @@ fn rules_at_heads_are(
 fn system_is(
     rt: &impl Abort,
     alloc: Global,
-    net: &Network,
-    query: &Query,
-    vector: &Vector,
+    problem: &Problem<'_>,
     heads: &[HeadCase],
-) -> Result<(), Fail>
-    requires { AreBounds net.now query.now.bounds }
-{
-    let list = build(alloc, net, query, vector, &query.bounds)?;
-    let outcome = listed_is(rt, alloc, net, query, vector, &list, heads);
+) -> Result<(), Fail> {
+    let list = build(alloc, problem)?;
+    let outcome = listed_is(rt, alloc, problem, &list, heads);
     drop(list);
     outcome
 }
@@ -199,7 +189,7 @@ fn weighed_is(
     requires { AreBounds net.now query.now.bounds }
 {
     let vector = read_weights(alloc, case.1)?;
-    let outcome = system_is(rt, alloc, net, query, &vector, case.2);
+    let outcome = system_is(rt, alloc, &Problem::of(net, query, &vector), case.2);
     drop(vector);
     outcome
 }

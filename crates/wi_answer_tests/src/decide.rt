@@ -5,6 +5,7 @@ use crate::common::{query_of, steps_are, vector_of};
 use std::alloc::Global;
 use std::process::Abort;
 use std::test::Fail;
+use wi_build::Problem;
 use wi_decide::{DecideRefused, decide};
 use wi_labels::{Class, Header, Label};
 use wi_net::{FailSet, LinkId, Network};
@@ -109,17 +110,8 @@ fn answer_is(rt: &impl Abort, answer: &Answer, shown: &Option<Shown>) {
     }
 }
 
-fn decides(
-    rt: &impl Abort,
-    alloc: Global,
-    net: &Network,
-    query: &Query,
-    vector: &Vector,
-    shown: &Option<Shown>,
-)
-    requires { AreBounds net.now query.now.bounds }
-{
-    match decide(alloc, net, query, vector) {
+fn decides(rt: &impl Abort, alloc: Global, problem: &Problem<'_>, shown: &Option<Shown>) {
+    match decide(alloc, problem) {
         Ok((answer, certificate)) => {
             drop(certificate);
             answer_is(rt, &answer, shown);
@@ -139,7 +131,7 @@ fn weighed_is(
     requires { AreBounds net.now query.now.bounds }
 {
     let vector = vector_of(alloc, case.1)?;
-    decides(rt, alloc, net, query, &vector, &case.2);
+    decides(rt, alloc, &Problem::of(net, query, &vector), &case.2);
     drop(vector);
     Ok(())
 }
@@ -371,17 +363,8 @@ fn a_risk_group_fails_once_and_as_a_whole(rt: HostRuntime) -> Result<(), Fail> {
     network_answers(&rt, rt.alloc(), &N1_NEAR, NEAR_CASES)
 }
 
-fn refuses(
-    rt: &impl Abort,
-    alloc: Global,
-    net: &Network,
-    query: &Query,
-    vector: &Vector,
-    expected: DecideRefused,
-)
-    requires { AreBounds net.now query.now.bounds }
-{
-    match decide(alloc, net, query, vector) {
+fn refuses(rt: &impl Abort, alloc: Global, problem: &Problem<'_>, expected: DecideRefused) {
+    match decide(alloc, problem) {
         Ok(found) => {
             drop(found);
             assert!(rt; false);
@@ -399,7 +382,7 @@ fn doubling_refuses(
 ) -> Result<(), Fail> {
     let query = query_of(alloc, net, text)?;
     let vector = Vector::new(alloc);
-    refuses(rt, alloc, net, &query, &vector, expected);
+    refuses(rt, alloc, &Problem::of(net, &query, &vector), expected);
     drop(query);
     drop(vector);
     Ok(())

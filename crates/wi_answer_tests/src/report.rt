@@ -8,6 +8,7 @@ use std::alloc::Global;
 use std::process::Abort;
 use std::test::Fail;
 use wi_base::{Listed, NoMemory};
+use wi_build::Problem;
 use wi_labels::Class;
 use wi_net::{FailSet, LinkId, Network};
 use wi_netjson::{LinkPart, NetFault, Place};
@@ -366,15 +367,11 @@ fn answer_of(alloc: Global, net: &Network, shown: &Option<Shown>) -> Result<Answ
 fn answered_is(
     rt: &impl Abort,
     alloc: Global,
-    net: &Network,
-    query: &Query,
-    vector: &Vector,
+    problem: &Problem<'_>,
     case: &Case,
-) -> Result<(), Fail>
-    requires { AreBounds net.now query.now.bounds }
-{
-    let answer = answer_of(alloc, net, &case.2)?;
-    let outcome = says(rt, report(alloc, net, query, vector, &answer), case.3);
+) -> Result<(), Fail> {
+    let answer = answer_of(alloc, problem.net(), &case.2)?;
+    let outcome = says(rt, report(alloc, problem, &answer), case.3);
     drop(answer);
     outcome
 }
@@ -389,7 +386,7 @@ fn weighed_is(
     requires { AreBounds net.now query.now.bounds }
 {
     let vector = vector_of(alloc, case.1)?;
-    let outcome = answered_is(rt, alloc, net, query, &vector, case);
+    let outcome = answered_is(rt, alloc, &Problem::of(net, query, &vector), case);
     drop(vector);
     outcome
 }

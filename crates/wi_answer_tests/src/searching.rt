@@ -5,6 +5,7 @@ use crate::common::{query_of, steps_are};
 use std::alloc::Global;
 use std::process::Abort;
 use std::test::Fail;
+use wi_build::Problem;
 use wi_decide::{LeastRun, search};
 use wi_net::{Bounds, Network};
 use wi_quantity::{Vector, Weight};
@@ -36,22 +37,12 @@ fn found_is(rt: &impl Abort, found: &Option<LeastRun>, expected: &Option<Least>)
     }
 }
 
-fn searches(
-    rt: &impl Abort,
-    alloc: Global,
-    net: &Network,
-    query: &Query,
-    vector: &Vector,
-    bounds: &Bounds,
-    case: &Case,
-)
-    requires { AreBounds net.now bounds.now }
-{
+fn searches(rt: &impl Abort, alloc: Global, problem: &Problem<'_>, case: &Case) {
     let cut = match case.2 {
         Some(effort) => Some(by_effort(effort)),
         None => None,
     };
-    match search(alloc, net, query, vector, bounds, cut) {
+    match search(alloc, problem, cut) {
         Ok(searched) => {
             found_is(rt, &searched.found, &case.3);
             drop(searched);
@@ -66,10 +57,13 @@ fn bounded_is(
     net: &Network,
     query: &Query,
     case: &Case,
-) -> Result<(), Fail> {
+) -> Result<(), Fail>
+    requires { AreBounds net.now query.now.bounds }
+{
     let within = query_of(alloc, net, case.1)?;
     let vector = Vector::new(alloc);
-    searches(rt, alloc, net, query, &vector, &within.bounds, case);
+    let problem = Problem::of(net, query, &vector).within(&within.bounds);
+    searches(rt, alloc, &problem, case);
     drop(vector);
     drop(within);
     Ok(())

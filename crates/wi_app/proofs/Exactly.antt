@@ -1,9 +1,8 @@
 -- Exact answers: what they show can be shown, and from the parts of both commands to the whole.
-use Rattle.std.proofs.Common.{◌≡◌, ℕ, List, length, Option, Some, None, Result, Ok, Err, inl, inr, ap, refl, subst, sym, ◌∙◌}
+use Rattle.std.proofs.Common.{◌≡◌, ℕ, List, length, Option, Some, None, Result, Ok, Err, inl, inr, refl, sym, ◌∙◌}
 use Rattle.std.specs.Prelude.{option_map, IfErr, IfOk, IfSome, OnOk}
 use Rattle.wi_base.specs.declared.shelf.CallKind.TheVariants.{Store}
 use Rattle.wi_base.specs.Shelf.{ShelfSeen}
-use Rattle.wi_base.specs.declared.no_memory.NoMemory.{NoMemory}
 use Rattle.wi_net.specs.Net.{Net}
 use Rattle.wi_world.specs.declared.run.Run.{Run}
 use Rattle.wi_world.specs.declared.answer.Word.{Word}
@@ -72,18 +71,17 @@ unsplit_due problem refusal cause = elim cause [ ]
 -- ---- exact
 
 -- the report on an exact answer, with its tree
-pub shown_reported : (r : Result Printed Refusal) (problem : Problem) (file : Option (List ℕ)) (shelf : ShelfSeen) (answer : Answer) (t : TreeCertificate) (status nodes : ℕ) (text : Result (List ℕ) NoMemory)
-    → IsShownExactly problem answer t → status ≡ status_for answer.word → nodes ≡ length t.nodes → IfOk text (λ s. s ≡ exact_report_of problem.net problem.bounds (length problem.vector) answer nodes)
-    → IfOk r (λ printed. printed.status ≡ status) → IfOk r (λ printed. text ≡ Ok printed.text) → IfOk r (λ _. IsTreeStored file shelf t) → IfOk r (λ printed. IsReportedExactly problem file shelf printed.status printed.text)
-shown_reported (Err refusal) problem file shelf answer t status nodes text is due count told same made stored = tt
-shown_reported (Ok printed) problem file shelf answer t status nodes text is due count told same made stored = record {
+pub shown_reported : (r : Result Printed Refusal) (problem : Problem) (file : Option (List ℕ)) (shelf : ShelfSeen) (answer : Answer) (t : TreeCertificate) → IsShownExactly problem answer t
+    → IfOk r (λ printed. printed.status ≡ status_for answer.word) → IfOk r (λ printed. printed.text ≡ exact_report_of problem.net problem.bounds (length problem.vector) answer (length t.nodes)) → IfOk r (λ _. IsTreeStored file shelf t)
+    → IfOk r (λ printed. IsReportedExactly problem file shelf printed.status printed.text)
+shown_reported (Err refusal) problem file shelf answer t is status text stored = tt
+shown_reported (Ok printed) problem file shelf answer t is status text stored = record {
   answer = answer;
   tree = t;
   is = is;
   stored = stored;
-  status_is = same ∙ due;
-  text_is = subst (λ (x : Result (List ℕ) NoMemory). IfOk x (λ s. s ≡ exact_report_of problem.net problem.bounds (length problem.vector) answer nodes)) made told
-      ∙ ap (λ n. exact_report_of problem.net problem.bounds (length problem.vector) answer n) count;
+  status_is = status;
+  text_is = text;
 }
 
 -- where the tree isn't stored, the store failed, or memory ran out, or it is too large

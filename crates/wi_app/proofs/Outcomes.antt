@@ -2,7 +2,6 @@
 use Rattle.std.proofs.Common.{◌≡◌, ℕ, ◌<◌, nat_eq, ◌⊎◌, inl, inr, true, false, List, length, Option, Some, None, Result, Ok, Err, refl, sym, subst, ◌∙◌, arith}
 use Rattle.std.specs.Prelude.{codes, IfOk, IfErr}
 use Rattle.wi_base.specs.declared.shelf.CallKind.TheVariants.{Fetch, Store}
-use Rattle.wi_base.specs.declared.no_memory.NoMemory.{NoMemory}
 use Rattle.wi_base.specs.Shelf.{ShelfSeen, IsLonger}
 use Rattle.wi_base.specs.Sink.{SinkSeen}
 use Rattle.wi_net.specs.Net.{Net}
@@ -87,17 +86,16 @@ kept_stored : (file : Option (List ℕ)) (shelf : ShelfSeen) (problem : Problem)
 kept_stored None shelf problem answer c is kept = tt
 kept_stored (Some name) shelf problem answer c is kept = (kept.0, record { certificate = c; is = is; text = kept.1; short = kept.2 }, kept.3)
 
-pub decided_reported : (r : Result Printed Refusal) (prints : Problem → Answer → List ℕ) (problem : Problem) (file : Option (List ℕ)) (shelf : ShelfSeen) (answer : Answer) (c : Certificate) (status : ℕ) (text : Result (List ℕ) NoMemory)
-    → IsCertified problem answer c → status ≡ status_for answer.word → IfOk text (λ t. t ≡ prints problem answer)
-    → IfOk r (λ printed. printed.status ≡ status) → IfOk r (λ printed. text ≡ Ok printed.text) → IfOk r (λ _. IsKept file shelf c) → IfOk r (λ printed. IsReported prints problem file shelf printed.status printed.text)
-decided_reported (Err refusal) prints problem file shelf answer c status text is due told same made kept = tt
-decided_reported (Ok printed) prints problem file shelf answer c status text is due told same made kept = record {
+pub decided_reported : (r : Result Printed Refusal) (prints : Problem → Answer → List ℕ) (problem : Problem) (file : Option (List ℕ)) (shelf : ShelfSeen) (answer : Answer) (c : Certificate) → IsCertified problem answer c
+    → IfOk r (λ printed. printed.status ≡ status_for answer.word) → IfOk r (λ printed. printed.text ≡ prints problem answer) → IfOk r (λ _. IsKept file shelf c) → IfOk r (λ printed. IsReported prints problem file shelf printed.status printed.text)
+decided_reported (Err refusal) prints problem file shelf answer c is status text kept = tt
+decided_reported (Ok printed) prints problem file shelf answer c is status text kept = record {
   answer = answer;
   holds = is.holds;
   shown = is.shown;
   stored = kept_stored file shelf problem answer c is.is kept;
-  status_is = same ∙ due;
-  text_is = subst (λ (t : Result (List ℕ) NoMemory). IfOk t (λ t. t ≡ prints problem answer)) made told;
+  status_is = status;
+  text_is = text;
 }
 
 pub decided_refused : (r : Result Printed Refusal) (old new : ShelfSeen) (problem : Problem) (file : Option (List ℕ)) (answer : Answer) (c : Certificate) → IsCertified problem answer c

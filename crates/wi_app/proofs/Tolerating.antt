@@ -1,10 +1,9 @@
 -- How many failures it takes: from the parts of the command to the whole.
-use Rattle.std.proofs.Common.{◌≡◌, ℕ, zero, suc, List, Option, Some, None, Result, Ok, Err, inl, inr, refl, subst, sym, ◌∙◌}
+use Rattle.std.proofs.Common.{◌≡◌, ℕ, zero, suc, List, Option, Some, None, Result, Ok, Err, inl, inr, refl, sym, ◌∙◌}
 use Rattle.std.specs.Prelude.{IfErr, IfOk, IfSome}
 use Rattle.wi_base.specs.declared.shelf.CallKind.TheVariants.{Store}
 use Rattle.wi_base.specs.Shelf.{ShelfSeen}
-use Rattle.wi_base.specs.declared.no_memory.NoMemory.{NoMemory}
-use Rattle.wi_build.specs.Problems.{Problem}
+use Rattle.wi_build.specs.Problems.{Problem, allowing}
 use Rattle.wi_cert.specs.declared.tree.TreeCertificate.{TreeCertificate}
 use Rattle.wi_cert.specs.Trees.{IsTreeWritable}
 use Rattle.wi_branch.specs.declared.tolerance.Tolerance.{Tolerance}
@@ -16,7 +15,7 @@ use Rattle.wi_files.specs.Certificates.{AreTreesStored, AreUnstored, IsNamed, Is
 use Rattle.wi_files.specs.Shelves.{IsCalm, below_name}
 use Rattle.wi_files.proofs.Causes.{longer}
 use Rattle.wi_app.specs.Exact.{EndsUnsplit}
-use Rattle.wi_app.specs.Tolerance.{AreTreesTooLarge, EndsUntold, FromTolerating, FromTreesStore, IsTold, IsToldWith, allowing, first_tree, second_tree, tolerance_status, tolerance_text}
+use Rattle.wi_app.specs.Tolerance.{AreTreesTooLarge, EndsUntold, FromTolerating, FromTreesStore, IsTold, IsToldWith, first_tree, second_tree, tolerance_status, tolerance_text}
 use Rattle.wi_app.specs.Wanted.{EndsExactly, FromAnswer}
 use Rattle.wi_app.proofs.Ending.{Ends, ends_as}
 use Rattle.wi_app.proofs.Exactly.{unsplit_due}
@@ -35,16 +34,16 @@ second_writable problem most (At (suc j) answer tree (Some lower)) told = told.3
 second_writable problem most (NoneUpTo tree) told = tt
 
 -- where it is printed and stored, the command has its answer
-pub told_with : (r : Result Printed Refusal) (problem : Problem) (most : ℕ) (file : Option (List ℕ)) (old new : ShelfSeen) (found : Tolerance) (text : Result (List ℕ) NoMemory) → IsTold problem most found → IfOk text (λ s. s ≡ tolerance_text problem most found)
-    → IfOk r (λ printed. printed.status ≡ tolerance_status found) → IfOk r (λ printed. text ≡ Ok printed.text) → IfOk r (λ _. AreTreesStored file old new (first_tree found) (second_tree found))
+pub told_with : (r : Result Printed Refusal) (problem : Problem) (most : ℕ) (file : Option (List ℕ)) (old new : ShelfSeen) (found : Tolerance) → IsTold problem most found
+    → IfOk r (λ printed. printed.status ≡ tolerance_status found) → IfOk r (λ printed. printed.text ≡ tolerance_text problem most found) → IfOk r (λ _. AreTreesStored file old new (first_tree found) (second_tree found))
     → IfOk r (λ printed. IsToldWith problem most file old new printed.status printed.text)
-told_with (Err refusal) problem most file old new found text told is status made stored = tt
-told_with (Ok printed) problem most file old new found text told is status made stored = record {
+told_with (Err refusal) problem most file old new found told status text stored = tt
+told_with (Ok printed) problem most file old new found told status text stored = record {
   found = found;
   told = told;
   stored = stored;
   status_is = status;
-  text_is = subst (λ (x : Result (List ℕ) NoMemory). IfOk x (λ s. s ≡ tolerance_text problem most found)) made is;
+  text_is = text;
 }
 
 pub tolerance_ends : (problem : Problem) (most : ℕ) (file : Option (List ℕ)) (old new : ShelfSeen) (status : ℕ) (text : List ℕ) → IsToldWith problem most file old new status text → EndsExactly status

@@ -1,9 +1,9 @@
 -- How many failures it takes: the report on what texts ask of a network and why there is none, and the two trees as they are stored.
 use Rattle.std.specs.Prelude.{◌≡◌, ℕ, ◌<◌, ◌≤◌, List, length, Option, None}
 use Rattle.wi_base.specs.Shelf.{ShelfSeen}
-use Rattle.wi_build.specs.Problems.{Problem}
+use Rattle.wi_build.specs.Problems.{Problem, allowing}
 use Rattle.wi_cert.specs.declared.tree.TreeCertificate.{TreeCertificate}
-use Rattle.wi_branch.specs.Tolerance.{IsTolerated, TellsTolerance, asked_at}
+use Rattle.wi_branch.specs.Tolerance.{IsTolerated, TellsTolerance}
 use Rattle.wi_branch.specs.declared.tolerance.Tolerance.{Tolerance}
 use Rattle.wi_branch.specs.declared.tolerance.Tolerance.TheVariants.{At, NoneUpTo}
 use Rattle.wi_report.specs.Tolerances.{none_up_to_text, tolerance_report_of}
@@ -12,10 +12,6 @@ use Rattle.wi_files.specs.Certificates.{AreTreesStored, AreUnstored, IsOneLarge}
 use Rattle.wi_app.specs.Exact.{EndsUnsplit, FromSplitting}
 
 -- ---- told
--- the same problem, where so many risk groups may fail
-abbrev pub allowing : Problem → ℕ → Problem
-allowing problem = asked_at problem.net problem.query problem.vector
-
 -- it is told how many failures it takes, if they are at most so many, by trees of at most 10,000 nodes
 abbrev pub IsTold : Problem → ℕ → Tolerance → Type 0
 IsTold problem most found = TellsTolerance (allowing problem) most 10000 found

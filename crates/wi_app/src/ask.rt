@@ -1,10 +1,8 @@
 //! A network is fetched and texts are read once, before it is decided what is done with them; so their faults come first, whatever is
 //! wanted. Both are let go before anything is printed.
 ghost use Rattle.std.specs.Prelude.{◌≡◌, option_map, IfOk, IfErr};
-ghost use Rattle.wi_world.specs.Moves.{AreBounds};
 ghost use Rattle.wi_words.specs.Commands.{Ask};
 ghost use Rattle.wi_words.specs.Shown.{asking_shown, wanted_shown};
-ghost use Rattle.wi_build.specs.Problems.{problem_of};
 ghost use Rattle.wi_files.specs.Shelves.{IsCalm, IsLeft, StandBut};
 ghost use Rattle.wi_app.specs.Asked.{ForAsked, FromAsked};
 ghost use Rattle.wi_app.specs.Run.{FromCommand, IsAnswered};
@@ -17,11 +15,10 @@ use crate::tolerate::tolerate;
 use crate::verify::{Content, verify};
 use std::alloc::Global;
 use wi_base::Shelf;
+use wi_build::Problem;
 use wi_files::{network, read_texts};
 use wi_net::Network;
 use wi_outcome::{Printed, Refusal};
-use wi_quantity::Vector;
-use wi_query::Query;
 use wi_words::{Asking, Wanted};
 
 /// What is wanted of what texts ask of the network of a file, or why not.
@@ -61,7 +58,8 @@ fn ask_of<'a, S: Shelf>(
     ensures refused { IfErr result (FromAsked (FromWanted (wanted_shown wanted.entry) (S.seen shelf.old) (S.seen shelf.new)) (S.seen shelf.old) (S.seen shelf.new) net.now query.now (option_map (λ s. s.now) weights.entry)) }
 {
     let asked = read_texts(alloc, net, query, weights)?;
-    let printed = give(alloc, net, &asked.query, &asked.vector, wanted, shelf);
+    let problem = Problem::of(net, &asked.query, &asked.vector);
+    let printed = give(alloc, &problem, wanted, shelf);
     drop(asked);
     printed
 }
@@ -69,50 +67,27 @@ fn ask_of<'a, S: Shelf>(
 // What is wanted of a problem.
 fn give<'a, S: Shelf>(
     alloc: Global,
-    net: &Network,
-    query: &Query,
-    vector: &Vector,
+    problem: &Problem<'_>,
     wanted: Wanted<'a>,
     shelf: &mut S,
 ) -> Result<Printed, Refusal<'a>>
-    requires { AreBounds net.now query.now.bounds }
     ensures told { (S.seen shelf.new).told ≡ (S.seen shelf.old).told }
     ensures others { StandBut (IsStoredFor (wanted_shown wanted.entry)) (S.seen shelf.old) (S.seen shelf.new) }
     ensures left { IfErr result (λ refusal. IsLeft refusal (S.seen shelf.old) (S.seen shelf.new)) }
     ensures calm { IfOk result (λ _. IsCalm (S.seen shelf.old) (S.seen shelf.new)) }
-    ensures given { IfOk result (λ printed. IsGiven (wanted_shown wanted.entry) (S.seen shelf.old) (S.seen shelf.new) (problem_of net.now query.now vector.now) printed.status printed.text) }
-    ensures refused { IfErr result (FromWanted (wanted_shown wanted.entry) (S.seen shelf.old) (S.seen shelf.new) (problem_of net.now query.now vector.now)) }
+    ensures given { IfOk result (λ printed. IsGiven (wanted_shown wanted.entry) (S.seen shelf.old) (S.seen shelf.new) problem.now printed.status printed.text) }
+    ensures refused { IfErr result (FromWanted (wanted_shown wanted.entry) (S.seen shelf.old) (S.seen shelf.new) problem.now) }
 {
     match wanted {
         Wanted::Verify { certificate } => {
-            verify(
-                alloc,
-                net,
-                query,
-                vector,
-                Content::Report,
-                certificate,
-                shelf,
-            )
+            verify(alloc, problem, Content::Report, certificate, shelf)
         }
-        Wanted::Check { certificate } => check(alloc, net, query, vector, certificate, shelf),
-        Wanted::Exact { certificate } => exact(alloc, net, query, vector, certificate, shelf),
-        Wanted::CheckExact { certificate } => {
-            check_exact(alloc, net, query, vector, certificate, shelf)
-        }
+        Wanted::Check { certificate } => check(alloc, problem, certificate, shelf),
+        Wanted::Exact { certificate } => exact(alloc, problem, certificate, shelf),
+        Wanted::CheckExact { certificate } => { check_exact(alloc, problem, certificate, shelf) }
         Wanted::Tolerate { most, certificate } => {
-            tolerate(alloc, net, query, vector, most, certificate, shelf)
+            tolerate(alloc, problem, most, certificate, shelf)
         }
-        Wanted::Packets => {
-            verify(
-                alloc,
-                net,
-                query,
-                vector,
-                Content::ReportAndPackets,
-                None,
-                shelf,
-            )
-        }
+        Wanted::Packets => { verify(alloc, problem, Content::ReportAndPackets, None, shelf) }
     }
 }

@@ -1,7 +1,5 @@
 //! The certificate is held against the network, the query and the weights that are given, and against nothing that wrote it.
 ghost use Rattle.std.specs.Prelude.{◌≡◌, IfOk, IfErr, OnOk};
-ghost use Rattle.wi_world.specs.Moves.{AreBounds};
-ghost use Rattle.wi_build.specs.Problems.{problem_of};
 ghost use Rattle.wi_cert.specs.Text.{IsWritable};
 ghost use Rattle.wi_accept.specs.Answers.{word_of};
 ghost use Rattle.wi_report.specs.Reports.{accepted_text};
@@ -12,56 +10,47 @@ ghost use Rattle.wi_app.specs.private.Stages.{IsNotBelieved};
 
 use std::alloc::Global;
 use wi_base::Shelf;
+use wi_build::Problem;
 use wi_cert::{Certificate, CheckRefused};
 use wi_check::check as check_certificate;
 use wi_files::fetch_certificate;
-use wi_net::Network;
 use wi_outcome::{Printed, Refusal};
-use wi_quantity::Vector;
-use wi_query::Query;
 use wi_report::accepted_text;
 use wi_world::Word;
 
-/// That the certificate of a file is accepted for a query, or why not.
+/// That the certificate of a file is accepted for a problem, or why not.
 pub fn check<'a, S: Shelf>(
     alloc: Global,
-    net: &Network,
-    query: &Query,
-    vector: &Vector,
+    problem: &Problem<'_>,
     file: &'a str,
     shelf: &mut S,
 ) -> Result<Printed, Refusal<'a>>
-    requires { AreBounds net.now query.now.bounds }
     ensures told { (S.seen shelf.new).told ≡ (S.seen shelf.old).told }
     ensures files { AllStand (S.seen shelf.old) (S.seen shelf.new) }
     ensures calm { IfOk result (λ _. IsCalm (S.seen shelf.old) (S.seen shelf.new)) }
-    ensures believed { IfOk result (λ printed. (c : Certificate) × IsBelievedFile (S.seen shelf.old) (problem_of net.now query.now vector.now) file.now c × (printed.status ≡ 0) × (printed.text ≡ accepted_text (word_of c.shown.claim))) }
-    ensures refused { IfErr result (λ refusal. FromCertificate (S.seen shelf.old) (S.seen shelf.new) (problem_of net.now query.now vector.now) file.now refusal) }
+    ensures believed { IfOk result (λ printed. (c : Certificate) × IsBelievedFile (S.seen shelf.old) problem.now file.now c × (printed.status ≡ 0) × (printed.text ≡ accepted_text (word_of c.shown.claim))) }
+    ensures refused { IfErr result (λ refusal. FromCertificate (S.seen shelf.old) (S.seen shelf.new) problem.now file.now refusal) }
 {
-    net.keeps();
-    query.keeps();
+    problem.keeps();
     let certificate = fetch_certificate(alloc, file, shelf)?;
-    let printed = believed(alloc, net, query, vector, &certificate);
+    let printed = believed(alloc, problem, &certificate);
     drop(certificate);
     printed
 }
 
-// That a certificate is believed, for a query that was read.
+// That a certificate is believed.
 fn believed<'a>(
     alloc: Global,
-    net: &Network,
-    query: &Query,
-    vector: &Vector,
+    problem: &Problem<'_>,
     certificate: &Certificate,
 ) -> Result<Printed, Refusal<'a>>
-    requires bounds { AreBounds net.now query.now.bounds }
-    requires text { IsWritable certificate.now }
+    requires { IsWritable certificate.now }
     ensures status { IfOk result (λ printed. printed.status ≡ 0) }
     ensures text { IfOk result (λ printed. printed.text ≡ accepted_text (word_of certificate.now.shown.claim)) }
-    ensures believed { OnOk result (IsBelieved (problem_of net.now query.now vector.now) certificate.now) }
-    ensures refused { IfErr result (IsNotBelieved (problem_of net.now query.now vector.now) certificate.now) }
+    ensures believed { OnOk result (IsBelieved problem.now certificate.now) }
+    ensures refused { IfErr result (IsNotBelieved problem.now certificate.now) }
 {
-    let word = accepted_word(alloc, net, query, vector, certificate)?;
+    let word = accepted_word(alloc, problem, certificate)?;
     let text = accepted_text(alloc, word)?;
     Ok(Printed { status: 0, text })
 }
@@ -69,22 +58,18 @@ fn believed<'a>(
 /// The word of a certificate's answer, if nothing speaks against the certificate.
 pub fn accepted_word<'a>(
     alloc: Global,
-    net: &Network,
-    query: &Query,
-    vector: &Vector,
+    problem: &Problem<'_>,
     certificate: &Certificate,
 ) -> Result<Word, Refusal<'a>>
-    requires bounds { AreBounds net.now query.now.bounds }
-    requires text { IsWritable certificate.now }
+    requires { IsWritable certificate.now }
     ensures word { IfOk result (λ word. word ≡ word_of certificate.now.shown.claim) }
-    ensures believed { OnOk result (IsBelieved (problem_of net.now query.now vector.now) certificate.now) }
-    ensures refused { IfErr result (IsNotBelieved (problem_of net.now query.now vector.now) certificate.now) }
+    ensures believed { OnOk result (IsBelieved problem.now certificate.now) }
+    ensures refused { IfErr result (IsNotBelieved problem.now certificate.now) }
 {
-    net.keeps();
-    query.keeps();
-    match check_certificate(alloc, net, query, vector, &query.bounds, certificate) {
+    problem.keeps();
+    match check_certificate(alloc, problem, certificate) {
         Ok(accepted) => Ok(accepted.word),
         Err(CheckRefused::Memory) => Err(Refusal::Memory),
-        Err(fault) => Err(Refusal::NotAccepted(fault, vector.len())),
+        Err(fault) => Err(Refusal::NotAccepted(fault, problem.terms())),
     }
 }

@@ -1,8 +1,6 @@
 //! A ring is asked by its texts, as a user would ask, and its certificate is held against it, so that one command tries the whole
 //! way. The network is let go before anything is printed.
 ghost use Rattle.std.specs.Prelude.{◌≡◌, ◌≤◌, string_bytes, length, IfOk, IfErr, OnOk};
-ghost use Rattle.wi_world.specs.Moves.{AreBounds};
-ghost use Rattle.wi_build.specs.Problems.{problem_of};
 ghost use Rattle.wi_cert.specs.Text.{IsWritable};
 ghost use Rattle.wi_gen.specs.Ring.{net_of, ring_of};
 ghost use Rattle.wi_gen.specs.Texts.{query_text, weights_text};
@@ -15,13 +13,11 @@ ghost use Rattle.wi_app.specs.private.Stages.{IsNotBelieved};
 use crate::check::accepted_word;
 use crate::decided::decided;
 use std::alloc::Global;
+use wi_build::Problem;
 use wi_cert::Certificate;
 use wi_files::read_texts;
 use wi_gen::{Generated, generate, the_texts_have_no_fault};
-use wi_net::Network;
 use wi_outcome::{Printed, Refusal};
-use wi_quantity::Vector;
-use wi_query::Query;
 use wi_report::summary;
 use wi_trace::Answer;
 
@@ -57,26 +53,24 @@ fn summary_of_generated<'a>(
     the_texts_have_no_fault();
     let net = &generated.network;
     let asked = read_texts(alloc, net, &generated.query, Some(&generated.weights))?;
-    let printed = summary_of_asked(alloc, ring, net, &asked.query, &asked.vector);
+    let problem = Problem::of(net, &asked.query, &asked.vector);
+    let printed = summary_of_asked(alloc, ring, &problem);
     drop(asked);
     printed
 }
 
-// The summary, for a query that was read.
+// The summary, for a problem of it.
 fn summary_of_asked<'a>(
     alloc: Global,
     ring: (u64, u32),
-    net: &Network,
-    query: &Query,
-    vector: &Vector,
+    problem: &Problem<'_>,
 ) -> Result<Printed, Refusal<'a>>
-    requires { AreBounds net.now query.now.bounds }
     ensures status { IfOk result (λ printed. printed.status ≡ 0) }
-    ensures summed { IfOk result (λ printed. IsSummed ring.0 ring.1 (problem_of net.now query.now vector.now) printed.text) }
-    ensures refused { IfErr result (FromDecision (problem_of net.now query.now vector.now)) }
+    ensures summed { IfOk result (λ printed. IsSummed ring.0 ring.1 problem.now printed.text) }
+    ensures refused { IfErr result (FromDecision problem.now) }
 {
-    let (answer, certificate) = decided(alloc, net, query, vector)?;
-    let printed = summary_if_accepted(alloc, ring, net, query, vector, &answer, &certificate);
+    let (answer, certificate) = decided(alloc, problem)?;
+    let printed = summary_if_accepted(alloc, ring, problem, &answer, &certificate);
     drop(certificate);
     drop(answer);
     printed
@@ -86,20 +80,17 @@ fn summary_of_asked<'a>(
 fn summary_if_accepted<'a>(
     alloc: Global,
     ring: (u64, u32),
-    net: &Network,
-    query: &Query,
-    vector: &Vector,
+    problem: &Problem<'_>,
     answer: &Answer,
     certificate: &Certificate,
 ) -> Result<Printed, Refusal<'a>>
-    requires bounds { AreBounds net.now query.now.bounds }
-    requires text { IsWritable certificate.now }
+    requires { IsWritable certificate.now }
     ensures status { IfOk result (λ printed. printed.status ≡ 0) }
-    ensures text { IfOk result (λ printed. printed.text ≡ summary_of ring.0 ring.1 net.now query.now.bounds (length vector.now) answer.now) }
-    ensures believed { OnOk result (IsBelieved (problem_of net.now query.now vector.now) certificate.now) }
-    ensures refused { IfErr result (IsNotBelieved (problem_of net.now query.now vector.now) certificate.now) }
+    ensures text { IfOk result (λ printed. printed.text ≡ summary_of ring.0 ring.1 problem.now.net problem.now.bounds (length problem.now.vector) answer.now) }
+    ensures believed { OnOk result (IsBelieved problem.now certificate.now) }
+    ensures refused { IfErr result (IsNotBelieved problem.now certificate.now) }
 {
-    accepted_word(alloc, net, query, vector, certificate)?;
-    let text = summary(alloc, ring, net, query, vector, answer)?;
+    accepted_word(alloc, problem, certificate)?;
+    let text = summary(alloc, ring, problem, answer)?;
     Ok(Printed { status: 0, text })
 }

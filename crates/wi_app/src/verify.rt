@@ -1,10 +1,8 @@
 //! The report is made before the certificate is stored, and both before anything is printed: so whatever is refused has stored
 //! nothing, and what is printed has its certificate. What `packets` prints is made here, too: it asks the same, and prints more of the
 //! same answer.
-ghost use Rattle.std.specs.Prelude.{◌≡◌, Ok, option_map, IfOk, IfErr, IfSome};
-ghost use Rattle.wi_world.specs.Moves.{AreBounds};
+ghost use Rattle.std.specs.Prelude.{◌≡◌, option_map, IfOk, IfErr, IfSome};
 ghost use Rattle.wi_cert.specs.Text.{IsWritable};
-ghost use Rattle.wi_build.specs.Problems.{problem_of};
 ghost use Rattle.wi_report.specs.Reports.{IsKnownRun};
 ghost use Rattle.wi_files.specs.Certificates.{IsKept, IsNotKept};
 ghost use Rattle.wi_files.specs.Shelves.{IsCalm, IsLeft, OthersStand};
@@ -16,12 +14,10 @@ ghost use Rattle.wi_app.specs.private.Stages.{printed_by};
 use crate::decided::decided;
 use std::alloc::Global;
 use wi_base::{NoMemory, Shelf};
+use wi_build::Problem;
 use wi_cert::Certificate;
 use wi_files::store_certificate;
-use wi_net::Network;
 use wi_outcome::{Printed, Refusal};
-use wi_quantity::Vector;
-use wi_query::Query;
 use wi_report::{packets as report_and_packets, report};
 use wi_text::Text;
 use wi_trace::Answer;
@@ -35,76 +31,72 @@ pub enum Content {
     ReportAndPackets,
 }
 
-/// What is printed of the answer to a query, or why there is none. Its certificate is stored under a name, if there is one.
+/// What is printed of the answer to a problem, or why there is none. Its certificate is stored under a name, if there is one.
 pub fn verify<'a, S: Shelf>(
     alloc: Global,
-    net: &Network,
-    query: &Query,
-    vector: &Vector,
+    problem: &Problem<'_>,
     content: Content,
     file: Option<&'a str>,
     shelf: &mut S,
 ) -> Result<Printed, Refusal<'a>>
-    requires { AreBounds net.now query.now.bounds }
     ensures told { (S.seen shelf.new).told ≡ (S.seen shelf.old).told }
     ensures others { OthersStand (option_map (λ s. s.now) file.entry) (S.seen shelf.old) (S.seen shelf.new) }
     ensures left { IfErr result (λ refusal. IsLeft refusal (S.seen shelf.old) (S.seen shelf.new)) }
     ensures calm { IfOk result (λ _. IsCalm (S.seen shelf.old) (S.seen shelf.new)) }
-    ensures reported { IfOk result (λ printed. IsReported (printed_by content) (problem_of net.now query.now vector.now) (option_map (λ s. s.now) file.entry) (S.seen shelf.new) printed.status printed.text) }
-    ensures refused { IfErr result (FromAnswer FromDecision (FromStore (option_map (λ s. s.now) file.entry)) (S.seen shelf.old) (S.seen shelf.new) (problem_of net.now query.now vector.now)) }
+    ensures reported { IfOk result (λ printed. IsReported (printed_by content) problem.now (option_map (λ s. s.now) file.entry) (S.seen shelf.new) printed.status printed.text) }
+    ensures refused { IfErr result (FromAnswer FromDecision (FromStore (option_map (λ s. s.now) file.entry)) (S.seen shelf.old) (S.seen shelf.new) problem.now) }
 {
-    let (answer, certificate) = decided(alloc, net, query, vector)?;
-    let text = text_by(alloc, net, query, vector, &answer, content);
-    let status = status_for(answer.word);
-    drop(answer);
-    let printed = stored(alloc, &certificate, file, status, text, shelf);
-    drop(certificate);
+    let (answer, certificate) = decided(alloc, problem)?;
+    let printed = stored(alloc, problem, content, &answer, &certificate, file, shelf);
+    drop((answer, certificate));
     printed
+}
+
+// What is printed of an answer, once its certificate is stored, if there is a name for it.
+fn stored<'a, S: Shelf>(
+    alloc: Global,
+    problem: &Problem<'_>,
+    content: Content,
+    answer: &Answer,
+    certificate: &Certificate,
+    file: Option<&'a str>,
+    shelf: &mut S,
+) -> Result<Printed, Refusal<'a>>
+    requires run { IfSome answer.now.run (IsKnownRun problem.now.net) }
+    requires certificate { IsWritable certificate.now }
+    ensures told { (S.seen shelf.new).told ≡ (S.seen shelf.old).told }
+    ensures others { OthersStand (option_map (λ s. s.now) file.entry) (S.seen shelf.old) (S.seen shelf.new) }
+    ensures left { IfErr result (λ refusal. IsLeft refusal (S.seen shelf.old) (S.seen shelf.new)) }
+    ensures calm { IfOk result (λ _. IsCalm (S.seen shelf.old) (S.seen shelf.new)) }
+    ensures status { IfOk result (λ printed. printed.status ≡ status_for answer.now.word) }
+    ensures text { IfOk result (λ printed. printed.text ≡ printed_by content problem.now answer.now) }
+    ensures kept { IfOk result (λ _. IsKept (option_map (λ s. s.now) file.entry) (S.seen shelf.new) certificate.now) }
+    ensures refused { IfErr result (λ refusal. IsNotKept (S.seen shelf.old) (S.seen shelf.new) (option_map (λ s. s.now) file.entry) certificate.now refusal) }
+{
+    let text = text_by(alloc, problem, answer, content)?;
+    if let Some(name) = file {
+        store_certificate(alloc, certificate, name, shelf)?;
+    }
+    Ok(Printed {
+        status: status_for(answer.word),
+        text,
+    })
 }
 
 // The text that is printed of an answer.
 fn text_by(
     alloc: Global,
-    net: &Network,
-    query: &Query,
-    vector: &Vector,
+    problem: &Problem<'_>,
     answer: &Answer,
     content: Content,
 ) -> Result<Text, NoMemory>
-    requires bounds { AreBounds net.now query.now.bounds }
-    requires run { IfSome answer.now.run (IsKnownRun net.now) }
-    ensures { IfOk result (λ text. text ≡ printed_by content (problem_of net.now query.now vector.now) answer.now) }
+    requires { IfSome answer.now.run (IsKnownRun problem.now.net) }
+    ensures { IfOk result (λ text. text ≡ printed_by content problem.now answer.now) }
 {
     match content {
-        Content::Report => report(alloc, net, query, vector, answer),
-        Content::ReportAndPackets => report_and_packets(alloc, net, query, vector, answer),
+        Content::Report => report(alloc, problem, answer),
+        Content::ReportAndPackets => report_and_packets(alloc, problem, answer),
     }
-}
-
-// A report, whose certificate is stored if there is a name for it.
-fn stored<'a, S: Shelf>(
-    alloc: Global,
-    certificate: &Certificate,
-    file: Option<&'a str>,
-    status: u8,
-    text: Result<Text, NoMemory>,
-    shelf: &mut S,
-) -> Result<Printed, Refusal<'a>>
-    requires { IsWritable certificate.now }
-    ensures told { (S.seen shelf.new).told ≡ (S.seen shelf.old).told }
-    ensures others { OthersStand (option_map (λ s. s.now) file.entry) (S.seen shelf.old) (S.seen shelf.new) }
-    ensures left { IfErr result (λ refusal. IsLeft refusal (S.seen shelf.old) (S.seen shelf.new)) }
-    ensures calm { IfOk result (λ _. IsCalm (S.seen shelf.old) (S.seen shelf.new)) }
-    ensures status { IfOk result (λ printed. printed.status ≡ status) }
-    ensures text { IfOk result (λ printed. text ≡ Ok printed.text) }
-    ensures kept { IfOk result (λ _. IsKept (option_map (λ s. s.now) file.entry) (S.seen shelf.new) certificate.now) }
-    ensures refused { IfErr result (λ refusal. IsNotKept (S.seen shelf.old) (S.seen shelf.new) (option_map (λ s. s.now) file.entry) certificate.now refusal) }
-{
-    let text = text?;
-    if let Some(name) = file {
-        store_certificate(alloc, certificate, name, shelf)?;
-    }
-    Ok(Printed { status, text })
 }
 
 /// The exit status of an answer.

@@ -1,5 +1,5 @@
 -- Once all branches were opened, the best run is the answer, and what was opened is the tree that shows it.
-use Rattle.std.proofs.Common.{◌≡◌, ℕ, ◌<◌, ◌≤◌, true, false, List, [], ◌∷◌, length, map, Option, Some, None, IfSome, option_map, ◌⊎◌, inl, inr, refl, arith, sym, ◌∙◌, ap, subst}
+use Rattle.std.proofs.Common.{◌≡◌, ℕ, ◌<◌, ◌≤◌, true, false, List, [], ◌∷◌, length, map, Option, Some, None, IfSome, option_map, ◌⊎◌, inl, inr, refl, arith, sym, ◌∙◌, subst}
 use Rattle.std.proofs.lemmas.List.{length-map}
 use Rattle.wi_net.specs.declared.bounds.Bounds.{Bounds}
 use Rattle.wi_net.specs.Network.{IsNetwork}
@@ -20,8 +20,8 @@ use Rattle.wi_cert.specs.declared.shown.Shown.{Shown}
 use Rattle.wi_cert.specs.declared.tree.Node.{Node}
 use Rattle.wi_cert.specs.declared.tree.TreeCertificate.{TreeCertificate}
 use Rattle.wi_cert.specs.Trees.{is_inconclusive, makes_trees}
-use Rattle.wi_build.specs.Problems.{Problem, IsProblem, asks, weighs}
-use Rattle.wi_accept.specs.Trees.{within, IsDecidedExactly, IsTreeAccepted, IsTreeMaker}
+use Rattle.wi_build.specs.Problems.{Problem, IsProblem, asks, weighs, within}
+use Rattle.wi_accept.specs.Trees.{IsDecidedExactly, IsTreeAccepted, IsTreeMaker}
 use Rattle.wi_accept.proofs.Visits.{matches_whole}
 use Rattle.wi_accept.proofs.MadeTrees.{nothing_against_tree}
 use Rattle.wi_decide.specs.Showing.{claim_for, shown_by}
@@ -164,13 +164,12 @@ module _ (problem : Problem) (limit : ℕ) (k : IsProblem problem) where
     }
 
     -- whatever is equal to that answer and that tree is exact, and accepted
-    pub exact_is : (a : Answer) (t : TreeCertificate) (terms : ℕ) → terms ≡ length problem.vector → a ≡ answer → t.shown ≡ shown_by terms answer → t.nodes ≡ map (node_under t.shown) done.opened → IsExact problem limit a t
-    exact_is a t terms count answer_is shown_is nodes_is =
-        let shown_here : t.shown ≡ shown = shown_is ∙ ap (λ n. shown_by n answer) count in
+    pub exact_is : (a : Answer) (t : TreeCertificate) → a ≡ answer → t.shown ≡ shown → t.nodes ≡ map (node_under t.shown) done.opened → IsExact problem limit a t
+    exact_is a t answer_is shown_is nodes_is =
         let P : Answer → Type 0 = λ x. IsExact problem limit x t in
         let Q : Shown → Type 0 = λ x. IsExact problem limit answer (record { shown = x; nodes = map (node_under x) done.opened }) in
         let R : List Node → Type 0 = λ xs. IsExact problem limit answer (record { shown = t.shown; nodes = xs }) in
-        subst P (sym answer_is) (subst R (sym nodes_is) (subst Q (sym shown_here) exact))
+        subst P (sym answer_is) (subst R (sym nodes_is) (subst Q (sym shown_is) exact))
 
   pub exact_accepted : (a : Answer) (t : TreeCertificate) → IsExact problem limit a t → IsTreeAccepted problem t
   exact_accepted a t exact = nothing_against_tree problem a t k exact.holds exact.made

@@ -19,16 +19,14 @@ use Rattle.wi_world.specs.declared.answer.Verdict.{Verdict}
 use Rattle.wi_world.specs.declared.answer.Verdict.TheVariants.{Fits, Exceeds, UsesFailed}
 use Rattle.wi_world.specs.Holds.{Question, Matches, Weighing}
 use Rattle.wi_world.specs.Moves.{is_trace, IsAllowed}
-use Rattle.wi_quantity.specs.declared.vector.Part.{Part}
 use Rattle.wi_quantity.specs.Weighing.{components}
-use Rattle.wi_query.specs.declared.query.Query.{Query}
 use Rattle.wi_trace.specs.declared.answer.Answer.{Answer}
 use Rattle.wi_trees.specs.Trees.{HoldsExactly, IsExactNo}
 use Rattle.wi_cert.specs.declared.tree.TreeCertificate.{TreeCertificate}
-use Rattle.wi_build.specs.Problems.{Problem, asks, weighs}
+use Rattle.wi_build.specs.Problems.{Problem, asks, weighs, allowing}
 use Rattle.wi_accept.specs.Trees.{IsDecidedExactly, IsTreeAccepted}
 use Rattle.wi_branch.specs.Exactly.{IsExact, IsInexact}
-use Rattle.wi_branch.specs.Tolerance.{HasTrace, IsStoppedUpTo, IsTolerated, ShowsBelow, ShowsNo, asked_at}
+use Rattle.wi_branch.specs.Tolerance.{HasTrace, IsStoppedUpTo, IsTolerated, ShowsBelow, ShowsNo}
 use Rattle.wi_branch.specs.declared.refused.ExactRefused.{ExactRefused}
 use Rattle.wi_branch.specs.declared.refused.ExactRefused.TheVariants as exact
 use Rattle.wi_branch.specs.private.Counting.{AreTolerated, IsTrial, groups_besides, stopped_with, trial_by}
@@ -122,8 +120,8 @@ all_union net =
     ∙ filter_true (all_links net)
 
 -- no more risk groups fail than there are
-groups_suffice : (net : Net) (query : Query) (vector : List (List Part)) (j n : ℕ) → groups_besides net query.bounds.down ≤ n → HasTrace (asked_at net query vector j) → HasTrace (asked_at net query vector n)
-groups_suffice net query vector j n all has = record {
+groups_suffice : (problem : Problem) (j n : ℕ) → groups_besides problem.net problem.bounds.down ≤ n → HasTrace (allowing problem j) → HasTrace (allowing problem n)
+groups_suffice problem j n all has = record {
   fails = has.fails;
   run = has.run;
   allowed = record { union = has.allowed.union; down = has.allowed.down; up = has.allowed.up; few = few };
@@ -131,18 +129,24 @@ groups_suffice net query vector j n all has = record {
   matches = record { first = has.matches.first; path = has.matches.path; last = has.matches.last };
 }
   where
-    within : risk_count net (outside has.fails query.bounds.down) ≤ groups_besides net query.bounds.down
-    within = count_within net has.fails (all_links net) query.bounds.down has.allowed.union (all_union net) (λ e h d. has-all_links net e ∙ union_link net has.fails e has.allowed.union h)
+    net : Net
+    net = problem.net
 
-    few : nat_le (risk_count net (outside has.fails query.bounds.down)) n ≡ true
+    known : List LinkId
+    known = problem.bounds.down
+
+    within : risk_count net (outside has.fails known) ≤ groups_besides net known
+    within = count_within net has.fails (all_links net) known has.allowed.union (all_union net) (λ e h d. has-all_links net e ∙ union_link net has.fails e has.allowed.union h)
+
+    few : nat_le (risk_count net (outside has.fails known)) n ≡ true
     few = grind (arith, nat_tests, within, all)
 
 -- where none is enough up to the number of risk groups, none is
-pub none_past : (net : Net) (query : Query) (vector : List (List Part)) (last most : ℕ) → last ≡ min (groups_besides net query.bounds.down) most → AreTolerated (asked_at net query vector) (last + 1)
-    → AreTolerated (asked_at net query vector) (most + 1)
-none_past net query vector last most is none j below =
+pub none_past : (problem : Problem) (last most : ℕ) → last ≡ min (groups_besides problem.net problem.bounds.down) most → AreTolerated (allowing problem) (last + 1)
+    → AreTolerated (allowing problem) (most + 1)
+none_past problem last most is none j below =
     elim (cases_lt last j) [
-      | inl past ↦ (λ has. none last (omega arith) (groups_suffice net query vector j last (omega (arith, is, past, below)) has))
+      | inl past ↦ (λ has. none last (omega arith) (groups_suffice problem j last (omega (arith, is, past, below)) has))
       | inr within ↦ none j (omega (arith, within))
     ]
 

@@ -18,11 +18,11 @@ use Rattle.wi_cert.specs.Trees.{makes_trees, IsLeafOf}
 use Rattle.wi_trees.specs.Branches.{with_down, with_up}
 use Rattle.wi_trees.specs.Trees.{IsBelow}
 use Rattle.wi_trees.proofs.BranchLaws.{child_down, child_up}
-use Rattle.wi_build.specs.Problems.{Problem, weighs}
+use Rattle.wi_build.specs.Problems.{Problem, weighs, within}
 use Rattle.wi_build.specs.Systems.{scale}
 use Rattle.wi_accept.specs.Causes.{bound_of}
 use Rattle.wi_accept.specs.Makers.{AreLeast}
-use Rattle.wi_accept.specs.Trees.{within, branched, IsMadeAt}
+use Rattle.wi_accept.specs.Trees.{branched, IsMadeAt}
 use Rattle.wi_accept.proofs.Visits.{matches_within, after_leaf, after_split, before_leaf, before_split, none_due, some_due}
 use Rattle.wi_decide.specs.Searches.{lowered}
 use Rattle.wi_branch.specs.declared.opened.Opened.{Opened}

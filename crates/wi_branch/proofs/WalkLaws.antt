@@ -19,14 +19,13 @@ use Rattle.wi_trees.specs.Nodes.{AreNodes}
 use Rattle.wi_trees.proofs.BranchLaws.{root, child_down, child_up}
 use Rattle.wi_trees.proofs.FitLaws.{fits_verdict, split_there}
 use Rattle.wi_quantity.specs.Weighing.{components}
-use Rattle.wi_build.specs.Problems.{Problem, asks, weighs}
+use Rattle.wi_build.specs.Problems.{Problem, asks, weighs, within}
 use Rattle.wi_branch.specs.declared.opened.Opened.{Opened}
 use Rattle.wi_branch.specs.declared.opened.Opened.TheVariants as opened
 use Rattle.wi_branch.specs.declared.refused.ExactRefused.{ExactRefused}
 use Rattle.wi_branch.specs.declared.refused.ExactRefused.TheVariants.{Overflow, TooLong, NodeLimit, Memory}
 use Rattle.wi_branch.specs.declared.finding.Told.{Told}
 use Rattle.wi_branch.specs.declared.finding.Told.TheVariants.{Nothing, Fitting, Splitting}
-use Rattle.wi_accept.specs.Trees.{within}
 use Rattle.wi_accept.proofs.Visits.{matches_within}
 use Rattle.wi_branch.specs.Walks.{is_fitting, IsNode, cut_after, left_after, IsWalk}
 use Rattle.wi_branch.specs.Exactly.{IsInexact}

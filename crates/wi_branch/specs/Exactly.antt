@@ -7,8 +7,8 @@ use Rattle.wi_cert.specs.declared.shown.Shown.{Shown}
 use Rattle.wi_cert.specs.declared.tree.Node.{Node}
 use Rattle.wi_cert.specs.declared.tree.Node.TheVariants as nodes
 use Rattle.wi_cert.specs.declared.tree.TreeCertificate.{TreeCertificate}
-use Rattle.wi_build.specs.Problems.{Problem}
-use Rattle.wi_accept.specs.Trees.{within, IsDecidedExactly, IsTreeMaker}
+use Rattle.wi_build.specs.Problems.{Problem, within}
+use Rattle.wi_accept.specs.Trees.{IsDecidedExactly, IsTreeMaker}
 use Rattle.wi_decide.specs.Searches.{IsOverflowingBelow, IsTooLongBelow, lowered}
 use Rattle.wi_branch.specs.declared.opened.Opened.{Opened}
 use Rattle.wi_branch.specs.declared.opened.Opened.TheVariants.{Closed, Fits, Split}

@@ -1,17 +1,13 @@
 -- How many failures it takes, and why that isn't known.
 use Rattle.std.specs.Prelude.{◌≡◌, ℕ, ◌<◌, ◌≤◌, zero, suc, true, List, Option, Some, None}
 use Rattle.wi_net.specs.declared.parts.LinkId.{LinkId}
-use Rattle.wi_net.specs.Net.{Net}
 use Rattle.wi_world.specs.declared.answer.Word.TheVariants.{Yes, No}
 use Rattle.wi_world.specs.declared.run.Run.{Run}
 use Rattle.wi_world.specs.Holds.{Matches}
 use Rattle.wi_world.specs.Moves.{is_trace, IsAllowed}
-use Rattle.wi_quantity.specs.declared.vector.Part.{Part}
-use Rattle.wi_query.specs.declared.query.Query.{Query}
 use Rattle.wi_trace.specs.declared.answer.Answer.{Answer}
-use Rattle.wi_trees.specs.Trees.{whole_of}
 use Rattle.wi_cert.specs.declared.tree.TreeCertificate.{TreeCertificate}
-use Rattle.wi_build.specs.Problems.{Problem, asks, problem_in}
+use Rattle.wi_build.specs.Problems.{Problem, asks}
 use Rattle.wi_accept.specs.Trees.{IsTreeAccepted}
 use Rattle.wi_branch.specs.Exactly.{IsExact, IsInexact}
 use Rattle.wi_branch.specs.declared.refused.ExactRefused.TheVariants as exact
@@ -28,11 +24,7 @@ pub record HasTrace (problem : Problem) : Type 0 where
   pub trace : is_trace problem.net fails run ≡ true
   pub matches : Matches problem.net (asks problem) run
 
--- a query where so many risk groups may fail besides those known to be down; its own number is not used
-abbrev pub asked_at : Net → Query → List (List Part) → ℕ → Problem
-asked_at net query vector k = problem_in net query vector (whole_of k query)
-
--- so many failures are fewer than it takes
+-- so many failures are fewer than it takes; `asked` gives the problem where so many may fail
 abbrev pub IsTolerated : (ℕ → Problem) → ℕ → Type 0
 IsTolerated asked k = HasTrace (asked k) → ⊥
 

@@ -8,8 +8,7 @@ use Rattle.wi_world.specs.declared.answer.Verdict.TheVariants as verdicts
 use Rattle.wi_world.specs.Runs.{effort_of, verdict_of}
 use Rattle.wi_quantity.specs.Weighing.{components}
 use Rattle.wi_trees.specs.Branches.{with_down, with_up, split_of}
-use Rattle.wi_build.specs.Problems.{Problem}
-use Rattle.wi_accept.specs.Trees.{within}
+use Rattle.wi_build.specs.Problems.{Problem, within}
 use Rattle.wi_decide.specs.Searches.{AllFitBelow, IsFound, IsLeastBelow, IsWrittenDown}
 use Rattle.wi_branch.specs.declared.opened.Opened.{Opened}
 use Rattle.wi_branch.specs.declared.opened.Opened.TheVariants.{Closed, Fits, Split}

@@ -1,10 +1,8 @@
 //! One search tells all of a branch: that nothing is left to find there, or the least run, which fits or tells by what link to
 //! split.
 ghost use Rattle.std.specs.Prelude.{◌≡◌, IfOk, IfErr, option_map};
-ghost use Rattle.wi_world.specs.Moves.{AreBounds};
 ghost use Rattle.wi_world.specs.Moving.{IsMovingRun};
 ghost use Rattle.wi_quantity.specs.Weighing.{components};
-ghost use Rattle.wi_build.specs.Problems.{problem_in};
 ghost use Rattle.wi_decide.specs.Searches.{IsUnsearched};
 ghost use Rattle.wi_branch.specs.Walks.{IsNode, is_fitting};
 ghost use Rattle.wi_branch.specs.private.Courses.{IsJudged, IsToldWell, KeepsLeaf, node_of};
@@ -12,11 +10,11 @@ ghost use Rattle.wi_branch.specs.private.Courses.{IsJudged, IsToldWell, KeepsLea
 use crate::branches::first_free;
 use std::alloc::Global;
 use wi_base::NoMemory;
+use wi_build::Problem;
 use wi_cert::Closed;
 use wi_decide::{LeastRun, SearchRefused, Searched, search};
-use wi_net::{Bounds, LinkId, Network};
-use wi_quantity::{Vector, Weight};
-use wi_query::Query;
+use wi_net::LinkId;
+use wi_quantity::Weight;
 use wi_trace::{needs, verdict};
 use wi_world::Verdict;
 
@@ -31,42 +29,37 @@ pub(crate) enum Told {
     Splitting(LinkId),
 }
 
-/// What is found at a branch, below a cut.
+/// What is found for the problem within a branch, below a cut.
 pub(crate) fn tell(
     alloc: Global,
-    net: &Network,
-    query: &Query,
-    vector: &Vector,
-    branch: &Bounds,
+    problem: &Problem<'_>,
     cut: Option<Weight>,
 ) -> Result<Told, SearchRefused>
-    requires { AreBounds net.now branch.now }
-    ensures node { IfOk result (λ told. IsNode (problem_in net.now query.now vector.now branch.now) (option_map components cut) (node_of told)) }
-    ensures well { IfOk result (λ told. IsToldWell (problem_in net.now query.now vector.now branch.now) told) }
-    ensures refused { IfErr result (λ refused. IsUnsearched (problem_in net.now query.now vector.now branch.now) (option_map components cut) refused) }
+    ensures node { IfOk result (λ told. IsNode problem.now (option_map components cut) (node_of told)) }
+    ensures well { IfOk result (IsToldWell problem.now) }
+    ensures refused { IfErr result (IsUnsearched problem.now (option_map components cut)) }
 {
-    net.keeps();
-    let Searched { found, closed } = search(alloc, net, query, vector, branch, cut)?;
+    problem.keeps();
+    let Searched { found, closed } = search(alloc, problem, cut)?;
     match found {
         None => Ok(Told::Nothing(closed)),
-        Some(found) => Ok(judged(alloc, net, branch, found, closed)?),
+        Some(found) => Ok(judged(alloc, problem, found, closed)?),
     }
 }
 
 // A least run fits its branch, or tells by what link to split.
 fn judged(
     alloc: Global,
-    net: &Network,
-    branch: &Bounds,
+    problem: &Problem<'_>,
     found: LeastRun,
     closed: Closed,
 ) -> Result<Told, NoMemory>
-    requires bounds { AreBounds net.now branch.now }
-    requires moving { IsMovingRun net.now branch.now found.run }
-    ensures judged { IfOk result (λ told. IsJudged net.now branch.now found told) }
-    ensures leaf { IfOk result (λ told. KeepsLeaf closed told) }
+    requires { IsMovingRun problem.now.net problem.now.bounds found.run }
+    ensures judged { IfOk result (IsJudged problem.now.net problem.now.bounds found) }
+    ensures leaf { IfOk result (KeepsLeaf closed) }
 {
-    net.keeps();
+    problem.keeps();
+    let (net, branch) = (problem.net(), problem.bounds());
     let verdict = verdict(alloc, net, &found.run, branch)?;
     if is_fitting(&verdict) {
         return Ok(Told::Fitting(found, closed));

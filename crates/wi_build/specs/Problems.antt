@@ -25,13 +25,21 @@ pub record IsProblem (problem : Problem) : Type 0 where
   pub automata : HasAutomata problem.query
   pub bounds_of : AreBounds problem.net problem.bounds
 
--- the problem that a query asks within bounds
+-- what a query asks within bounds
 abbrev pub problem_in : Net → Query → List (List Part) → Bounds → Problem
 problem_in net query vector bounds = record { net = net; query = query; vector = vector; bounds = bounds }
 
--- the problem that a query asks: what may fail is as the query says
+-- what a query asks: what may fail is as the query says
 abbrev pub problem_of : Net → Query → List (List Part) → Problem
 problem_of net query vector = problem_in net query vector query.bounds
+
+-- the same within other bounds
+abbrev pub within : Problem → Bounds → Problem
+within problem bounds = record problem { bounds = bounds }
+
+-- the same where so many risk groups may fail besides those known to be down
+abbrev pub allowing : Problem → ℕ → Problem
+allowing problem k = within problem (record problem.bounds { k = k })
 
 -- its question: the query's languages, within the bounds
 abbrev pub asks : Problem → Question

@@ -2,12 +2,12 @@
 //! what they are of, and aren't kept: whoever asks again has them made again. What must have failed is carried along from group
 //! to group, and the walk over a row ends where not all of it may be down.
 ghost use Rattle.std.specs.List.{list_all, flat_map, range_with_len};
-ghost use Rattle.std.specs.Prelude.{◌≡◌, suc, ◌∷◌, [], ◌++◌, ◌<◌, length, map, IfOk, OnOk, ◌^◌, Some, true, slice_get, take, IfSome, not, if◌then◌else◌};
+ghost use Rattle.std.specs.Prelude.{◌≡◌, suc, ◌∷◌, [], ◌++◌, ◌<◌, length, map, OnOk, ◌^◌, Some, true, slice_get, take, IfSome, not, if◌then◌else◌};
 ghost use Rattle.wi_build.specs.Encodings.{encoding_of};
 ghost use Rattle.wi_build.specs.private.Hops.{IsArrival, AreNeeds, IsGroup, IsMember};
 ghost use Rattle.wi_build.specs.Problems.{IsProblem};
 ghost use Rattle.wi_build.specs.private.Rows.{rule_made, head_rules, spot_on, rules_for, group_rules};
-ghost use Rattle.wi_build.specs.Systems.{rules_by, spot_count, weight};
+ghost use Rattle.wi_build.specs.Systems.{rules_by, weight};
 ghost use Rattle.wi_build.specs.private.Tags.{IsWithin};
 ghost use Rattle.wi_net.specs.LinkSet.{has};
 ghost use Rattle.wi_net.specs.Net.{links_where};
@@ -15,16 +15,17 @@ ghost use Rattle.wi_net.specs.Network.{op_known};
 ghost use Rattle.wi_net.specs.Tables.{all_members, row_members};
 ghost use Rattle.wi_nfa.specs.Left.{states_left};
 ghost use Rattle.wi_pds.specs.declared.rule.Word2.{Word2};
+ghost use Rattle.wi_quantity.specs.Vectors.{is_vector};
 ghost use Rattle.wi_quantity.specs.Weighing.{hop_weight, is_way_out};
 ghost use Rattle.wi_query.specs.Sets.{holds};
 ghost use Rattle.wi_rules.specs.Numbers.{Fits, layout_of, spot_of};
 ghost use Rattle.wi_rules.specs.Rules.{may_build, written, first_written, plain, build_rules, set_out_rules, hop_rules, entry_rules, on_link_rules};
 ghost use Rattle.wi_rules.specs.declared.spot.Spot.{Spot};
-ghost use Rattle.wi_world.specs.Moves.{AreBounds};
 
 use crate::head::{Arrival, Head, Made, Way, operation, plain};
 use crate::layout::Layout;
 use crate::needs::Needs;
+use crate::problem::Problem;
 use crate::states::{after, before};
 use crate::tag::tag_of;
 use crate::weights::{counted, effort};
@@ -35,20 +36,16 @@ use wi_labels::{Class, Label, Op};
 use wi_net::{Bounds, LinkId, Member, Network};
 use wi_nfa::States;
 use wi_pds::{Rule, System, Word2};
-use wi_quantity::{Vector, Weight, first_weight, hop_weight};
+use wi_quantity::{Weight, first_weight, hop_weight};
 use wi_query::{Query, SymbolSet};
 use wi_rules::{Origin, Spot};
 use wi_world::Step;
 
-/// The rules of a network and a query within bounds, each head's made when they are asked for. A run weighs what the vector
-/// says.
+/// The rules of a problem, each head's made when they are asked for.
 #[derive(Drop)]
 pub struct LazySystem<'a> {
-    pub(crate) net: &'a Network,
-    pub(crate) query: &'a Query,
-    pub(crate) vector: &'a Vector,
-    pub(crate) bounds: &'a Bounds,
-    pub(crate) layout: Layout,
+    problem: &'a Problem<'a>,
+    layout: Layout,
 }
 
 impl<'a> Model for LazySystem<'a> {
@@ -62,46 +59,43 @@ impl<'a> Model for LazySystem<'a> {
 
     ghost coded = { Prim.hlevel (codes, (regex.the_row set.the_row).coded) };
 
-    ghost view = { λ s. record { net = s.net.now; query = s.query.now; vector = s.vector.now; bounds = s.bounds.now } };
+    ghost view = { λ s. s.problem.now };
 
-    ghost invariant = { λ s. IsLazy (record { net = s.net.now; query = s.query.now; vector = s.vector.now; bounds = s.bounds.now }) s.layout };
+    ghost invariant = { λ s. IsLazy s.problem.now s.layout };
 }
 
 impl<'a> LazySystem<'a> {
-    /// The rules of a query of the network within bounds of it.
-    pub fn new(
-        _alloc: Global,
-        net: &'a Network,
-        query: &'a Query,
-        vector: &'a Vector,
-        bounds: &'a Bounds,
-    ) -> Result<LazySystem<'a>, NoMemory>
-        requires { AreBounds net.now bounds.now }
-        ensures { IfOk result (λ system. system ≡ record { net = net.now; query = query.now; vector = vector.now; bounds = bounds.now }) }
+    /// The rules of a problem. It takes no memory.
+    pub fn of(problem: &'a Problem<'a>) -> LazySystem<'a>
+        ensures { result ≡ problem.now }
     {
-        net.keeps();
-        query.keeps();
-        Ok(LazySystem {
-            net,
-            query,
-            vector,
-            bounds,
-            layout: Layout::of(net, query),
-        })
+        problem.keeps();
+        LazySystem {
+            problem,
+            layout: Layout::of(problem.net(), problem.query()),
+        }
     }
 
-    // How many spots there are.
-    pub(crate) fn spots(&self) -> u64
-        ensures { result ≡ spot_count (layout_of (encoding_of self.now)) }
+    /// The problem whose rules these are.
+    pub fn problem(&self) -> &'a Problem<'a>
+        ensures { result.now ≡ self.now }
     {
-        self.layout.spots()
+        self.problem
     }
 
-    // What every system keeps.
-    pub(crate) fn keeps(&self)
-        ensures { IsProblem self.now }
+    /// How its spots are numbered.
+    pub fn layout(&self) -> &Layout
+        ensures { result.now ≡ layout_of (encoding_of self.now) }
     {
-        let _layout = &self.layout;
+        &self.layout
+    }
+
+    /// What every system keeps: its problem is one.
+    pub fn keeps(&self)
+        ensures problem { IsProblem self.now }
+        ensures vector { is_vector self.now.vector ≡ true }
+    {
+        self.problem.keeps();
     }
 
     // Puts a rule of a head at the end of a list.
@@ -151,29 +145,36 @@ impl<'a> LazySystem<'a> {
     pub(crate) fn network(&self) -> &'a Network
         ensures { result.now ≡ self.now.net }
     {
-        self.net
+        self.problem.net()
     }
 
     /// What may fail in it.
     pub(crate) fn limits(&self) -> &'a Bounds
         ensures { result.now ≡ self.now.bounds }
     {
-        self.bounds
+        self.problem.bounds()
+    }
+
+    // The query.
+    fn query(&self) -> &'a Query
+        ensures { result.now ≡ self.now.query }
+    {
+        self.problem.query()
     }
 
     /// How many labels there are.
     pub(crate) fn labels(&self) -> u32
         ensures { result ≡ length self.now.net.classes }
     {
-        self.net.keeps();
-        self.net.counts().labels
+        self.network().keeps();
+        self.network().counts().labels
     }
 
     /// How many links there are.
     pub(crate) fn links(&self) -> u32
         ensures { result ≡ length self.now.net.links }
     {
-        self.net.counts().links
+        self.network().counts().links
     }
 
     /// The spot of a number, if there is one.
@@ -188,25 +189,27 @@ impl<'a> LazySystem<'a> {
     pub(crate) fn first_states(&self) -> u32
         ensures { result ≡ (encoding_of self.now).first.states }
     {
-        self.query.first.nfa().states() as u32
+        let query = self.query();
+        query.keeps();
+        query.first.nfa().states() as u32
     }
 
     pub(crate) fn first_accepts(&self, state: u32) -> bool
         ensures { result ≡ (encoding_of self.now).first.accepts state }
     {
-        self.query.first.nfa().accepts(state)
+        self.query().first.nfa().accepts(state)
     }
 
     pub(crate) fn path_accepts(&self, state: u32) -> bool
         ensures { result ≡ (encoding_of self.now).path.accepts state }
     {
-        self.query.path.nfa().accepts(state)
+        self.query().path.nfa().accepts(state)
     }
 
     pub(crate) fn last_accepts(&self, state: u32) -> bool
         ensures { result ≡ (encoding_of self.now).last.accepts state }
     {
-        self.query.last.nfa().accepts(state)
+        self.query().last.nfa().accepts(state)
     }
 
     /// The states of the first header's automaton before one by a label.
@@ -214,7 +217,7 @@ impl<'a> LazySystem<'a> {
         requires { state < (encoding_of self.now).first.states }
         ensures { states_left holds result ≡ (encoding_of self.now).first_before state label }
     {
-        before(&self.query.first, state, label)
+        before(&self.query().first, state, label)
     }
 
     /// The states of the path's automaton after one by a link.
@@ -222,7 +225,7 @@ impl<'a> LazySystem<'a> {
         requires { state < (encoding_of self.now).path.states }
         ensures { states_left holds result ≡ (encoding_of self.now).path.next state link.0 }
     {
-        after(&self.query.path, state, link.0)
+        after(&self.query().path, state, link.0)
     }
 
     /// The states of the last header's automaton after one by a label.
@@ -230,14 +233,14 @@ impl<'a> LazySystem<'a> {
         requires { state < (encoding_of self.now).last.states }
         ensures { states_left holds result ≡ (encoding_of self.now).last.next state label.0 }
     {
-        after(&self.query.last, state, label.0)
+        after(&self.query().last, state, label.0)
     }
 
     /// Whether a link is known to be down.
     pub(crate) fn is_down(&self, link: LinkId) -> bool
         ensures { result ≡ has self.now.bounds.down link }
     {
-        self.bounds.down.contains(link)
+        self.limits().down.contains(link)
     }
 
     /// Whether a label may be pushed on a symbol where a header is made from the bottom up.
@@ -245,13 +248,14 @@ impl<'a> LazySystem<'a> {
         requires { label < length self.now.net.classes }
         ensures { result ≡ may_build self.now.net label symbol }
     {
-        self.net.keeps();
-        let class = self.net.class(Label(label));
+        self.network().keeps();
+        let class = self.network().class(Label(label));
         if symbol == 0 {
             return matches!(class, Class::Ip);
         }
         let below = symbol - 1;
-        below < self.labels() && Op::Push(Label(label), class).allowed(self.net.class(Label(below)))
+        below < self.labels()
+            && Op::Push(Label(label), class).allowed(self.network().class(Label(below)))
     }
 
     /// What an operation writes over a label, where it is defined there.
@@ -260,8 +264,8 @@ impl<'a> LazySystem<'a> {
         requires op { op_known self.now.net op ≡ true }
         ensures { result ≡ written self.now.net op top.0 }
     {
-        self.net.keeps();
-        if !op.allowed(self.net.class(top)) {
+        self.network().keeps();
+        if !op.allowed(self.network().class(top)) {
             return None;
         }
         Some(match op {
@@ -277,7 +281,7 @@ impl<'a> LazySystem<'a> {
         requires ops { list_all (op_known self.now.net) ops.now ≡ true }
         ensures { result ≡ first_written self.now.net ops.now top.0 }
     {
-        self.net.keeps();
+        self.network().keeps();
         match ops.first() {
             Some(op) => self.written(*op, top),
             None => Some(Word2::One(top.0 + 1)),
@@ -290,8 +294,9 @@ impl<'a> LazySystem<'a> {
         ensures value { slice_get (all_members self.now.net.rows) number ≡ Some result.now }
         ensures ops { list_all (op_known self.now.net) result.now.ops ≡ true }
     {
-        self.net.keeps();
-        self.net.member(number)
+        let net = self.network();
+        net.keeps();
+        net.member(number)
     }
 
     /// The weight of setting out on a link, with effort 1.
@@ -299,7 +304,7 @@ impl<'a> LazySystem<'a> {
         requires { link.0 < length self.now.net.links }
         ensures { result ≡ weight ((encoding_of self.now).first_share link ++ 1 ∷ []) }
     {
-        counted(first_weight(self.vector, self.net, link))
+        counted(first_weight(self.problem.vector(), self.network(), link))
     }
 
     /// The weight of a hop, with effort 1, where so many risk groups must have failed before.
@@ -308,7 +313,7 @@ impl<'a> LazySystem<'a> {
         requires failures { failures < 2 ^ 32 }
         ensures { result ≡ weight (take 5 (hop_weight self.now.net self.now.vector member.now failures) ++ 1 ∷ []) }
     {
-        counted(hop_weight(self.vector, self.net, member, failures))
+        counted(hop_weight(self.problem.vector(), self.network(), member, failures))
     }
 }
 

@@ -8,6 +8,7 @@ mod layout;
 mod lazy;
 mod listed;
 mod needs;
+mod problem;
 mod states;
 mod tag;
 mod weights;
@@ -20,4 +21,5 @@ pub use laws::{
 pub use layout::Layout;
 pub use lazy::LazySystem;
 pub use listed::build;
+pub use problem::Problem;
 pub use wi_rules::{Origin, Spot};

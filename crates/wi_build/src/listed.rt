@@ -1,18 +1,16 @@
 //! All rules are made head by head, by the calls that make them on demand, so that both are the same. It goes over each spot
 //! with each symbol, and a query mostly reaches far fewer: the program doesn't call it.
 ghost use Rattle.std.specs.Prelude.{◌≡◌, ◌++◌, IfOk, OnOk};
-ghost use Rattle.wi_world.specs.Moves.{AreBounds};
 ghost use Rattle.wi_build.specs.Encodings.{encoding_of};
 ghost use Rattle.wi_build.specs.Systems.{spot_rules, all_rules};
 
 use crate::head::Head;
 use crate::lazy::LazySystem;
+use crate::problem::Problem;
 use std::alloc::Global;
 use wi_base::{Listed, NoMemory};
-use wi_net::{Bounds, Network};
 use wi_pds::{Rule, RuleList};
-use wi_quantity::{Vector, Weight};
-use wi_query::Query;
+use wi_quantity::Weight;
 
 // Puts the rules of a spot at the end of a list.
 fn push_spot(
@@ -31,22 +29,14 @@ fn push_spot(
     Ok(())
 }
 
-/// The rules of a query of the network within bounds of it, those of all heads in a list: by rising spot, then by rising
-/// symbol.
-pub fn build(
-    alloc: Global,
-    net: &Network,
-    query: &Query,
-    vector: &Vector,
-    bounds: &Bounds,
-) -> Result<RuleList<Weight>, NoMemory>
-    requires { AreBounds net.now bounds.now }
+/// The rules of a problem, those of all heads in a list: by rising spot, then by rising symbol.
+pub fn build(alloc: Global, problem: &Problem<'_>) -> Result<RuleList<Weight>, NoMemory>
     ensures start { IfOk result (λ list. list.start ≡ (0, 0)) }
-    ensures rules { IfOk result (λ list. list.rules ≡ all_rules (encoding_of (record { net = net.now; query = query.now; vector = vector.now; bounds = bounds.now }))) }
+    ensures rules { IfOk result (λ list. list.rules ≡ all_rules (encoding_of problem.now)) }
 {
-    let system = LazySystem::new(alloc, net, query, vector, bounds)?;
+    let system = LazySystem::of(problem);
     let mut rules = Vec::new(alloc);
-    for spot in 0..system.spots() {
+    for spot in 0..system.layout().spots() {
         push_spot(alloc, &system, &mut rules, spot)?;
     }
     Ok(RuleList {

@@ -10,7 +10,7 @@ use Rattle.wi_net.specs.declared.bounds.Bounds.{Bounds}
 use Rattle.wi_net.specs.Net.{Net}
 use Rattle.wi_rules.proofs.Lists.{drop_get, get_below}
 use Rattle.wi_labels.proofs.HeaderLemmas.{drop_at}
-use Rattle.wi_build.specs.Problems.{Problem, IsProblem}
+use Rattle.wi_build.specs.Problems.{Problem, IsProblem, within}
 use Rattle.wi_cert.specs.declared.closed.Closed.{Closed}
 use Rattle.wi_cert.specs.declared.tree.Node.{Node}
 use Rattle.wi_cert.specs.declared.tree.Node.TheVariants as node
@@ -22,7 +22,7 @@ use Rattle.wi_cert.specs.Trees.{makes_trees, IsTreeWritable}
 use Rattle.wi_trees.specs.Branches.{IsBranch, CanSplit, with_down, with_up}
 use Rattle.wi_trees.proofs.BranchLaws.{root, child_down, child_up}
 use Rattle.wi_accept.specs.Causes.{IsShownCause, IsClosedCause, bound_of, place}
-use Rattle.wi_accept.specs.Trees.{within, link_of, branched, branches_of, IsNode, IsTreeCause, IsTreeAccepted, IsTreeRefused}
+use Rattle.wi_accept.specs.Trees.{link_of, branched, branches_of, IsNode, IsTreeCause, IsTreeAccepted, IsTreeRefused}
 use Rattle.wi_accept.proofs.Visits.{after_leaf, after_split, none_due}
 use Rattle.wi_accept.proofs.FirstRefusals.{few_places, shown_first, not_both_kinds, one_leaf, one_node}
 use Rattle.wi_check.specs.private.Stages.{NoneShown, NoneClosed, NoneInTree, IsShownRefused, IsFirstClosed, AreChecked, IsNodeChecked, IsNodeRefused}

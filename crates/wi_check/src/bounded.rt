@@ -5,7 +5,7 @@ ghost use Rattle.wi_quantity.specs.Weighing.{components};
 ghost use Rattle.wi_cert.specs.Shown.{IsShown};
 ghost use Rattle.wi_cert.specs.Closed.{IsClosed};
 ghost use Rattle.wi_accept.specs.Causes.{bound_of};
-ghost use Rattle.wi_check.specs.private.Stages.{IsAsked, IsGap, NoneClosed};
+ghost use Rattle.wi_check.specs.private.Stages.{IsGap, NoneClosed};
 
 use crate::heads::first_missing;
 use crate::rows::{Rows, first_open, weight_to};
@@ -42,7 +42,6 @@ pub(crate) fn check_closed(
     shown: &Shown,
     closed: &Closed,
 ) -> Result<(), Gap>
-    requires asked { IsAsked system.now }
     requires shown { IsShown shown.now }
     requires closed { IsClosed shown.now closed.now }
     ensures passed { OnOk result (NoneClosed system.now shown.now closed.now 3) }
@@ -97,7 +96,6 @@ fn check_rows(
     shown: &Shown,
     closed: &Closed,
 ) -> Result<(), Gap>
-    requires asked { IsAsked system.now }
     requires shown { IsShown shown.now }
     requires closed { IsClosed shown.now closed.now }
     requires before { NoneClosed system.now shown.now closed.now 2 }

@@ -7,8 +7,6 @@
 //! it demands, is looked up by halves in the certificate's own sorted lists, of which no copy is made. Besides the certificate it
 //! keeps the run's links, its steps and what one head's rules are.
 ghost use Rattle.std.specs.Prelude.{◌≡◌, IfOk, IfErr, OnOk};
-ghost use Rattle.wi_world.specs.Moves.{AreBounds};
-ghost use Rattle.wi_build.specs.Problems.{IsProblem};
 ghost use Rattle.wi_cert.specs.Text.{IsWritable};
 ghost use Rattle.wi_accept.specs.Answers.{IsDecided, answer_of, word_of};
 ghost use Rattle.wi_accept.specs.Causes.{IsAccepted, IsRefused};
@@ -16,11 +14,8 @@ ghost use Rattle.wi_accept.specs.Causes.{IsAccepted, IsRefused};
 use crate::bounded::{Gap, check_closed};
 use crate::shown::check_shown;
 use std::alloc::Global;
-use wi_build::LazySystem;
+use wi_build::{LazySystem, Problem};
 use wi_cert::{Certificate, CheckRefused, Claim};
-use wi_net::{Bounds, Network};
-use wi_quantity::Vector;
-use wi_query::Query;
 use wi_world::Word;
 
 /// What an accepted certificate says.
@@ -30,44 +25,22 @@ pub struct Accepted {
     pub word: Word,
 }
 
-/// What is asked of a network.
-#[derive(Clone, Copy)]
-pub(crate) struct Asked<'a> {
-    pub net: &'a Network,
-    pub query: &'a Query,
-    pub vector: &'a Vector,
-    pub bounds: &'a Bounds,
-}
-
-/// Whether a certificate can be believed, for a query of the network within bounds of it; runs weigh what the vector says. The
-/// bounds are the query's own for a certificate that answers the query. The first cause against it is told, with what it is about.
-/// Any numbers may stand in it.
+/// Whether a certificate can be believed, for a problem. The first cause against it is told, with what it is about. Any numbers may
+/// stand in it.
 pub fn check(
     alloc: Global,
-    net: &Network,
-    query: &Query,
-    vector: &Vector,
-    bounds: &Bounds,
+    problem: &Problem<'_>,
     certificate: &Certificate,
 ) -> Result<Accepted, CheckRefused>
-    requires bounds { AreBounds net.now bounds.now }
-    requires text { IsWritable certificate.now }
-    ensures accepted { OnOk result (IsAccepted (record { net = net.now; query = query.now; vector = vector.now; bounds = bounds.now }) certificate.now) }
+    requires { IsWritable certificate.now }
+    ensures accepted { OnOk result (IsAccepted problem.now certificate.now) }
     ensures word { IfOk result (λ accepted. accepted.word ≡ word_of certificate.now.shown.claim) }
-    ensures holds { OnOk result (IsDecided (record { net = net.now; query = query.now; vector = vector.now; bounds = bounds.now }) (answer_of (record { net = net.now; query = query.now; vector = vector.now; bounds = bounds.now }) certificate.now.shown)) }
-    ensures refused { IfErr result (IsRefused (record { net = net.now; query = query.now; vector = vector.now; bounds = bounds.now }) certificate.now) }
+    ensures holds { OnOk result (IsDecided problem.now (answer_of problem.now certificate.now.shown)) }
+    ensures refused { IfErr result (IsRefused problem.now certificate.now) }
 {
-    net.keeps();
-    query.keeps();
-    vector.keeps();
-    let asked = Asked {
-        net,
-        query,
-        vector,
-        bounds,
-    };
-    check_shown(alloc, asked, &certificate.shown)?;
-    let system = LazySystem::new(alloc, net, query, vector, bounds)?;
+    problem.keeps();
+    check_shown(alloc, problem, &certificate.shown)?;
+    let system = LazySystem::of(problem);
     match check_closed(alloc, &system, &certificate.shown, &certificate.closed) {
         Ok(()) => Ok(Accepted {
             word: word_of(certificate.shown.claim),

@@ -8,7 +8,6 @@ ghost use Rattle.wi_quantity.specs.Weighing.{components};
 ghost use Rattle.wi_build.specs.Systems.{scale, rules};
 ghost use Rattle.wi_accept.specs.Causes.{rows_of};
 ghost use Rattle.wi_accept.specs.Demands.{row, rows_at, demands, demands_at, demands_of, is_within, is_met, is_open, first_open, weight_to};
-ghost use Rattle.wi_check.specs.private.Stages.{IsAsked};
 ghost use Rattle.wi_check.specs.private.Rows.{AreRows, HaveTerms, summaries, demanded};
 
 use crate::lists::{row_to, rows_at};
@@ -44,8 +43,7 @@ pub(crate) fn first_open(
     rows: Rows<'_>,
     bound: Option<Weight>,
 ) -> Result<Option<Demand>, NoMemory>
-    requires asked { IsAsked system.now }
-    requires rows { AreRows rows }
+    requires { AreRows rows }
     ensures { IfOk result (λ found. option_map demanded found ≡ first_open scale components (rules system.now) heads.now (summaries rows.entry) (option_map components bound)) }
 {
     for head in heads {
@@ -65,10 +63,10 @@ fn open_at_head(
     bound: Option<Weight>,
     head: (u64, u32),
 ) -> Result<Option<Demand>, NoMemory>
-    requires asked { IsAsked system.now }
-    requires rows { AreRows rows }
+    requires { AreRows rows }
     ensures { IfOk result (λ found. option_map demanded found ≡ find (λ d. is_open scale (option_map components bound) (summaries rows.entry) d) (demands_at components (summaries rows.entry) head.0 head.1 (rules system.now head.0 head.1))) }
 {
+    system.keeps();
     let rules = system.rules_of(alloc, head.0, head.1)?;
     Ok(open_by_rules(rows, bound, head, rules.as_slice()))
 }

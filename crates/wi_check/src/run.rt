@@ -1,11 +1,7 @@
-//! The numbers of a certificate as a run, and whether each of its steps can be taken. The packet's header moves in place, so a long
-//! run costs its steps and not the heights of its headers.
-ghost use Rattle.std.specs.Prelude.{◌≡◌, ◌<◌, ℕ, Ok, Err, None, Some, IfOk, length, unwrap_or, slice_get};
+//! The numbers of a certificate as a run. They may be any: what isn't in the network is found when the run is judged.
+ghost use Rattle.std.specs.Prelude.{◌≡◌, IfOk, unwrap_or, slice_get};
 ghost use Rattle.wi_labels.specs.declared.label.Class.TheVariants.{Ip};
-ghost use Rattle.wi_world.specs.declared.run.Step.{Step};
 ghost use Rattle.wi_cert.specs.Shown.{IsShown};
-ghost use Rattle.wi_trace.specs.declared.cause.Cause.{Cause};
-ghost use Rattle.wi_trace.specs.Replays.{moving_fault, moving_cause, first_fault};
 ghost use Rattle.wi_accept.specs.Answers.{run_of, labels_of, steps_of};
 ghost use Rattle.wi_accept.specs.Causes.{ShowsRun};
 
@@ -13,8 +9,8 @@ use std::alloc::Global;
 use wi_base::{Listed, NoMemory};
 use wi_cert::Shown;
 use wi_labels::{Class, Header, Label};
-use wi_net::{Bounds, LinkId, Network};
-use wi_trace::{Location, Run, Step, hop_within, is_start};
+use wi_net::{LinkId, Network};
+use wi_trace::{Run, Step};
 
 /// The run that is shown.
 pub(crate) fn run_of(alloc: Global, net: &Network, shown: &Shown) -> Result<Run, NoMemory>
@@ -71,50 +67,4 @@ fn steps_of(alloc: Global, numbers: &[(u32, u32)]) -> Result<Vec<Step>, NoMemory
         })?;
     }
     Ok(steps)
-}
-
-/// The number of the first step that can't be taken, from 1, if there is one; 0 is the start.
-pub(crate) fn first_fault(
-    alloc: Global,
-    net: &Network,
-    bounds: &Bounds,
-    run: &Run,
-) -> Result<Option<u64>, NoMemory>
-    ensures none { result ≡ Ok None → moving_fault net.now bounds.now run.now ≡ None }
-    ensures fault { (n : ℕ) → result ≡ Ok (Some n) → (why : Cause) × (moving_fault net.now bounds.now run.now ≡ Some (n, why)) }
-{
-    if !is_start(net, &bounds.down, run) {
-        return Ok(Some(0));
-    }
-    let header = match run.header.twin() {
-        Ok(header) => header,
-        Err(_) => return Err(NoMemory::Memory),
-    };
-    fault_after(
-        alloc,
-        net,
-        bounds,
-        (run.first, header),
-        run.steps.as_slice(),
-    )
-}
-
-// The number of the first step that can't be taken, from 1, if there is one.
-#[tactic(auto, using(wi_trace::proofs::WalkLemmas::walk_laws))]
-fn fault_after(
-    alloc: Global,
-    net: &Network,
-    bounds: &Bounds,
-    mut at: Location,
-    steps: &[Step],
-) -> Result<Option<u64>, NoMemory>
-    ensures none { result ≡ Ok None → first_fault net.now (moving_cause net.now bounds.now) 1 at steps.now ≡ None }
-    ensures fault { (n : ℕ) → result ≡ Ok (Some n) → (why : Cause) × (first_fault net.now (moving_cause net.now bounds.now) 1 at steps.now ≡ Some (n, why)) }
-{
-    for (i, step) in steps.iter().enumerate() {
-        if hop_within(alloc, net, bounds, &mut at, *step)?.is_some() {
-            return Ok(Some(i as u64 + 1));
-        }
-    }
-    Ok(None)
 }

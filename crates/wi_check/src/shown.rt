@@ -1,49 +1,48 @@
 //! The run that a certificate or a tree shows is judged as anybody would judge it who has the tables and the query, by walking
 //! along it. Of a no, no run is shown, and nothing here speaks against it.
-ghost use Rattle.std.specs.Prelude.{◌≡◌, ◌<◌, true, false, length, IfErr, OnOk};
+ghost use Rattle.std.specs.Prelude.{◌≡◌, ◌<◌, true, false, IfErr, OnOk};
 ghost use Rattle.wi_cert.specs.Shown.{IsShown};
 ghost use Rattle.wi_accept.specs.Answers.{run_of};
 ghost use Rattle.wi_accept.specs.Causes.{is_wrong, ShowsRun};
-ghost use Rattle.wi_check.specs.private.Stages.{problem_in, IsAsked, IsShownRefused, NoneShown};
+ghost use Rattle.wi_check.specs.private.Stages.{IsShownRefused, NoneShown};
 
-use crate::checker::Asked;
 use crate::matched::{labels_of, matches, travelled};
-use crate::run::{first_fault, run_of};
+use crate::run::run_of;
 use crate::weighed::weighed;
 use crate::weights::weight_of;
 use std::alloc::Global;
+use wi_build::Problem;
 use wi_cert::{CheckRefused, Claim, Part, Shown};
-use wi_trace::{Run, Verdict, verdict};
+use wi_trace::{Run, Verdict, moving_fault, verdict};
 
 /// Checks what is shown: the number of terms, and the run if there is one.
 pub(crate) fn check_shown(
     alloc: Global,
-    asked: Asked<'_>,
+    problem: &Problem<'_>,
     shown: &Shown,
 ) -> Result<(), CheckRefused>
-    requires asked { IsAsked (problem_in asked) }
     requires text { IsShown shown.now }
-    ensures passed { OnOk result (NoneShown (problem_in asked.entry) shown.now 5) }
-    ensures refused { IfErr result (IsShownRefused (problem_in asked.entry) shown.now) }
+    ensures passed { OnOk result (NoneShown problem.now shown.now 5) }
+    ensures refused { IfErr result (IsShownRefused problem.now shown.now) }
 {
-    check_terms(asked, shown)?;
+    check_terms(problem, shown)?;
     if shown.claim == Claim::No {
         return Ok(());
     }
-    let run = run_of(alloc, asked.net, shown)?;
-    check_steps(alloc, asked, shown, &run)?;
-    check_match(alloc, asked, shown, &run)?;
-    check_weight(alloc, asked, shown, &run)?;
-    check_verdict(alloc, asked, shown, &run)
+    let run = run_of(alloc, problem.net(), shown)?;
+    check_steps(alloc, problem, shown, &run)?;
+    check_match(alloc, problem, shown, &run)?;
+    check_weight(alloc, problem, shown, &run)?;
+    check_verdict(alloc, problem, shown, &run)
 }
 
 // Checks that there are as many terms as are asked for.
-fn check_terms(asked: Asked<'_>, shown: &Shown) -> Result<(), CheckRefused>
-    requires asked { IsAsked (problem_in asked) }
-    ensures passed { OnOk result (NoneShown (problem_in asked.entry) shown.now 1) }
-    ensures refused { IfErr result (IsShownRefused (problem_in asked.entry) shown.now) }
+fn check_terms(problem: &Problem<'_>, shown: &Shown) -> Result<(), CheckRefused>
+    ensures passed { OnOk result (NoneShown problem.now shown.now 1) }
+    ensures refused { IfErr result (IsShownRefused problem.now shown.now) }
 {
-    let count = asked.vector.len() as u32;
+    problem.keeps();
+    let count = problem.terms() as u32;
     if shown.terms == count {
         Ok(())
     } else {
@@ -57,45 +56,45 @@ fn check_terms(asked: Asked<'_>, shown: &Shown) -> Result<(), CheckRefused>
 // Checks that each step can be taken at some moment.
 fn check_steps(
     alloc: Global,
-    asked: Asked<'_>,
+    problem: &Problem<'_>,
     shown: &Shown,
     run: &Run,
 ) -> Result<(), CheckRefused>
-    requires run { run.now ≡ run_of asked.net.now shown.now }
+    requires run { run.now ≡ run_of problem.now.net shown.now }
     requires shows { ShowsRun shown.now }
-    requires before { NoneShown (problem_in asked) shown.now 1 }
-    ensures passed { OnOk result (NoneShown (problem_in asked.entry) shown.now 2) }
-    ensures refused { IfErr result (IsShownRefused (problem_in asked.entry) shown.now) }
+    requires before { NoneShown problem.now shown.now 1 }
+    ensures passed { OnOk result (NoneShown problem.now shown.now 2) }
+    ensures refused { IfErr result (IsShownRefused problem.now shown.now) }
 {
-    match first_fault(alloc, asked.net, asked.bounds, run)? {
+    match moving_fault(alloc, problem.net(), problem.bounds(), run)? {
         None => Ok(()),
-        Some(step) => Err(CheckRefused::StepNotInTable(step)),
+        Some((step, _)) => Err(CheckRefused::StepNotInTable(step as u64)),
     }
 }
 
 // Checks that the run has the form that the query asks for.
 fn check_match(
     alloc: Global,
-    asked: Asked<'_>,
+    problem: &Problem<'_>,
     shown: &Shown,
     run: &Run,
 ) -> Result<(), CheckRefused>
-    requires run { run.now ≡ run_of asked.net.now shown.now }
+    requires run { run.now ≡ run_of problem.now.net shown.now }
     requires shows { ShowsRun shown.now }
-    requires before { NoneShown (problem_in asked) shown.now 2 }
-    ensures passed { OnOk result (NoneShown (problem_in asked.entry) shown.now 3) }
-    ensures refused { IfErr result (IsShownRefused (problem_in asked.entry) shown.now) }
+    requires before { NoneShown problem.now shown.now 2 }
+    ensures passed { OnOk result (NoneShown problem.now shown.now 3) }
+    ensures refused { IfErr result (IsShownRefused problem.now shown.now) }
 {
     let first = labels_of(alloc, &run.header)?;
-    if !matches(alloc, &asked.query.first, first.as_slice())? {
+    if !matches(alloc, &problem.query().first, first.as_slice())? {
         return Err(CheckRefused::NoMatch(Part::First));
     }
-    let (links, header) = travelled(alloc, asked.net, run)?;
-    if !matches(alloc, &asked.query.path, links.as_slice())? {
+    let (links, header) = travelled(alloc, problem.net(), run)?;
+    if !matches(alloc, &problem.query().path, links.as_slice())? {
         return Err(CheckRefused::NoMatch(Part::Path));
     }
     let last = labels_of(alloc, &header)?;
-    if !matches(alloc, &asked.query.last, last.as_slice())? {
+    if !matches(alloc, &problem.query().last, last.as_slice())? {
         return Err(CheckRefused::NoMatch(Part::Last));
     }
     Ok(())
@@ -104,20 +103,19 @@ fn check_match(
 // Checks that the run weighs what is said.
 fn check_weight(
     alloc: Global,
-    asked: Asked<'_>,
+    problem: &Problem<'_>,
     shown: &Shown,
     run: &Run,
 ) -> Result<(), CheckRefused>
-    requires asked { IsAsked (problem_in asked) }
     requires text { IsShown shown.now }
-    requires run { run.now ≡ run_of asked.net.now shown.now }
+    requires run { run.now ≡ run_of problem.now.net shown.now }
     requires shows { ShowsRun shown.now }
-    requires before { NoneShown (problem_in asked) shown.now 3 }
-    ensures passed { OnOk result (NoneShown (problem_in asked.entry) shown.now 4) }
-    ensures refused { IfErr result (IsShownRefused (problem_in asked.entry) shown.now) }
+    requires before { NoneShown problem.now shown.now 3 }
+    ensures passed { OnOk result (NoneShown problem.now shown.now 4) }
+    ensures refused { IfErr result (IsShownRefused problem.now shown.now) }
 {
     let said = weight_of(shown.terms, shown.weight.as_slice());
-    let counted = weighed(alloc, asked.net, asked.vector, run)?;
+    let counted = weighed(alloc, problem.net(), problem.vector(), run)?;
     if said == counted {
         Ok(())
     } else {
@@ -131,17 +129,17 @@ fn check_weight(
 // Checks that the answer's word is the one for the run.
 fn check_verdict(
     alloc: Global,
-    asked: Asked<'_>,
+    problem: &Problem<'_>,
     shown: &Shown,
     run: &Run,
 ) -> Result<(), CheckRefused>
-    requires asked { IsAsked (problem_in asked) }
-    requires run { run.now ≡ run_of asked.net.now shown.now }
-    requires before { NoneShown (problem_in asked) shown.now 4 }
-    ensures passed { OnOk result (NoneShown (problem_in asked.entry) shown.now 5) }
-    ensures refused { IfErr result (IsShownRefused (problem_in asked.entry) shown.now) }
+    requires run { run.now ≡ run_of problem.now.net shown.now }
+    requires before { NoneShown problem.now shown.now 4 }
+    ensures passed { OnOk result (NoneShown problem.now shown.now 5) }
+    ensures refused { IfErr result (IsShownRefused problem.now shown.now) }
 {
-    let verdict = verdict(alloc, asked.net, run, asked.bounds)?;
+    problem.keeps();
+    let verdict = verdict(alloc, problem.net(), run, problem.bounds())?;
     if is_wrong(shown.claim, &verdict) {
         Err(CheckRefused::WrongAnswer)
     } else {

@@ -6,6 +6,7 @@ use crate::asked::{Change, certificate_of, query_of, text_of, vector_of};
 use std::alloc::Global;
 use std::process::Abort;
 use std::test::Fail;
+use wi_build::Problem;
 use wi_cert::{Certificate, CheckRefused, ClosedRefused, Part, Weight};
 use wi_check::{Accepted, check};
 use wi_net::Network;
@@ -310,7 +311,7 @@ fn checks(
     requires text { IsWritable certificate.now }
 {
     let vector = vector_of(alloc, weights)?;
-    let found = check(alloc, net, query, &vector, &query.bounds, certificate);
+    let found = check(alloc, &Problem::of(net, query, &vector), certificate);
     drop(vector);
     Ok(match found {
         Ok(Accepted { word }) => Ok(word),

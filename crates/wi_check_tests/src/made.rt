@@ -8,6 +8,7 @@ use crate::changed::{QUERY, YES};
 use std::alloc::Global;
 use std::process::Abort;
 use std::test::Fail;
+use wi_build::Problem;
 use wi_cert::{Certificate, encode};
 use wi_check::check;
 use wi_decide::decide;
@@ -61,16 +62,10 @@ const LONGEST: &[Case] = &[(
 )];
 
 // The answer's word, and its certificate.
-fn made(
-    alloc: Global,
-    net: &Network,
-    query: &Query,
-    vector: &Vector,
-) -> Result<(Word, Certificate), Fail>
-    requires { AreBounds net.now query.now.bounds }
+fn made(alloc: Global, problem: &Problem<'_>) -> Result<(Word, Certificate), Fail>
     ensures { IfOk result (λ found. IsWritable found.1) }
 {
-    match decide(alloc, net, query, vector) {
+    match decide(alloc, problem) {
         Ok((answer, certificate)) => {
             let word = answer.word;
             drop(answer);
@@ -83,15 +78,11 @@ fn made(
 fn accepts(
     rt: &impl Abort,
     alloc: Global,
-    net: &Network,
-    query: &Query,
-    vector: &Vector,
+    problem: &Problem<'_>,
     expected: Word,
-) -> Result<(), Fail>
-    requires { AreBounds net.now query.now.bounds }
-{
-    let (word, certificate) = made(alloc, net, query, vector)?;
-    let found = check(alloc, net, query, vector, &query.bounds, &certificate);
+) -> Result<(), Fail> {
+    let (word, certificate) = made(alloc, problem)?;
+    let found = check(alloc, problem, &certificate);
     drop(certificate);
     assert_eq!(rt; word, expected);
     match found {
@@ -111,7 +102,7 @@ fn accepts_weighed(
     requires { AreBounds net.now query.now.bounds }
 {
     let vector = vector_of(alloc, case.1)?;
-    let outcome = accepts(rt, alloc, net, query, &vector, case.2);
+    let outcome = accepts(rt, alloc, &Problem::of(net, query, &vector), case.2);
     drop(vector);
     outcome
 }
@@ -180,7 +171,7 @@ fn text_is(
     requires { AreBounds net.now query.now.bounds }
 {
     let vector = Vector::new(alloc);
-    let found = made(alloc, net, query, &vector);
+    let found = made(alloc, &Problem::of(net, query, &vector));
     drop(vector);
     let (_, certificate) = found?;
     let text = encode(alloc, &certificate);

@@ -1,17 +1,15 @@
 //! What can come up at all is found first, so that least summaries are looked for there alone; the rules are made for both, and
 //! so twice. A least run may be far longer than all that it was found by, so one of more than 4,096 rules is refused before it
 //! is unfolded.
-ghost use Rattle.std.specs.Prelude.{◌≡◌, ◌^◌, ◌<◌, ◌≤◌, ℕ, List, Option, length, true, IsSome, IfSome, IfOk, IfErr, OnOk, option_map};
+ghost use Rattle.std.specs.Prelude.{◌≡◌, ◌^◌, ◌<◌, ◌≤◌, Option, IsSome, IfSome, IfOk, IfErr, OnOk, option_map};
 ghost use Rattle.wi_weight.specs.Weights.{EachBelow};
 ghost use Rattle.wi_weight.specs.declared.kinds.Pair.{Pair};
 ghost use Rattle.wi_weight.specs.declared.kinds.Terms.{Terms};
 ghost use Rattle.wi_weight.specs.declared.kinds.Effort.{Effort};
-ghost use Rattle.wi_world.specs.Moves.{AreBounds};
-ghost use Rattle.wi_quantity.specs.Vectors.{is_vector};
 ghost use Rattle.wi_quantity.specs.Weighing.{components};
 ghost use Rattle.wi_pds.specs.Closed.{AreClosed};
 ghost use Rattle.wi_witness.specs.GoalRuns.{IsNamedRun};
-ghost use Rattle.wi_build.specs.Problems.{Problem, IsProblem, IsAnswering, problem_in};
+ghost use Rattle.wi_build.specs.Problems.{Problem, IsAnswering};
 ghost use Rattle.wi_build.specs.Encodings.{encoding_of};
 ghost use Rattle.wi_build.specs.Systems.{scale, rules_by};
 ghost use Rattle.wi_decide.specs.Searches.{AllFitBelow, IsFound, IsUnsearched, IsWrittenDown, bound_with};
@@ -23,12 +21,10 @@ use crate::spelling::run_of;
 use std::alloc::Global;
 use std::marker::Brand;
 use std::sync::ledger::{Blank, Ledger};
-use wi_build::{Layout, LazySystem};
+use wi_build::{LazySystem, Problem};
 use wi_cert::Closed;
-use wi_net::{Bounds, Network};
 use wi_pds::{Heads, RuleId};
-use wi_quantity::{Vector, Weight};
-use wi_query::Query;
+use wi_quantity::Weight;
 use wi_reduce::reach;
 use wi_saturate::{LeastRefused, Steps, Table, least};
 use wi_witness::{UnfoldRefused, unfold};
@@ -54,55 +50,40 @@ pub struct Searched {
     pub closed: Closed,
 }
 
-/// A least run that matches a query and moves within bounds, if one weighs less than the cut; without a cut any may. Runs weigh
-/// what the vector says, and one is shown where its effort is at most 4,096; each component of its weight is at most 2^64 - 1. The
-/// bounds may be others than the query's own.
+/// A least run that answers a problem, if one weighs less than the cut; without a cut any may. One is shown where its effort is at
+/// most 4,096, and each component of its weight is at most 2^64 - 1.
 pub fn search(
     alloc: Global,
-    net: &Network,
-    query: &Query,
-    vector: &Vector,
-    bounds: &Bounds,
+    problem: &Problem<'_>,
     cut: Option<Weight>,
 ) -> Result<Searched, SearchRefused>
-    requires { AreBounds net.now bounds.now }
-    ensures found { IfOk result (λ s. IsFound (problem_in net.now query.now vector.now bounds.now) (option_map components cut) s.found) }
-    ensures closed { IfOk result (λ s. IsWrittenDown (problem_in net.now query.now vector.now bounds.now) (bound_with (option_map components cut) s.found) s.closed) }
-    ensures fits { OnOk result (AllFitBelow (problem_in net.now query.now vector.now bounds.now) (option_map components cut)) }
+    ensures found { IfOk result (λ s. IsFound problem.now (option_map components cut) s.found) }
+    ensures closed { IfOk result (λ s. IsWrittenDown problem.now (bound_with (option_map components cut) s.found) s.closed) }
+    ensures fits { OnOk result (AllFitBelow problem.now (option_map components cut)) }
     ensures small { IfOk result (λ s. IfSome s.found (λ found. EachBelow (2 ^ 64) (components found.weight))) }
-    ensures refused { IfErr result (λ refused. IsUnsearched (problem_in net.now query.now vector.now bounds.now) (option_map components cut) refused) }
+    ensures refused { IfErr result (IsUnsearched problem.now (option_map components cut)) }
 {
-    net.keeps();
-    query.keeps();
-    vector.keeps();
-    let system = LazySystem::new(alloc, net, query, vector, bounds)?;
-    search_by(alloc, net, query, &system, vector.len() as u32, cut)
+    let system = LazySystem::of(problem);
+    search_by(alloc, &system, cut)
 }
 
-// What is found for the problem of a system, with so many terms in the weights that are written down.
+// What is found for the problem of a system.
 fn search_by(
     alloc: Global,
-    net: &Network,
-    query: &Query,
     system: &LazySystem<'_>,
-    terms: u32,
     cut: Option<Weight>,
 ) -> Result<Searched, SearchRefused>
-    requires problem { IsProblem system.now }
-    requires net { system.now.net ≡ net.now }
-    requires query { system.now.query ≡ query.now }
-    requires vector { is_vector system.now.vector ≡ true }
-    requires terms { terms ≡ length system.now.vector }
     ensures found { IfOk result (λ s. IsFound system.now (option_map components cut) s.found) }
     ensures closed { IfOk result (λ s. IsWrittenDown system.now (bound_with (option_map components cut) s.found) s.closed) }
     ensures fits { OnOk result (AllFitBelow system.now (option_map components cut)) }
     ensures small { IfOk result (λ s. IfSome s.found (λ found. EachBelow (2 ^ 64) (components found.weight))) }
-    ensures refused { IfErr result (λ refused. IsUnsearched system.now (option_map components cut) refused) }
+    ensures refused { IfErr result (IsUnsearched system.now (option_map components cut)) }
 {
+    system.keeps();
     let heads = reach(alloc, system)?;
     let table = table_of::<Brand, Brand>(alloc, system, &heads, cut, Blank::new(1), Blank::new(1))?;
-    let found = found_of(alloc, net, query, system, &table)?;
-    let closed = closed_of(alloc, terms, heads, &table)?;
+    let found = found_of(alloc, system, &table)?;
+    let closed = closed_of(alloc, system.problem().terms() as u32, heads, &table)?;
     Ok(Searched { found, closed })
 }
 
@@ -122,12 +103,11 @@ fn table_of<L: Ledger, M: Ledger>(
     requires other_name { other.name ≡ M.name }
     requires other_parts { other.parts ≡ M.parts }
     requires other_some { 0 < other.parts }
-    requires problem { IsProblem system.now }
-    requires vector { is_vector system.now.vector ≡ true }
     requires closed { AreClosed (rules_by (encoding_of system.now)) (0, 0) heads.now.heads heads.now.pairs }
     ensures table { IfOk result (λ table. IsTable system.now heads.now.heads cut table) }
     ensures refused { IfErr result (λ refused. IsNoTable system.now heads.now.heads cut refused) }
 {
+    system.keeps();
     let mut steps = Steps::<L>::open(blank);
     let mut tries = Steps::<M>::open(other);
     match least(alloc, system, heads, (0, 0, 1), cut, &mut steps, &mut tries) {
@@ -150,46 +130,38 @@ fn table_of<L: Ledger, M: Ledger>(
 // The least run that a table tells: without a run to the goal there is none below its cut.
 fn found_of(
     alloc: Global,
-    net: &Network,
-    query: &Query,
     system: &LazySystem<'_>,
     table: &Table<Weight>,
 ) -> Result<Option<LeastRun>, SearchRefused>
-    requires problem { IsProblem system.now }
-    requires net { system.now.net ≡ net.now }
-    requires query { system.now.query ≡ query.now }
-    requires table { (cut : Option (Pair Terms Effort)) × HasTable system.now cut table.now }
+    requires { (cut : Option (Pair Terms Effort)) × HasTable system.now cut table.now }
     ensures weight { IfOk result (λ found. option_map (λ f. f.weight) found ≡ table.now.best) }
     ensures found { IfOk result (λ found. (cut : Option (Pair Terms Effort)) → HasTable system.now cut table.now → IsFound system.now (option_map components cut) found) }
     ensures refused { IfErr result (λ refused. (cut : Option (Pair Terms Effort)) → HasTable system.now cut table.now → IsUnsearched system.now (option_map components cut) refused) }
 {
+    system.keeps();
     let Some(weight) = table.best() else {
         return Ok(None);
     };
-    let run = least_run(alloc, net, query, system, table)?;
+    let run = least_run(alloc, system, table)?;
     Ok(Some(LeastRun { weight, run }))
 }
 
 // The run of the network that a table's goal run spells.
 fn least_run(
     alloc: Global,
-    net: &Network,
-    query: &Query,
     system: &LazySystem<'_>,
     table: &Table<Weight>,
 ) -> Result<Run, SearchRefused>
-    requires problem { IsProblem system.now }
-    requires net { system.now.net ≡ net.now }
-    requires query { system.now.query ≡ query.now }
     requires table { (cut : Option (Pair Terms Effort)) × HasTable system.now cut table.now }
     requires reached { IsSome table.now.best }
     ensures run { IfOk result (λ run. IfSome table.now.best (λ w. IsAnswering system.now (components w) run)) }
     ensures short { OnOk result (IfSome table.now.best (λ w. w.second.count ≤ 4096)) }
     ensures refused { IfErr result (λ refused. IfSome table.now.best (λ w. IsNotShown w.second.count refused)) }
 {
+    system.keeps();
     let ids = goal_run(alloc, table)?;
-    let layout = Layout::of(net, query);
-    Ok(run_of(alloc, net, &layout, system, ids.as_slice())?)
+    let net = system.problem().net();
+    Ok(run_of(alloc, net, system.layout(), system, ids.as_slice())?)
 }
 
 // The rules of a goal run of the goal's weight, if they aren't too many.

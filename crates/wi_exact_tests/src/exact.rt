@@ -6,6 +6,7 @@ use std::alloc::Global;
 use std::process::Abort;
 use std::test::Fail;
 use wi_branch::{ExactRefused, Opened, exact};
+use wi_build::Problem;
 use wi_cert::Node as TreeNode;
 use wi_net::{FailSet, LinkId, Network};
 use wi_quantity::Vector;
@@ -116,17 +117,8 @@ fn refused_is(rt: &impl Abort, refused: &ExactRefused, case: &Case) {
     }
 }
 
-fn answers(
-    rt: &impl Abort,
-    alloc: Global,
-    net: &Network,
-    query: &Query,
-    vector: &Vector,
-    case: &Case,
-)
-    requires { AreBounds net.now query.now.bounds }
-{
-    match exact(alloc, net, query, case.k, vector, case.limit.min(LIMIT)) {
+fn answers(rt: &impl Abort, alloc: Global, problem: &Problem<'_>, case: &Case) {
+    match exact(alloc, problem, case.k, case.limit.min(LIMIT)) {
         Ok((answer, tree)) => {
             answer_is(rt, &answer, case.outcome);
             nodes_are(rt, tree.nodes.as_slice(), case.nodes);
@@ -143,7 +135,7 @@ fn answers(
 fn case_is(rt: &impl Abort, alloc: Global, net: &Network, case: &Case) -> Result<(), Fail> {
     let query = query_of(alloc, net, case.text)?;
     let vector = Vector::new(alloc);
-    answers(rt, alloc, net, &query, &vector, case);
+    answers(rt, alloc, &Problem::of(net, &query, &vector), case);
     drop(vector);
     drop(query);
     Ok(())

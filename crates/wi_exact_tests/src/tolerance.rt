@@ -1,11 +1,11 @@
 //! How many failures it takes, by example.
-ghost use Rattle.wi_world.specs.Moves.{AreBounds};
 
 use crate::exact::{query_of, set_is};
 use std::alloc::Global;
 use std::process::Abort;
 use std::test::Fail;
 use wi_branch::{ExactRefused, Tolerance, TolerateRefused, tolerate};
+use wi_build::Problem;
 use wi_cert::{Claim, TreeCertificate};
 use wi_net::Network;
 use wi_quantity::Vector;
@@ -80,10 +80,8 @@ fn refused_is(rt: &impl Abort, refused: &TolerateRefused, outcome: Outcome) {
     }
 }
 
-fn tells(rt: &impl Abort, alloc: Global, net: &Network, query: &Query, vector: &Vector, case: &Case)
-    requires { AreBounds net.now query.now.bounds }
-{
-    match tolerate(alloc, net, query, vector, case.1, case.2.min(LIMIT)) {
+fn tells(rt: &impl Abort, alloc: Global, problem: &Problem<'_>, case: &Case) {
+    match tolerate(alloc, problem, case.1, case.2.min(LIMIT)) {
         Ok(found) => {
             found_is(rt, &found, case.3);
             drop(found);
@@ -98,7 +96,7 @@ fn tells(rt: &impl Abort, alloc: Global, net: &Network, query: &Query, vector: &
 fn case_is(rt: &impl Abort, alloc: Global, net: &Network, case: &Case) -> Result<(), Fail> {
     let query = query_of(alloc, net, case.0)?;
     let vector = Vector::new(alloc);
-    tells(rt, alloc, net, &query, &vector, case);
+    tells(rt, alloc, &Problem::of(net, &query, &vector), case);
     drop(vector);
     drop(query);
     Ok(())

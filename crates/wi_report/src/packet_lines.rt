@@ -3,7 +3,6 @@
 ghost use Rattle.std.specs.Prelude.{◌≡◌, ◌++◌, true, length, IfOk, OnOk, IfSome};
 ghost use Rattle.std.specs.List.{list_all};
 ghost use Rattle.wi_net.specs.Net.{is_link, labels_known};
-ghost use Rattle.wi_world.specs.Moves.{AreBounds};
 ghost use Rattle.wi_wire.specs.declared.refused.NoValue.{NoValue};
 ghost use Rattle.wi_wire.specs.Stacks.{each_entry, is_entry, s_of};
 ghost use Rattle.wi_report.specs.Packets.{entry_shown, last_shown, later_packets, packet_line, packet_shown, packets_of, packets_shown};
@@ -14,10 +13,9 @@ use crate::reports::{hop, report, twin_of};
 use crate::shown::put_label;
 use std::alloc::Global;
 use wi_base::NoMemory;
+use wi_build::Problem;
 use wi_labels::Header;
 use wi_net::{LinkId, Network};
-use wi_quantity::Vector;
-use wi_query::Query;
 use wi_text::Text;
 use wi_trace::Answer;
 use wi_wire::{Entry, NoValue, entries_of};
@@ -29,20 +27,13 @@ const TTL: u8 = 64;
 /// The report on an answer, and then, where the answer shows a run, a line for each link of the run: `packet`, its number from 1,
 /// and the packet there. It is the label stack as it is on the wire (RFC 3032, section 2.1), four bytes in hexadecimal for each
 /// entry, and the `ip` label; or, where a label's name is no value, that the first such label has none. Every entry has the TTL 64.
-pub fn packets(
-    alloc: Global,
-    net: &Network,
-    query: &Query,
-    vector: &Vector,
-    answer: &Answer,
-) -> Result<Text, NoMemory>
-    requires bounds { AreBounds net.now query.now.bounds }
-    requires run { IfSome answer.now.run (IsKnownRun net.now) }
-    ensures { IfOk result (λ text. text ≡ report_of net.now query.now.bounds (length vector.now) answer.now ++ packets_of net.now answer.now.run) }
+pub fn packets(alloc: Global, problem: &Problem<'_>, answer: &Answer) -> Result<Text, NoMemory>
+    requires { IfSome answer.now.run (IsKnownRun problem.now.net) }
+    ensures { IfOk result (λ text. text ≡ report_of problem.now.net problem.now.bounds (length problem.now.vector) answer.now ++ packets_of problem.now.net answer.now.run) }
 {
-    let mut text = report(alloc, net, query, vector, answer)?;
+    let mut text = report(alloc, problem, answer)?;
     if let Some(run) = &answer.run {
-        put_packets(alloc, net, run, &mut text)?;
+        put_packets(alloc, problem.net(), run, &mut text)?;
     }
     Ok(text)
 }

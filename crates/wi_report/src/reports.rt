@@ -16,48 +16,38 @@ ghost use Rattle.wi_report.specs.private.Modes.{mode_line};
 use crate::shown::{put_counted, put_known, put_links, put_location};
 use std::alloc::Global;
 use wi_base::NoMemory;
+use wi_build::Problem;
 use wi_labels::{Applied, Header};
 use wi_net::{Bounds, FailSet, LinkId, Network};
-use wi_quantity::{Vector, Weight};
-use wi_query::Query;
+use wi_quantity::Weight;
 use wi_text::Text;
 use wi_trace::{Answer, needs};
 use wi_world::{Run, Step, Verdict, Word};
 
-/// The report on an answer to a query, where runs are weighed by a vector. Its first line is `answer:` and the answer's word.
+/// The report on an answer to a problem. Its first line is `answer:` and the answer's word.
 /// Where the answer shows a run, then come `weight:` and the values of the vector's terms, or `none` where it has no term;
 /// `effort:`; `failed:` and the links that must fail, or `needs:` and these and then `cause:` and why they may not;
 /// `moving: yes`; `links:` and how many links the run has; and a line for each of these: the link, the header, and the group
 /// and the member, from 1, that led there. Where it shows none, the second line is `moving: no`.
-pub fn report(
-    alloc: Global,
-    net: &Network,
-    query: &Query,
-    vector: &Vector,
-    answer: &Answer,
-) -> Result<Text, NoMemory>
-    requires bounds { AreBounds net.now query.now.bounds }
-    requires run { IfSome answer.now.run (IsKnownRun net.now) }
-    ensures { IfOk result (λ text. text ≡ report_of net.now query.now.bounds (length vector.now) answer.now) }
+pub fn report(alloc: Global, problem: &Problem<'_>, answer: &Answer) -> Result<Text, NoMemory>
+    requires { IfSome answer.now.run (IsKnownRun problem.now.net) }
+    ensures { IfOk result (λ text. text ≡ report_of problem.now.net problem.now.bounds (length problem.now.vector) answer.now) }
 {
-    report_in(Mode::Moving, alloc, net, query, vector, answer)
+    report_in(Mode::Moving, alloc, problem, answer)
 }
 
-/// The report on an exact answer to a query, where runs are weighed by a vector. It is that of `report` with `nodes:` and how many
-/// nodes the answer's tree has in the place of `moving: yes` and of `moving: no`.
+/// The report on an exact answer to a problem. It is that of `report` with `nodes:` and how many nodes the answer's tree has in the
+/// place of `moving: yes` and of `moving: no`.
 pub fn exact_report(
     alloc: Global,
-    net: &Network,
-    query: &Query,
-    vector: &Vector,
+    problem: &Problem<'_>,
     answer: &Answer,
     nodes: usize,
 ) -> Result<Text, NoMemory>
-    requires bounds { AreBounds net.now query.now.bounds }
-    requires run { IfSome answer.now.run (IsKnownRun net.now) }
-    ensures { IfOk result (λ text. text ≡ exact_report_of net.now query.now.bounds (length vector.now) answer.now nodes) }
+    requires { IfSome answer.now.run (IsKnownRun problem.now.net) }
+    ensures { IfOk result (λ text. text ≡ exact_report_of problem.now.net problem.now.bounds (length problem.now.vector) answer.now nodes) }
 {
-    report_in(Mode::Exact(nodes), alloc, net, query, vector, answer)
+    report_in(Mode::Exact(nodes), alloc, problem, answer)
 }
 
 /// How an answer was found, which one line of its report tells.
@@ -73,17 +63,14 @@ pub(crate) enum Mode {
 fn report_in(
     mode: Mode,
     alloc: Global,
-    net: &Network,
-    query: &Query,
-    vector: &Vector,
+    problem: &Problem<'_>,
     answer: &Answer,
 ) -> Result<Text, NoMemory>
-    requires bounds { AreBounds net.now query.now.bounds }
-    requires run { IfSome answer.now.run (IsKnownRun net.now) }
-    ensures { IfOk result (λ text. text ≡ report_with (mode_line mode) net.now query.now.bounds (length vector.now) answer.now) }
+    requires { IfSome answer.now.run (IsKnownRun problem.now.net) }
+    ensures { IfOk result (λ text. text ≡ report_with (mode_line mode) problem.now.net problem.now.bounds (length problem.now.vector) answer.now) }
 {
     let mut text = Text::new(alloc);
-    put_report(mode, alloc, net, query, vector, answer, &mut text)?;
+    put_report(mode, alloc, problem, answer, &mut text)?;
     Ok(text)
 }
 
@@ -91,18 +78,15 @@ fn report_in(
 pub(crate) fn put_report(
     mode: Mode,
     alloc: Global,
-    net: &Network,
-    query: &Query,
-    vector: &Vector,
+    problem: &Problem<'_>,
     answer: &Answer,
     text: &mut Text,
 ) -> Result<(), NoMemory>
-    requires bounds { AreBounds net.now query.now.bounds }
-    requires run { IfSome answer.now.run (IsKnownRun net.now) }
-    ensures { OnOk result (text.new ≡ text.old ++ report_with (mode_line mode) net.now query.now.bounds (length vector.now) answer.now) }
+    requires { IfSome answer.now.run (IsKnownRun problem.now.net) }
+    ensures { OnOk result (text.new ≡ text.old ++ report_with (mode_line mode) problem.now.net problem.now.bounds (length problem.now.vector) answer.now) }
 {
     put_answered(answer.word, text)?;
-    put_found(mode, alloc, net, &query.bounds, vector.len(), answer, text)
+    put_found(mode, alloc, problem, answer, text)
 }
 
 /// Adds the line of the answer's word.
@@ -139,20 +123,19 @@ fn put_word(word: Word, text: &mut Text) -> Result<(), NoMemory>
 fn put_found(
     mode: Mode,
     alloc: Global,
-    net: &Network,
-    bounds: &Bounds,
-    terms: usize,
+    problem: &Problem<'_>,
     answer: &Answer,
     text: &mut Text,
 ) -> Result<(), NoMemory>
-    requires bounds { AreBounds net.now bounds.now }
-    requires run { IfSome answer.now.run (IsKnownRun net.now) }
-    ensures { OnOk result (text.new ≡ text.old ++ found_shown (mode_line mode) net.now bounds.now terms answer.now.weight answer.now.run answer.now.verdict) }
+    requires { IfSome answer.now.run (IsKnownRun problem.now.net) }
+    ensures { OnOk result (text.new ≡ text.old ++ found_shown (mode_line mode) problem.now.net problem.now.bounds (length problem.now.vector) answer.now.weight answer.now.run answer.now.verdict) }
 {
+    problem.keeps();
+    let net = problem.net();
     match (&answer.weight, &answer.run, &answer.verdict) {
         (Some(weight), Some(run), Some(verdict)) => {
-            put_weight(terms, weight, text)?;
-            put_verdict(alloc, net, bounds, run, verdict, text)?;
+            put_weight(problem.terms(), weight, text)?;
+            put_verdict(alloc, net, problem.bounds(), run, verdict, text)?;
             put_mode(mode, true, text)?;
             put_listed(net, run, text)
         }

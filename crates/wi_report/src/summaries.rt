@@ -9,33 +9,29 @@ use crate::reports::{put_answered, put_weight};
 use crate::shown::put_counted;
 use std::alloc::Global;
 use wi_base::NoMemory;
+use wi_build::Problem;
 use wi_net::{Bounds, Network};
-use wi_quantity::Vector;
-use wi_query::Query;
 use wi_text::Text;
 use wi_trace::{Answer, needs};
 use wi_world::Run;
 
-/// The summary of a network that was generated from a seed and a size, and of the answer to a query of it. Its lines are `gen:`
+/// The summary of a network that was generated from a seed and a size, and of the answer to a problem of it. Its lines are `gen:`
 /// with both; `routers:`, `links:`, `labels:` and `entries:` with how many there are; `answer:` and the answer's word; `weight:`
 /// and the values of the vector's terms, `effort:`, and `failed:` with how many links the run needs to have failed, each `none`
 /// for a no; and that the answer's certificate was accepted, which the caller has seen.
 pub fn summary(
     alloc: Global,
     ring: (u64, u32),
-    net: &Network,
-    query: &Query,
-    vector: &Vector,
+    problem: &Problem<'_>,
     answer: &Answer,
 ) -> Result<Text, NoMemory>
-    requires { AreBounds net.now query.now.bounds }
-    ensures { IfOk result (λ text. text ≡ summary_of ring.0 ring.1 net.now query.now.bounds (length vector.now) answer.now) }
+    ensures { IfOk result (λ text. text ≡ summary_of ring.0 ring.1 problem.now.net problem.now.bounds (length problem.now.vector) answer.now) }
 {
     let mut text = Text::new(alloc);
     put_seed(ring.0, ring.1, &mut text)?;
-    put_parts(net, &mut text)?;
+    put_parts(problem.net(), &mut text)?;
     put_answered(answer.word, &mut text)?;
-    put_run_summed(alloc, net, &query.bounds, vector.len(), answer, &mut text)?;
+    put_run_summed(alloc, problem, answer, &mut text)?;
     text.put("certificate: accepted\n")?;
     Ok(text)
 }
@@ -70,19 +66,17 @@ fn put_parts(net: &Network, text: &mut Text) -> Result<(), NoMemory>
 // Adds what an answer shows besides its word.
 fn put_run_summed(
     alloc: Global,
-    net: &Network,
-    bounds: &Bounds,
-    terms: usize,
+    problem: &Problem<'_>,
     answer: &Answer,
     text: &mut Text,
 ) -> Result<(), NoMemory>
-    requires { AreBounds net.now bounds.now }
-    ensures { OnOk result (text.new ≡ text.old ++ run_summed net.now bounds.now terms answer.now.weight answer.now.run) }
+    ensures { OnOk result (text.new ≡ text.old ++ run_summed problem.now.net problem.now.bounds (length problem.now.vector) answer.now.weight answer.now.run) }
 {
+    problem.keeps();
     match (&answer.weight, &answer.run) {
         (Some(weight), Some(run)) => {
-            put_weight(terms, weight, text)?;
-            put_failed(alloc, net, bounds, run, text)
+            put_weight(problem.terms(), weight, text)?;
+            put_failed(alloc, problem.net(), problem.bounds(), run, text)
         }
         _ => text.put("weight: none\neffort: none\nfailed: none\n"),
     }

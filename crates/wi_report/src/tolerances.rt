@@ -1,7 +1,6 @@
 //! The report on the exact answer is added behind the line of the least number, and isn't made as a text of its own first: it is
 //! written once, and nothing is copied.
 ghost use Rattle.std.specs.Prelude.{◌≡◌, length, IfOk, IfSome};
-ghost use Rattle.wi_world.specs.Moves.{AreBounds};
 ghost use Rattle.wi_report.specs.Reports.{IsKnownRun};
 ghost use Rattle.wi_report.specs.Tolerances.{none_up_to_text, tolerance_report_of};
 
@@ -9,38 +8,24 @@ use crate::reports::{Mode, put_report};
 use crate::shown::put_counted;
 use std::alloc::Global;
 use wi_base::NoMemory;
-use wi_net::Network;
-use wi_quantity::Vector;
-use wi_query::Query;
+use wi_build::Problem;
 use wi_text::Text;
 use wi_trace::Answer;
 
-/// The report on how many failures it takes for a yes to a query, where runs are weighed by a vector. Its first line is `least:`
-/// and the number; then come the lines of `exact_report` on the exact answer there, whose tree has so many nodes.
+/// The report on how many failures it takes for a yes to a problem. Its first line is `least:` and the number; then come the lines of `exact_report` on the exact answer there, whose tree has so many nodes.
 pub fn tolerance_report(
     alloc: Global,
-    net: &Network,
-    query: &Query,
-    vector: &Vector,
+    problem: &Problem<'_>,
     k: u32,
     answer: &Answer,
     nodes: usize,
 ) -> Result<Text, NoMemory>
-    requires bounds { AreBounds net.now query.now.bounds }
-    requires run { IfSome answer.now.run (IsKnownRun net.now) }
-    ensures { IfOk result (λ text. text ≡ tolerance_report_of net.now query.now.bounds (length vector.now) k answer.now nodes) }
+    requires { IfSome answer.now.run (IsKnownRun problem.now.net) }
+    ensures { IfOk result (λ text. text ≡ tolerance_report_of problem.now.net problem.now.bounds (length problem.now.vector) k answer.now nodes) }
 {
     let mut text = Text::new(alloc);
     put_counted("least: ", k as usize, "\n", &mut text)?;
-    put_report(
-        Mode::Exact(nodes),
-        alloc,
-        net,
-        query,
-        vector,
-        answer,
-        &mut text,
-    )?;
+    put_report(Mode::Exact(nodes), alloc, problem, answer, &mut text)?;
     Ok(text)
 }
 

@@ -20,7 +20,10 @@ fault_here net cause n at step steps why h = rw (h, first_fault) refl
 pub locations_next : (net : Net) (at : Location) (step : Step) (steps : List Step) (next : Location) → moved net at step ≡ Some next → locations net at (step ∷ steps) ≡ at ∷ locations net next steps
 locations_next net at step steps next m = rw m refl
 
-pub ruleset walk_laws = (fault_next, fault_here, locations_next)
+pub locations_last : (net : Net) (at : Location) (step : Step) (steps : List Step) → moved net at step ≡ None → locations net at (step ∷ steps) ≡ at ∷ []
+locations_last net at step steps m = rw m refl
+
+pub ruleset walk_laws = (fault_next, fault_here, locations_next, locations_last)
 
 pub gathered_on : (net : Net) (s : List LinkId) (at : Location) (step : Step) (steps : List Step) (next : Location) → moved net at step ≡ Some next → gathered net s at (step ∷ steps) ≡ gathered net (union s (needed net at step)) next steps
 gathered_on net s at step steps next m = rw m refl

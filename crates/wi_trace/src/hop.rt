@@ -1,13 +1,13 @@
 //! Single steps are judged here for both worlds, which differ in what stands against a link. The packet moves in place: a step
 //! costs its operations and not the height of the header, and leaves the packet where it was if it isn't allowed. In the moving
 //! world it takes the set of links before its group besides.
-ghost use Rattle.std.specs.Prelude.{◌≡◌, ℕ, true, false, IfOk, IfErr, OnErr, OnOk};
+ghost use Rattle.std.specs.Prelude.{◌≡◌, ℕ, true, false, IfOk, IfErr, OnErr};
 ghost use Rattle.wi_world.specs.Moves.{groups_at, moved};
 ghost use Rattle.wi_trace.specs.declared.cause.Cause.{Cause};
 ghost use Rattle.wi_trace.specs.Replays.{hop_cause, moving_cause};
 ghost use Rattle.wi_trace.specs.private.Hops.{named, is_first, fixed_against, moving_against, against, cause_in, Goes};
 
-use crate::cause::{Cause, ReplayRefused};
+use crate::cause::Cause;
 use crate::sets::{count_outside, first_in};
 use std::alloc::Global;
 use wi_base::NoMemory;
@@ -121,40 +121,31 @@ fn against(
     }
 }
 
-/// Takes the step of a number, if it may be taken.
+/// Takes a step, if it may be taken. If it may not, the answer is its first cause, and the packet is where it was; so it is where
+/// memory runs out.
 pub(crate) fn hop(
     alloc: Global,
     net: &Network,
     world: &World,
     at: &mut Location,
-    number: usize,
     step: Step,
-) -> Result<(), ReplayRefused>
-    ensures none { OnOk result (cause_in world.now net.now at.old step ≡ None) }
-    ensures on { OnOk result (moved net.now at.old step ≡ Some at.new) }
-    ensures fault { (n : ℕ) (cause : Cause) → result ≡ Err (ReplayRefused.Fault n cause) → (n ≡ number) × (cause_in world.now net.now at.old step ≡ Some cause) }
-    ensures kept { OnErr result (at.new ≡ at.old) }
+) -> Result<Option<Cause>, NoMemory>
+    ensures cause { IfOk result (λ cause. cause ≡ cause_in world.now net.now at.old step) }
+    ensures on { result ≡ Ok None → moved net.now at.old step ≡ Some at.new }
+    ensures kept { (cause : Cause) → result ≡ Ok (Some cause) → at.new ≡ at.old }
+    ensures err { OnErr result (at.new ≡ at.old) }
 {
     let groups = groups_of(net, at);
     let member = match named(groups, step) {
         Ok(member) => member,
-        Err(cause) => return Err(ReplayRefused::Fault {
-            step: number,
-            cause,
-        }),
+        Err(cause) => return Ok(Some(cause)),
     };
     if let Some(cause) = against(alloc, net, world, groups, step.group as usize, member.link)? {
-        return Err(ReplayRefused::Fault {
-            step: number,
-            cause,
-        });
+        return Ok(Some(cause));
     }
     match apply(member, at)? {
-        Applied::Done => Ok(()),
-        Applied::Undefined(i) => Err(ReplayRefused::Fault {
-            step: number,
-            cause: Cause::Undefined(i),
-        }),
+        Applied::Done => Ok(None),
+        Applied::Undefined(i) => Ok(Some(Cause::Undefined(i))),
     }
 }
 
@@ -172,11 +163,7 @@ pub fn hop_under(
     ensures kept { (cause : Cause) → result ≡ Ok (Some cause) → at.new ≡ at.old }
     ensures err { OnErr result (at.new ≡ at.old) }
 {
-    match hop(alloc, net, &World::Fixed(fails), at, 0, step) {
-        Ok(()) => Ok(None),
-        Err(ReplayRefused::Fault { step: _, cause }) => Ok(Some(cause)),
-        Err(ReplayRefused::Memory) => Err(NoMemory::Memory),
-    }
+    hop(alloc, net, &World::Fixed(fails), at, step)
 }
 
 /// Takes a step, if it can be made at some moment of a course of failures, repairs and hops that keeps within the bounds. If it
@@ -193,11 +180,7 @@ pub fn hop_within(
     ensures kept { (cause : Cause) → result ≡ Ok (Some cause) → at.new ≡ at.old }
     ensures err { OnErr result (at.new ≡ at.old) }
 {
-    match hop(alloc, net, &World::Moving(bounds), at, 0, step) {
-        Ok(()) => Ok(None),
-        Err(ReplayRefused::Fault { step: _, cause }) => Ok(Some(cause)),
-        Err(ReplayRefused::Memory) => Err(NoMemory::Memory),
-    }
+    hop(alloc, net, &World::Moving(bounds), at, step)
 }
 
 /// Where a step leads, whatever is failed. It answers whether it leads on.

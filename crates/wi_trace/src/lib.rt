@@ -15,7 +15,7 @@ pub use cause::{Cause, ReplayRefused};
 pub use hop::{Location, follow, groups_of, hop_under, hop_within};
 pub use judge::{needs, verdict};
 pub use laws::{a_run_without_a_fault_is_a_trace, a_run_without_a_moving_fault_is_possible};
-pub use replays::{Trace, replay, replay_moving};
+pub use replays::{Trace, moving_fault, replay, replay_moving};
 pub use sets::{insert_all, nth};
 pub use start::is_start;
 pub use wi_world::{Run, Step, Verdict, Word};

@@ -1,15 +1,16 @@
-//! One walk serves under a set of failed links and in the moving world: they differ in what is failed at the start and in what
-//! stands against a step. A trace has a copy of the header at each link, so it costs the heights of all of them.
+//! One walk judges a run under a set of failed links and in the moving world: they differ in what is failed at the start and in what
+//! stands against a step. A trace is made by a second walk, only where nothing stands against any step; it has a copy of the header at
+//! each link, so it costs the heights of all of them.
 ghost use Rattle.std.specs.Prelude.{◌≡◌, ℕ, ◌++◌, ◌∷◌, [], true, None, Some, Err, IfOk, IfErr, OnOk};
 ghost use Rattle.wi_world.specs.Moves.{is_trace, AreBounds};
 ghost use Rattle.wi_world.specs.Moving.{IsMovingRun};
 ghost use Rattle.wi_world.specs.Runs.{locations, trace_of};
 ghost use Rattle.wi_trace.specs.declared.cause.Cause.{Cause};
-ghost use Rattle.wi_trace.specs.Replays.{first_fault, run_fault, IsNoTrace, IsNoMovingRun};
+ghost use Rattle.wi_trace.specs.Replays.{first_fault, moving_fault, run_fault, IsNoTrace, IsNoMovingRun};
 ghost use Rattle.wi_trace.specs.private.Hops.{cause_in};
 
 use crate::cause::{Cause, ReplayRefused};
-use crate::hop::{Location, World, hop, twin_of};
+use crate::hop::{Location, World, follow, hop, twin_of};
 use crate::start::is_start;
 use std::alloc::Global;
 use wi_base::{Listed, NoMemory};
@@ -31,7 +32,8 @@ pub fn replay(
     ensures trace { IfOk result (λ trace. (is_trace net.now fails.now run.now ≡ true) × (trace ≡ trace_of net.now run.now)) }
     ensures refused { IfErr result (λ fault. IsNoTrace net.now fails.now run.now fault) }
 {
-    replay_in(alloc, net, &World::Fixed(fails), fails, run)
+    let fault = fault_in(alloc, net, &World::Fixed(fails), fails, run)?;
+    replayed(alloc, net, run, fault)
 }
 
 /// The trace of a run of the moving world: each step can be made at some moment of a course of failures, repairs and hops
@@ -47,49 +49,101 @@ pub fn replay_moving(
     ensures refused { IfErr result (λ fault. IsNoMovingRun net.now bounds.now run.now fault) }
 {
     net.keeps();
-    replay_in(alloc, net, &World::Moving(bounds), &bounds.down, run)
+    let fault = moving_fault(alloc, net, bounds, run)?;
+    replayed(alloc, net, run, fault)
 }
 
-// The trace of a run in a world where these links are failed at the start.
-fn replay_in(
+/// The first of a run's steps that can be made at no moment of a course that keeps within the bounds, if there is one, and its first
+/// cause. Steps count from 1, and the start is step 0.
+pub fn moving_fault(
+    alloc: Global,
+    net: &Network,
+    bounds: &Bounds,
+    run: &Run,
+) -> Result<Option<(usize, Cause)>, NoMemory>
+    ensures { IfOk result (λ fault. fault ≡ moving_fault net.now bounds.now run.now) }
+{
+    fault_in(alloc, net, &World::Moving(bounds), &bounds.down, run)
+}
+
+// The first fault of a run in a world where these links are failed at the start.
+fn fault_in(
     alloc: Global,
     net: &Network,
     world: &World,
     fails: &FailSet,
     run: &Run,
-) -> Result<Trace, ReplayRefused>
-    ensures none { OnOk result (run_fault net.now fails.now (cause_in world.now net.now) run.now ≡ None) }
-    ensures trace { IfOk result (λ trace. trace ≡ trace_of net.now run.now) }
-    ensures fault { (n : ℕ) (cause : Cause) → result ≡ Err (ReplayRefused.Fault n cause) → run_fault net.now fails.now (cause_in world.now net.now) run.now ≡ Some (n, cause) }
+) -> Result<Option<(usize, Cause)>, NoMemory>
+    ensures { IfOk result (λ fault. fault ≡ run_fault net.now fails.now (cause_in world.now net.now) run.now) }
 {
     if !is_start(net, fails, run) {
-        return Err(ReplayRefused::Fault {
-            step: 0,
-            cause: Cause::BadStart,
-        });
+        return Ok(Some((0, Cause::BadStart)));
     }
     let header = twin_of(&run.header)?;
-    let trace = walk(alloc, net, world, (run.first, header), run.steps.as_slice())?;
-    Ok(Listed::of(trace))
+    fault_after(alloc, net, world, (run.first, header), run.steps.as_slice())
 }
 
-// The places of a packet, from one on.
+// The first fault of steps from a place on.
 #[tactic(auto, using(crate::proofs::WalkLemmas::walk_laws))]
-fn walk(
+fn fault_after(
     alloc: Global,
     net: &Network,
     world: &World,
     mut at: Location,
     steps: &[Step],
-) -> Result<Vec<Location>, ReplayRefused>
-    ensures none { OnOk result (first_fault net.now (cause_in world.now net.now) 1 at steps.now ≡ None) }
-    ensures trace { IfOk result (λ trace. trace.items ≡ locations net.now at steps.now) }
-    ensures fault { (n : ℕ) (cause : Cause) → result ≡ Err (ReplayRefused.Fault n cause) → first_fault net.now (cause_in world.now net.now) 1 at steps.now ≡ Some (n, cause) }
+) -> Result<Option<(usize, Cause)>, NoMemory>
+    ensures { IfOk result (λ fault. fault ≡ first_fault net.now (cause_in world.now net.now) 1 at steps.now) }
+{
+    for (i, step) in steps.iter().enumerate() {
+        if let Some(cause) = hop(alloc, net, world, &mut at, *step)? {
+            return Ok(Some((i + 1, cause)));
+        }
+    }
+    Ok(None)
+}
+
+// What is answered for a run with this first fault, if it has one.
+fn replayed(
+    alloc: Global,
+    net: &Network,
+    run: &Run,
+    fault: Option<(usize, Cause)>,
+) -> Result<Trace, ReplayRefused>
+    ensures none { OnOk result (fault ≡ None) }
+    ensures trace { IfOk result (λ trace. trace ≡ trace_of net.now run.now) }
+    ensures fault { (n : ℕ) (cause : Cause) → result ≡ Err (ReplayRefused.Fault n cause) → fault ≡ Some (n, cause) }
+{
+    match fault {
+        Some((step, cause)) => Err(ReplayRefused::Fault { step, cause }),
+        None => Ok(trace_of(alloc, net, run)?),
+    }
+}
+
+// The links of a run as far as its steps lead, whatever is failed.
+fn trace_of(alloc: Global, net: &Network, run: &Run) -> Result<Trace, NoMemory>
+    ensures { IfOk result (λ trace. trace ≡ trace_of net.now run.now) }
+{
+    let header = twin_of(&run.header)?;
+    let trace = locations(alloc, net, (run.first, header), run.steps.as_slice())?;
+    Ok(Listed::of(trace))
+}
+
+// The places of a packet, from one on.
+#[tactic(auto, using(crate::proofs::WalkLemmas::walk_laws))]
+fn locations(
+    alloc: Global,
+    net: &Network,
+    mut at: Location,
+    steps: &[Step],
+) -> Result<Vec<Location>, NoMemory>
+    ensures { IfOk result (λ trace. trace.items ≡ locations net.now at steps.now) }
 {
     let mut trace = Vec::new(alloc);
-    for (i, step) in steps.iter().enumerate() {
+    for step in steps {
         note(&mut trace, &at)?;
-        hop(alloc, net, world, &mut at, i + 1, *step)?;
+        if !follow(net, &mut at, *step)? {
+            return Ok(trace);
+        }
     }
     note(&mut trace, &at)?;
     Ok(trace)

@@ -3,21 +3,10 @@ ghost use Rattle.std.specs.Prelude.{◌≡◌, ◌<◌, IfOk};
 ghost use Rattle.wi_net.specs.Net.{widened, with_risk};
 ghost use Rattle.wi_world.specs.Moves.{AreBounds};
 ghost use Rattle.wi_trees.specs.Branches.{with_down, with_up};
-ghost use Rattle.wi_trees.specs.Trees.{whole_of};
 
 use std::alloc::Global;
 use wi_base::NoMemory;
 use wi_net::{Bounds, FailSet, LinkId, Network};
-use wi_query::Query;
-
-/// Within what a query is answered, where `k` risk groups may fail besides those known to be down.
-pub fn whole_of(query: &Query, k: u32) -> Result<Bounds, NoMemory>
-    ensures { IfOk result (λ whole. whole ≡ whole_of k query.now) }
-{
-    let mut whole = query.bounds.twin()?;
-    whole.k = k;
-    Ok(whole)
-}
 
 // A union of risk groups with a link's risk group.
 #[tactic(auto, using(crate::proofs::WidenLaws::widened_with))]

@@ -5,7 +5,7 @@
 mod branches;
 mod laws;
 
-pub use branches::{whole_of, with_down, with_up};
+pub use branches::{with_down, with_up};
 pub use laws::{
     branch_runs_are_moving_runs, branch_sets_are_allowed_sets, children_are_branches,
     nodes_are_a_tree, runs_that_do_not_fit_split, runs_that_fit_a_branch,

@@ -9,8 +9,7 @@ use Rattle.wi_quantity.specs.Weighing.{components}
 use Rattle.wi_trace.specs.declared.answer.Answer.{Answer}
 use Rattle.wi_cert.specs.declared.closed.Closed.{Closed as Leaf}
 use Rattle.wi_trees.specs.Branches.{IsBranch, CanSplit, with_down, with_up, split_of}
-use Rattle.wi_build.specs.Problems.{Problem, IsAnswering}
-use Rattle.wi_accept.specs.Trees.{within}
+use Rattle.wi_build.specs.Problems.{Problem, IsAnswering, within}
 use Rattle.wi_weight.specs.Weights.{EachBelow}
 use Rattle.wi_decide.specs.Showing.{IsSmallStep}
 use Rattle.wi_decide.specs.declared.searching.LeastRun.{LeastRun}

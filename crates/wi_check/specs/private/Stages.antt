@@ -2,8 +2,7 @@
 use Rattle.std.specs.Prelude.{◌≡◌, ℕ, ◌+◌, ◌*◌, ◌<◌, true, List, ◌∷◌, drop, length}
 use Rattle.std.specs.List.{All}
 use Rattle.wi_net.specs.declared.bounds.Bounds.{Bounds}
-use Rattle.wi_build.specs.Problems.{Problem, IsProblem}
-use Rattle.wi_quantity.specs.Vectors.{is_vector}
+use Rattle.wi_build.specs.Problems.{Problem, within}
 use Rattle.wi_cert.specs.declared.shown.Shown.{Shown}
 use Rattle.wi_cert.specs.declared.closed.Closed.{Closed}
 use Rattle.wi_cert.specs.declared.tree.Node.{Node}
@@ -15,19 +14,9 @@ use Rattle.wi_cert.specs.declared.check_refused.ClosedRefused.{ClosedRefused}
 use Rattle.wi_cert.specs.Trees.{makes_trees}
 use Rattle.wi_trees.specs.Branches.{IsBranch, CanSplit, with_down, with_up}
 use Rattle.wi_accept.specs.Causes.{IsShownCause, IsClosedCause, IsToldFirst, bound_of, closed_place, place}
-use Rattle.wi_accept.specs.Trees.{within, link_of, branched, branches_of, IsTreeCause}
-use Rattle.wi_check.specs.declared.checker.Asked.{Asked}
+use Rattle.wi_accept.specs.Trees.{link_of, branched, branches_of, IsTreeCause}
 use Rattle.wi_check.specs.declared.bounded.Gap.{Gap}
 use Rattle.wi_check.specs.declared.bounded.Gap.TheVariants as gap
-
--- the problem that is asked
-abbrev pub problem_in : Asked → Problem
-problem_in a = record { net = a.net.now; query = a.query.now; vector = a.vector.now; bounds = a.bounds.now }
-
--- a problem, whose vector is one
-pub record IsAsked (problem : Problem) : Type 0 where
-  pub problem_is : IsProblem problem
-  pub vector_is : is_vector problem.vector ≡ true
 
 -- no cause against what is shown is told before those of a place in the order
 abbrev pub NoneShown : Problem → Shown → ℕ → Type 0

@@ -1,4 +1,3 @@
-use Rattle.wi_build.specs.Problems.{problem_of}
 use Rattle.wi_app.proofs.Asking.{no_other}
 use Rattle.wi_app.proofs.Outcomes.{packets_refused}
 use Rattle.wi_app.proofs.ask.give.Goals as goal
@@ -41,4 +40,4 @@ returns-in-Packets-clause-given g c = rw c.in-Packets.is c.verify-in-Packets.ens
 
 pub returns-in-Packets-clause-refused : goal.returns-in-Packets-clause-refused
 returns-in-Packets-clause-refused g c =
-    rw c.in-Packets.is (packets_refused c.verify-in-Packets.result (g.S.Shelf.seen c.args.shelf.now) (g.S.Shelf.seen c.verify-in-Packets.new.shelf) (problem_of c.args.net.now c.args.query.now c.args.vector.now) c.verify-in-Packets.ensures.refused)
+    rw c.in-Packets.is (packets_refused c.verify-in-Packets.result (g.S.Shelf.seen c.args.shelf.now) (g.S.Shelf.seen c.verify-in-Packets.new.shelf) c.args.problem.now c.verify-in-Packets.ensures.refused)

@@ -1,16 +1,15 @@
 use Rattle.std.proofs.Common.{rules}
-use Rattle.wi_build.specs.Problems.{problem_of}
 use Rattle.wi_app.proofs.Outcomes.{decided_believed, decided_summed}
 use Rattle.wi_app.proofs.ring.summary_of_asked.Goals as goal
 
 pub returns-clause-summed : goal.returns-clause-summed
 returns-clause-summed c =
-    decided_summed c.summary_if_accepted-printed.result c.args.ring.0 c.args.ring.1 (problem_of c.args.net.now c.args.query.now c.args.vector.now) c.in_ok-answer.answer c.in_ok-answer.certificate c.in_ok-answer.ensures.certified
+    decided_summed c.summary_if_accepted-printed.result c.args.ring.0 c.args.ring.1 c.args.problem.now c.in_ok-answer.answer c.in_ok-answer.certificate c.in_ok-answer.ensures.certified
     c.summary_if_accepted-printed.ensures.text
 
 pub returns-clause-refused : goal.returns-clause-refused
 returns-clause-refused c =
-    decided_believed c.summary_if_accepted-printed.result (problem_of c.args.net.now c.args.query.now c.args.vector.now) c.in_ok-answer.certificate c.in_ok-answer.ensures.certified.is.accepted c.summary_if_accepted-printed.ensures.refused
+    decided_believed c.summary_if_accepted-printed.result c.args.problem.now c.in_ok-answer.certificate c.in_ok-answer.ensures.certified.is.accepted c.summary_if_accepted-printed.ensures.refused
 
 pub returns-in_err-answer-clause-refused : goal.returns-in_err-answer-clause-refused
 returns-in_err-answer-clause-refused c = search rules

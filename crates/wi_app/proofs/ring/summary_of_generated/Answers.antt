@@ -11,8 +11,8 @@ returns-in_err-asked-clause-refused c =
 
 pub returns-clause-summary : goal.returns-clause-summary
 returns-clause-summary c =
-    ring_summed c.summary_of_asked-printed.result c.args.ring.0 c.args.ring.1 _ _ _ _ _ c.requires.network (c.deref.ensures ∙ c.requires.query) (c.deref-2.ensures ∙ c.requires.weights) c.in_ok-asked.ensures.read c.in_ok-asked.ensures.automata c.summary_of_asked-printed.ensures.summed
+    ring_summed c.summary_of_asked-printed.result c.args.ring.0 c.args.ring.1 _ _ _ _ _ c.requires.network (c.deref.ensures ∙ c.requires.query) (c.deref-2.ensures ∙ c.requires.weights) c.in_ok-asked.ensures.read c.in_ok-asked.ensures.automata (rw c.of-problem.ensures at c.summary_of_asked-printed.ensures.summed)
 
 pub returns-clause-refused : goal.returns-clause-refused
 returns-clause-refused c =
-    ring_refused c.summary_of_asked-printed.result c.args.ring.0 c.args.ring.1 _ _ _ _ _ c.requires.network (c.deref.ensures ∙ c.requires.query) (c.deref-2.ensures ∙ c.requires.weights) c.in_ok-asked.ensures.read c.in_ok-asked.ensures.automata c.summary_of_asked-printed.ensures.refused
+    ring_refused c.summary_of_asked-printed.result c.args.ring.0 c.args.ring.1 _ _ _ _ _ c.requires.network (c.deref.ensures ∙ c.requires.query) (c.deref-2.ensures ∙ c.requires.weights) c.in_ok-asked.ensures.read c.in_ok-asked.ensures.automata (rw c.of-problem.ensures at c.summary_of_asked-printed.ensures.refused)

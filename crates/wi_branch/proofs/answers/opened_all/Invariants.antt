@@ -1,10 +1,9 @@
 use Rattle.std.proofs.Common.{◌-◌, length}
-use Rattle.wi_build.specs.Problems.{problem_in}
 use Rattle.wi_branch.specs.private.Courses.{IsOpening}
 use Rattle.wi_branch.proofs.answers.opened_all.Given as goal
 
 abbrev pub invariant-loop-branch : goal.invariant-loop-branch
-invariant-loop-branch l = IsOpening (problem_in l.net l.query l.vector l.whole) l.limit l.course
+invariant-loop-branch l = IsOpening l.problem l.limit l.course
 
 abbrev pub decreases-loop-branch : goal.decreases-loop-branch
 decreases-loop-branch l = l.limit - length l.course.opened

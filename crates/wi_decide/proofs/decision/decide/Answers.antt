@@ -1,4 +1,3 @@
-use Rattle.wi_build.specs.Problems.{problem_of}
 use Rattle.wi_accept.proofs.MakerLemmas.{nothing_against}
 use Rattle.wi_decide.proofs.FoundLemmas.{answer_small, not_due}
 use Rattle.wi_decide.proofs.MakerLemmas.{made_by}
@@ -9,24 +8,19 @@ pub shown_of-requires-clause-fits : goal.shown_of-requires-clause-fits
 shown_of-requires-clause-fits c = answer_small c.in_ok-searched.searched.found c.in_ok-answer.answer.weight c.in_ok-searched.ensures.small c.in_ok-answer.ensures.weight
 
 pub shown_of-requires-clause-steps : goal.shown_of-requires-clause-steps
-shown_of-requires-clause-steps c =
-    small_answer (problem_of c.args.net.now c.args.query.now c.args.vector.now) (record { network = c.keeps.ensures; automata = c.keeps-2.ensures; bounds_of = c.requires }) c.in_ok-answer.answer
-    (c.in_ok-answer.ensures.decided c.args.vector.now c.in_ok-searched.ensures.found)
-
-pub returns-clause-decided : goal.returns-clause-decided
-returns-clause-decided c = c.in_ok-answer.ensures.decided c.args.vector.now c.in_ok-searched.ensures.found
+shown_of-requires-clause-steps c = small_answer c.args.problem.now c.keeps.ensures.problem c.in_ok-answer.answer c.in_ok-answer.ensures.decided
 
 pub returns-clause-made : goal.returns-clause-made
 returns-clause-made c =
-    made_by (problem_of c.args.net.now c.args.query.now c.args.vector.now) c.in_ok-answer.answer c.in_ok-searched.searched.found c.in_ok-shown.shown c.in_ok-searched.searched.closed c.len.result
-    (record { network = c.keeps.ensures; automata = c.keeps-2.ensures; bounds_of = c.requires }) c.keeps-3.ensures c.len.ensures
-    c.in_ok-searched.ensures.closed (c.in_ok-answer.ensures.decided c.args.vector.now c.in_ok-searched.ensures.found) c.in_ok-answer.ensures.weight c.in_ok-shown.ensures
+    made_by c.args.problem.now c.in_ok-answer.answer c.in_ok-searched.searched.found c.in_ok-shown.shown c.in_ok-searched.searched.closed c.terms.result
+    c.keeps.ensures.problem c.keeps.ensures.vector c.terms.ensures
+    c.in_ok-searched.ensures.closed c.in_ok-answer.ensures.decided c.in_ok-answer.ensures.weight c.in_ok-shown.ensures
 
 pub returns-clause-accepted : goal.returns-clause-accepted
 returns-clause-accepted c =
-    nothing_against (problem_of c.args.net.now c.args.query.now c.args.vector.now) c.in_ok-answer.answer (record { shown = c.in_ok-shown.shown; closed = c.in_ok-searched.searched.closed })
-    (record { network = c.keeps.ensures; automata = c.keeps-2.ensures; bounds_of = c.requires }) (c.in_ok-answer.ensures.decided c.args.vector.now c.in_ok-searched.ensures.found) (returns-clause-made c)
+    nothing_against c.args.problem.now c.in_ok-answer.answer (record { shown = c.in_ok-shown.shown; closed = c.in_ok-searched.searched.closed })
+    c.keeps.ensures.problem c.in_ok-answer.ensures.decided (returns-clause-made c)
 
 pub returns-clause-unrefused : goal.returns-clause-unrefused
 returns-clause-unrefused c =
-    not_due (problem_of c.args.net.now c.args.query.now c.args.vector.now) c.in_ok-searched.searched.found c.in_ok-answer.answer c.in_ok-searched.ensures.found c.in_ok-searched.ensures.fits c.in_ok-answer.ensures.run
+    not_due c.args.problem.now c.in_ok-searched.searched.found c.in_ok-answer.answer c.in_ok-searched.ensures.found c.in_ok-searched.ensures.fits c.in_ok-answer.ensures.run

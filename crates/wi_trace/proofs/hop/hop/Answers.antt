@@ -1,11 +1,8 @@
-use Rattle.std.proofs.Common.{rules}
+use Rattle.std.proofs.Common.{sym}
 use Rattle.wi_trace.proofs.HopLemmas.{against_cause}
 use Rattle.wi_trace.proofs.hop.hop.Goals as goal
 
-pub returns-in-Some-clause-fault : goal.returns-in-Some-clause-fault
-returns-in-Some-clause-fault c = λ n cause e.
-    let stands = against_cause c.args.world.now c.args.net.now c.args.at.now c.args.step c.groups_of-groups.result.now c.in-Ok.member.now c.in_ok-cause.field-0 c.in-Some.cause c.groups_of-groups.ensures c.in-Ok.ensures.ok c.in_ok-cause.ensures c.in-Some.is in
-    (cc, (cc stands))
-
-pub returns-in-Undefined-clause-fault : goal.returns-in-Undefined-clause-fault
-returns-in-Undefined-clause-fault c = search rules
+pub returns-in-Some-clause-cause : goal.returns-in-Some-clause-cause
+returns-in-Some-clause-cause c =
+    sym
+    (against_cause c.args.world.now c.args.net.now c.args.at.now c.args.step c.groups_of-groups.result.now c.in-Ok.member.now c.in_ok-cause.field-0 c.in-Some.cause c.groups_of-groups.ensures c.in-Ok.ensures.ok c.in_ok-cause.ensures c.in-Some.is)

@@ -10,26 +10,26 @@ pub returns-then-not-may_be_up : goal.returns-then-not-may_be_up
 returns-then-not-may_be_up c =
     let up : c.may_be_up.result ≡ may_be_up c.args.self.now.net c.args.self.now.bounds c.args.needs.now c.args.member.now.link = cc in
     none_made (encoding_of c.args.self.now) c.args.head _ _
-    (no_hop c.args.self.now c.args.at c.args.needs.now c.args.step c.args.number c.args.member.now c.keeps.ensures c.requires.needs c.requires.member c.may_be_up.result up c.if-not-may_be_up.true)
+    (no_hop c.args.self.now c.args.at c.args.needs.now c.args.step c.args.number c.args.member.now c.keeps.ensures.problem c.requires.needs c.requires.member c.may_be_up.result up c.if-not-may_be_up.true)
 
 pub first_written-requires-clause-ops : goal.first_written-requires-clause-ops
-first_written-requires-clause-ops c = rw c.as_slice.ensures (member_known _ _ _ _ _ c.keeps.ensures.network c.requires.member).ops
+first_written-requires-clause-ops c = rw c.as_slice.ensures (member_known _ _ _ _ _ c.keeps.ensures.problem.network c.requires.member).ops
 
 pub hop_weight-requires-clause-member : goal.hop_weight-requires-clause-member
-hop_weight-requires-clause-member c = (member_known _ _ _ _ _ c.keeps.ensures.network c.requires.member).way
+hop_weight-requires-clause-member c = (member_known _ _ _ _ _ c.keeps.ensures.problem.network c.requires.member).way
 
 pub hop_weight-requires-clause-failures : goal.hop_weight-requires-clause-failures
 hop_weight-requires-clause-failures c =
-    rw c.len.ensures (needs_few c.args.self.now c.args.at c.args.needs.now c.args.step c.args.number c.args.member.now c.keeps.ensures c.requires.needs c.requires.member)
+    rw c.len.ensures (needs_few c.args.self.now c.args.at c.args.needs.now c.args.step c.args.number c.args.member.now c.keeps.ensures.problem c.requires.needs c.requires.member)
 
 pub push_each-requires : goal.push_each-requires
-push_each-requires c = let known = member_known _ _ _ _ _ c.keeps.ensures.network c.requires.member in (known.group, known.place)
+push_each-requires c = let known = member_known _ _ _ _ _ c.keeps.ensures.problem.network c.requires.member in (known.group, known.place)
 
 pub returns : goal.returns
 returns c =
     let up : may_be_up c.args.self.now.net c.args.self.now.bounds c.args.needs.now c.args.member.now.link ≡ c.may_be_up.result = cc in
     let written : first_written c.args.self.now.net c.args.member.now.ops c.args.at.top.0 ≡ Some c.in-Some.word = cc in
     on_ok c.push_each.result _ _
-    (hop_row c.args.self.now c.args.at c.args.needs.now c.args.step c.args.number c.args.member.now c.keeps.ensures c.requires.needs c.requires.member
+    (hop_row c.args.self.now c.args.at c.args.needs.now c.args.step c.args.number c.args.member.now c.keeps.ensures.problem c.requires.needs c.requires.member
     c.args.head c.in-Some.word c.hop_weight.result c.len.result c.through.result _ _ _ (up ∙ c.if-not-may_be_up.false) written c.len.ensures c.hop_weight.ensures c.path_after-states.ensures c.through.ensures)
     c.push_each.ensures

@@ -5,7 +5,10 @@ pub mod StartLemmas
 pub mod Rising
 pub mod Search
 pub mod Segments
+pub mod Absent
+pub mod Needed
 pub mod Parts
 pub mod RowLemmas
+pub mod OwnRows
 pub mod StageLemmas
 pub mod TreeLemmas

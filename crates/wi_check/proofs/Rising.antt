@@ -1,9 +1,11 @@
 -- A list whose items each stand above the one before rises: each item stands below all that come after it.
-use Rattle.std.specs.Prelude.{◌≡◌, ℕ, zero, suc, ◌+◌, ◌≤◌, Bool, true, List, [], ◌∷◌, ◌++◌, Some, length, slice_get}
+use Rattle.std.specs.Prelude.{◌≡◌, ℕ, zero, suc, ◌+◌, ◌≤◌, Bool, true, false, List, [], ◌∷◌, ◌++◌, Some, length, slice_get, get_or, filter, refl}
 use Rattle.std.specs.List.{All}
 use Rattle.std.specs.Option.{option_map_or}
 use Rattle.std.proofs.Common.{sym, ap, ◌∙◌, subst, arith}
-use Rattle.std.proofs.lemmas.Option.{same_Some}
+use Rattle.std.proofs.lemmas.List.Elements.{All-filter, filter_passes}
+use Rattle.std.proofs.lemmas.Option.{slice_get-get_or, get_or_from_slice_get, slice_get_within, same_Some}
+use Rattle.wi_base.proofs.Cases.{by_test}
 use Rattle.wi_cert.specs.declared.shown.Shown.{Shown}
 use Rattle.wi_cert.specs.declared.closed.Closed.{Closed}
 use Rattle.wi_cert.specs.declared.row.Row.{Row}
@@ -14,6 +16,34 @@ use Rattle.wi_accept.proofs.RisingRows.{last_added, pair_below_trans, row_below_
 use Rattle.wi_check.specs.declared.rows.Rows.{Rows}
 use Rattle.wi_check.specs.private.Lists.{Rises}
 use Rattle.wi_check.specs.private.Rows.{HaveTerms, AreRows}
+
+module _ {A : Type 0} where
+  -- the items after the first rise, too, and stand above it
+  pub rises_after : (below : A → A → Bool) (x : A) (xs : List A) → Rises below (x ∷ xs) → Rises below xs
+  rises_after below x xs rise i j a b less at there = rise (suc i) (suc j) a b (omega arith) at there
+
+  pub all_above : (below : A → A → Bool) (x : A) (xs : List A) → Rises below (x ∷ xs) → All (λ y. below x y ≡ true) xs
+  all_above below x xs rise k d within = rise 0 (suc k) x (get_or xs k d) (omega arith) refl (slice_get-get_or xs k d within)
+
+  none_rise : (below : A → A → Bool) → Rises below []
+  none_rise below i j a b less at there = cc
+
+  rises_from : (below : A → A → Bool) (x : A) (xs : List A) → All (λ y. below x y ≡ true) xs → Rises below xs → Rises below (x ∷ xs)
+  rises_from below x xs above rise i zero a b less at there = absurd (omega arith)
+  rises_from below x xs above rise zero (suc j) a b less at there =
+      subst (λ y. below y b ≡ true) (same_Some x a at) (subst (λ y. below x y ≡ true) (get_or_from_slice_get xs j b b there) (above j b (slice_get_within xs j b there)))
+  rises_from below x xs above rise (suc i) (suc j) a b less at there = rise i j a b (omega arith) at there
+
+  -- the items that pass a test rise by another order, where that order is the first one among them
+  module _ (below other : A → A → Bool) (test : A → Bool) (implies : (x y : A) → test x ≡ true → test y ≡ true → below x y ≡ true → other x y ≡ true) where
+    above_kept : (x : A) (xs : List A) → test x ≡ true → All (λ y. below x y ≡ true) xs → All (λ y. other x y ≡ true) (filter test xs)
+    above_kept x xs e above k d within = implies x (get_or (filter test xs) k d) e (filter_passes test xs k d within) (All-filter test (λ y. below x y ≡ true) xs above k d within)
+
+    pub filter_rises : (xs : List A) → Rises below xs → Rises other (filter test xs)
+    filter_rises [] rise = none_rise other
+    filter_rises (x ∷ xs) rise = by_test (test x)
+        (λ (e : test x ≡ true). rw e (rises_from other x (filter test xs) (above_kept x xs e (all_above below x xs rise)) (filter_rises xs (rises_after below x xs rise))))
+        (λ (e : test x ≡ false). rw e (filter_rises xs (rises_after below x xs rise)))
 
 module _ {A : Type 0} (below : A → A → Bool) (MayFollow : List A → A → Type 0)
     (trans : (a b c : A) → below a b ≡ true → below b c ≡ true → below a c ≡ true) (next : (before : List A) (x : A) → MayFollow before x → is_next below before x ≡ true) where

@@ -1,12 +1,15 @@
-//! Whether heads and pairs are closed: each rule of each listed head is looked at once, with the pairs of its symbol.
-ghost use Rattle.std.specs.Prelude.{◌≡◌, map, find, IfOk};
+//! Whether heads and pairs are closed: each rule of each listed head is looked at once, with the pairs of its symbol. Many rules over
+//! one symbol, in all states, put the same symbol in its place; so it is noted for which two no pair is missing, and their pairs are
+//! gone along once.
+ghost use Rattle.std.specs.Prelude.{◌≡◌, map, find, IfOk, OnOk};
 ghost use Rattle.wi_cert.specs.Order.{pair_below};
 ghost use Rattle.wi_build.specs.Systems.{rules};
-ghost use Rattle.wi_accept.specs.Needs.{needs, needs_at, needs_of, is_missing, first_missing};
-ghost use Rattle.wi_check.specs.private.Lists.{Rises};
+ghost use Rattle.wi_accept.specs.Needs.{pairs_of, needs, needs_at, needs_of, is_missing, first_missing};
+ghost use Rattle.wi_check.specs.private.Lists.{Rises, symbol_below, AreWhole};
 
-use crate::lists::{has_head, has_pair, pairs_of};
+use crate::lists::{first_absent, has_head, has_pair, heads_of, pairs_of};
 use std::alloc::Global;
+use std::collections::HashSet;
 use wi_accept::Need;
 use wi_base::NoMemory;
 use wi_build::LazySystem;
@@ -35,7 +38,10 @@ pub(crate) fn first_missing(
     if !has_head(heads, p, g) {
         return Ok(Some(Need::Head(p, g)));
     }
-    missing_by_heads(alloc, system, Listings { heads, pairs }, heads)
+    let mut whole = HashSet::new(alloc);
+    let found = missing_by_heads(alloc, system, Listings { heads, pairs }, &mut whole, heads);
+    drop(whole);
+    found
 }
 
 // The first that the rules of some heads need and that isn't listed.
@@ -43,15 +49,16 @@ fn missing_by_heads(
     alloc: Global,
     system: &LazySystem<'_>,
     listed: Listings<'_>,
+    whole: &mut HashSet<(u32, u32)>,
     heads: &[(u64, u32)],
 ) -> Result<Option<Need>, NoMemory>
     requires heads { Rises pair_below listed.heads.now }
     requires pairs { Rises pair_below listed.pairs.now }
+    requires whole { AreWhole listed.pairs.now whole.old.keys }
     ensures { IfOk result (λ found. found ≡ find (λ n. is_missing listed.entry.heads.now listed.entry.pairs.now n) (needs_of (rules system.now) listed.entry.pairs.now heads.now)) }
 {
     for (p, g) in heads {
-        let rules = system.rules_of(alloc, *p, *g)?;
-        let found = missing_by_rules(listed, *g, rules.as_slice());
+        let found = missing_at_head(alloc, system, listed, whole, *p, *g)?;
         if found.is_some() {
             return Ok(found);
         }
@@ -59,70 +66,139 @@ fn missing_by_heads(
     Ok(None)
 }
 
-// The first that rules over a symbol need and that isn't listed.
-fn missing_by_rules(listed: Listings<'_>, g: u32, rules: &[Rule<Weight>]) -> Option<Need>
+// The first that the rules of a head need and that isn't listed.
+fn missing_at_head(
+    alloc: Global,
+    system: &LazySystem<'_>,
+    listed: Listings<'_>,
+    whole: &mut HashSet<(u32, u32)>,
+    p: u64,
+    g: u32,
+) -> Result<Option<Need>, NoMemory>
     requires heads { Rises pair_below listed.heads.now }
     requires pairs { Rises pair_below listed.pairs.now }
-    ensures { result ≡ find (λ n. is_missing listed.entry.heads.now listed.entry.pairs.now n) (needs_at listed.entry.pairs.now g rules.now) }
+    requires whole { AreWhole listed.pairs.now whole.old.keys }
+    ensures found { IfOk result (λ found. found ≡ find (λ n. is_missing listed.entry.heads.now listed.entry.pairs.now n) (needs_at listed.entry.pairs.now g (rules system.now p g))) }
+    ensures whole { OnOk result (AreWhole listed.entry.pairs.now whole.new.keys) }
 {
-    for rule in rules {
-        let found = missing_by_rule(listed, g, rule.to, rule.word);
-        if found.is_some() {
-            return found;
-        }
-    }
-    None
+    let rules = system.rules_of(alloc, p, g)?;
+    let below = pairs_of(listed.pairs, g);
+    let found = missing_by_rules(listed, whole, g, below, rules.as_slice());
+    drop(rules);
+    found
 }
 
-// The first that a rule over a symbol needs and that isn't listed.
-fn missing_by_rule(listed: Listings<'_>, g: u32, to: u64, word: Word2) -> Option<Need>
+// The first that rules over a symbol need and that isn't listed; `below` are the pairs of the symbol.
+fn missing_by_rules(
+    listed: Listings<'_>,
+    whole: &mut HashSet<(u32, u32)>,
+    g: u32,
+    below: &[(u32, u32)],
+    rules: &[Rule<Weight>],
+) -> Result<Option<Need>, NoMemory>
     requires heads { Rises pair_below listed.heads.now }
     requires pairs { Rises pair_below listed.pairs.now }
-    ensures { result ≡ find (λ n. is_missing listed.entry.heads.now listed.entry.pairs.now n) (needs listed.entry.pairs.now g to word) }
+    requires whole { AreWhole listed.pairs.now whole.old.keys }
+    requires below { below.now ≡ pairs_of listed.pairs.now g }
+    ensures found { IfOk result (λ found. found ≡ find (λ n. is_missing listed.entry.heads.now listed.entry.pairs.now n) (needs_at listed.entry.pairs.now g rules.now)) }
+    ensures whole { OnOk result (AreWhole listed.entry.pairs.now whole.new.keys) }
 {
-    let below = pairs_of(listed.pairs, g);
+    for rule in rules {
+        let found = missing_by_rule(listed, whole, g, below, rule.to, rule.word)?;
+        if found.is_some() {
+            return Ok(found);
+        }
+    }
+    Ok(None)
+}
+
+// The first that a rule over a symbol needs and that isn't listed; `below` are the pairs of the symbol.
+fn missing_by_rule(
+    listed: Listings<'_>,
+    whole: &mut HashSet<(u32, u32)>,
+    g: u32,
+    below: &[(u32, u32)],
+    to: u64,
+    word: Word2,
+) -> Result<Option<Need>, NoMemory>
+    requires heads { Rises pair_below listed.heads.now }
+    requires pairs { Rises pair_below listed.pairs.now }
+    requires whole { AreWhole listed.pairs.now whole.old.keys }
+    requires below { below.now ≡ pairs_of listed.pairs.now g }
+    ensures found { IfOk result (λ found. found ≡ find (λ n. is_missing listed.entry.heads.now listed.entry.pairs.now n) (needs listed.entry.pairs.now g to word)) }
+    ensures whole { OnOk result (AreWhole listed.entry.pairs.now whole.new.keys) }
+{
     match word {
-        Word2::Empty => missing_head(listed, below, to),
+        Word2::Empty => Ok(missing_head(listed, below, to)),
         Word2::One(u) => {
             if !has_head(listed.heads, to, u) {
-                return Some(Need::Head(to, u));
+                return Ok(Some(Need::Head(to, u)));
             }
-            missing_pair(listed, below, u)
+            missing_pair(listed, whole, g, below, u)
         }
         Word2::Two(u, v) => {
             if !has_head(listed.heads, to, u) {
-                return Some(Need::Head(to, u));
+                return Ok(Some(Need::Head(to, u)));
             }
             if !has_pair(listed.pairs, u, v) {
-                return Some(Need::Pair(u, v));
+                return Ok(Some(Need::Pair(u, v)));
             }
-            missing_pair(listed, below, v)
+            missing_pair(listed, whole, g, below, v)
         }
     }
 }
 
 // The first head that isn't listed, of those of a spot with the lower symbols of pairs.
 fn missing_head(listed: Listings<'_>, below: &[(u32, u32)], to: u64) -> Option<Need>
-    requires { Rises pair_below listed.heads.now }
+    requires heads { Rises pair_below listed.heads.now }
+    requires below { Rises symbol_below below.now }
     ensures { result ≡ find (λ n. is_missing listed.entry.heads.now listed.entry.pairs.now n) (map (λ x. Need.Head to x.1) below.now) }
 {
-    for (_, lower) in below {
-        if !has_head(listed.heads, to, *lower) {
-            return Some(Need::Head(to, *lower));
-        }
-    }
-    None
+    let lower = first_absent(below, heads_of(listed.heads, to))?;
+    Some(Need::Head(to, lower))
 }
 
-// The first pair that isn't listed, of those of a symbol with the lower symbols of pairs.
-fn missing_pair(listed: Listings<'_>, below: &[(u32, u32)], upper: u32) -> Option<Need>
-    requires { Rises pair_below listed.pairs.now }
-    ensures { result ≡ find (λ n. is_missing listed.entry.heads.now listed.entry.pairs.now n) (map (λ x. Need.Pair upper x.1) below.now) }
+// The first pair that isn't listed, of those of an upper symbol with the lower symbols of the pairs of g. Those of g itself are all
+// listed, so a rule that keeps its top needs no look.
+fn missing_pair(
+    listed: Listings<'_>,
+    whole: &mut HashSet<(u32, u32)>,
+    g: u32,
+    below: &[(u32, u32)],
+    upper: u32,
+) -> Result<Option<Need>, NoMemory>
+    requires pairs { Rises pair_below listed.pairs.now }
+    requires whole { AreWhole listed.pairs.now whole.old.keys }
+    requires below { below.now ≡ pairs_of listed.pairs.now g }
+    ensures found { IfOk result (λ found. found ≡ find (λ n. is_missing listed.entry.heads.now listed.entry.pairs.now n) (map (λ x. Need.Pair upper x.1) below.now)) }
+    ensures whole { OnOk result (AreWhole listed.entry.pairs.now whole.new.keys) }
 {
-    for (_, lower) in below {
-        if !has_pair(listed.pairs, upper, *lower) {
-            return Some(Need::Pair(upper, *lower));
+    if upper == g || whole.contains(&(g, upper)) {
+        Ok(None)
+    } else {
+        unseen_missing_pair(listed, whole, g, below, upper)
+    }
+}
+
+// The same where these symbols weren't looked at yet. If no pair is missing, that is noted.
+fn unseen_missing_pair(
+    listed: Listings<'_>,
+    whole: &mut HashSet<(u32, u32)>,
+    g: u32,
+    below: &[(u32, u32)],
+    upper: u32,
+) -> Result<Option<Need>, NoMemory>
+    requires pairs { Rises pair_below listed.pairs.now }
+    requires whole { AreWhole listed.pairs.now whole.old.keys }
+    requires below { below.now ≡ pairs_of listed.pairs.now g }
+    ensures found { IfOk result (λ found. found ≡ find (λ n. is_missing listed.entry.heads.now listed.entry.pairs.now n) (map (λ x. Need.Pair upper x.1) below.now)) }
+    ensures whole { OnOk result (AreWhole listed.entry.pairs.now whole.new.keys) }
+{
+    match first_absent(below, pairs_of(listed.pairs, upper)) {
+        Some(lower) => Ok(Some(Need::Pair(upper, lower))),
+        None => {
+            whole.insert((g, upper))?;
+            Ok(None)
         }
     }
-    None
 }

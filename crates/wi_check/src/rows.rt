@@ -1,5 +1,6 @@
 //! Whether rows are closed: for each rule of each listed head the rows for what it writes are gone through, and the row that they
-//! demand is looked up. A row's weight is read where it is looked at, so the rows aren't copied.
+//! demand is looked up among those of the head, which stand together. A row's weight is read where it is looked at, so the rows
+//! aren't copied.
 ghost use Rattle.std.specs.Prelude.{◌≡◌, ◌^◌, ◌∷◌, [], map, find, IfOk, option_map};
 ghost use Rattle.std.specs.List.{flat_map, All};
 ghost use Rattle.wi_weight.specs.Weights.{EachBelow, plus};
@@ -8,7 +9,7 @@ ghost use Rattle.wi_quantity.specs.Weighing.{components};
 ghost use Rattle.wi_build.specs.Systems.{scale, rules};
 ghost use Rattle.wi_accept.specs.Causes.{rows_of};
 ghost use Rattle.wi_accept.specs.Demands.{row, rows_at, demands, demands_at, demands_of, is_within, is_met, is_open, first_open, weight_to};
-ghost use Rattle.wi_check.specs.private.Rows.{AreRows, HaveTerms, summaries, demanded};
+ghost use Rattle.wi_check.specs.private.Rows.{AreRows, AreOwn, HaveTerms, summaries, demanded};
 
 use crate::lists::{row_to, rows_at};
 use crate::weights::weight_of;
@@ -68,22 +69,36 @@ fn open_at_head(
 {
     system.keeps();
     let rules = system.rules_of(alloc, head.0, head.1)?;
-    Ok(open_by_rules(rows, bound, head, rules.as_slice()))
+    let own = own_rows(rows, head);
+    Ok(open_by_rules(rows, own, bound, head, rules.as_slice()))
+}
+
+// The rows of a head.
+fn own_rows(rows: Rows<'_>, head: (u64, u32)) -> Rows<'_>
+    requires { AreRows rows }
+    ensures { AreOwn rows.entry head result }
+{
+    Rows {
+        terms: rows.terms,
+        rows: rows_at(rows.rows, head.0, head.1),
+    }
 }
 
 // The first that rules of a head demand.
 fn open_by_rules(
     rows: Rows<'_>,
+    own: Rows<'_>,
     bound: Option<Weight>,
     head: (u64, u32),
     rules: &[Rule<Weight>],
 ) -> Option<Demand>
     requires rows { AreRows rows }
+    requires own { AreOwn rows head own }
     requires small { All (λ r. EachBelow (2 ^ 64) (components r.weight)) rules.now }
     ensures { option_map demanded result ≡ find (λ d. is_open scale (option_map components bound) (summaries rows.entry) d) (demands_at components (summaries rows.entry) head.0 head.1 rules.now) }
 {
     for rule in rules {
-        let found = open_by_rule(rows, bound, head, *rule);
+        let found = open_by_rule(rows, own, bound, head, *rule);
         if found.is_some() {
             return found;
         }
@@ -94,23 +109,25 @@ fn open_by_rules(
 // The first that a rule of a head demands.
 fn open_by_rule(
     rows: Rows<'_>,
+    own: Rows<'_>,
     bound: Option<Weight>,
     head: (u64, u32),
     rule: Rule<Weight>,
 ) -> Option<Demand>
     requires rows { AreRows rows }
+    requires own { AreOwn rows head own }
     requires small { EachBelow (2 ^ 64) (components rule.weight) }
     ensures { option_map demanded result ≡ find (λ d. is_open scale (option_map components bound) (summaries rows.entry) d) (demands (summaries rows.entry) head.0 head.1 (components rule.weight) rule.to rule.word) }
 {
     match rule.word {
-        Word2::Empty => open_demand(rows, bound, head, rule.to, rule.weight),
+        Word2::Empty => open_demand(own, bound, head, rule.to, rule.weight),
         Word2::One(u) => {
             let parts = rows_at(rows.rows, rule.to, u);
-            open_after(rows, bound, head, rule.weight, parts)
+            open_after(own, bound, head, rule.weight, parts)
         }
         Word2::Two(u, v) => {
             let parts = rows_at(rows.rows, rule.to, u);
-            open_after_two(rows, bound, head, rule.weight, parts, v)
+            open_after_two(rows, own, bound, head, rule.weight, parts, v)
         }
     }
 }
@@ -118,6 +135,7 @@ fn open_by_rule(
 // What a weight so far and two parts one after the other demand, the first of them one of these.
 fn open_after_two(
     rows: Rows<'_>,
+    own: Rows<'_>,
     bound: Option<Weight>,
     head: (u64, u32),
     weight: Weight,
@@ -125,6 +143,7 @@ fn open_after_two(
     v: u32,
 ) -> Option<Demand>
     requires rows { AreRows rows }
+    requires own { AreOwn rows head own }
     requires small { EachBelow (2 ^ 64) (components weight) }
     requires parts { HaveTerms rows.terms parts.now }
     ensures { option_map demanded result ≡ find (λ d. is_open scale (option_map components bound) (summaries rows.entry) d) (flat_map (λ r. map (λ s. row head.0 head.1 s.q (plus (plus (components weight) r.weight) s.weight)) (rows_at (summaries rows.entry) r.q v)) (rows_of rows.entry.terms parts.now)) }
@@ -132,7 +151,7 @@ fn open_after_two(
     for part in parts {
         let half = weight.extend(weight_of(rows.terms, part.weight.as_slice()));
         let others = rows_at(rows.rows, part.q, v);
-        let found = open_after(rows, bound, head, half, others);
+        let found = open_after(own, bound, head, half, others);
         if found.is_some() {
             return found;
         }

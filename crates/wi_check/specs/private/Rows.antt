@@ -1,5 +1,5 @@
 -- Rows of a certificate as summaries.
-use Rattle.std.specs.Prelude.{◌≡◌, ℕ, ◌+◌, ◌≤◌, List, length}
+use Rattle.std.specs.Prelude.{◌≡◌, ℕ, ◌+◌, ◌≤◌, List, filter, length}
 use Rattle.std.specs.List.{All}
 use Rattle.wi_pds.specs.Closed.{Summary}
 use Rattle.wi_quantity.specs.Weighing.{components}
@@ -9,7 +9,7 @@ use Rattle.wi_accept.specs.Causes.{rows_of}
 use Rattle.wi_accept.specs.Demands.{row}
 use Rattle.wi_check.specs.declared.rows.Rows.{Rows}
 use Rattle.wi_check.specs.declared.rows.Demand.{Demand}
-use Rattle.wi_check.specs.private.Lists.{Rises}
+use Rattle.wi_check.specs.private.Lists.{Rises, is_row_of}
 
 -- each row's weight has so many terms and the effort
 abbrev pub HaveTerms : ℕ → List Row → Type 0
@@ -20,6 +20,12 @@ pub record AreRows (rows : Rows) : Type 0 where
   pub few : rows.terms ≤ 5
   pub terms : HaveTerms rows.terms rows.rows.now
   pub rise : Rises row_below rows.rows.now
+
+-- the rows of a head, in rising order
+pub record AreOwn (rows : Rows) (head : ℕ × ℕ) (own : Rows) : Type 0 where
+  pub terms : own.terms ≡ rows.terms
+  pub of_head : own.rows.now ≡ filter (is_row_of head.0 head.1) rows.rows.now
+  pub are_rows : AreRows own
 
 abbrev pub summaries : Rows → List Summary
 summaries rows = rows_of rows.terms rows.rows.now

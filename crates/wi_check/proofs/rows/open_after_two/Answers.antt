@@ -10,15 +10,16 @@ use Rattle.wi_accept.specs.Causes.{rows_of}
 use Rattle.wi_check.specs.private.Rows.{summaries}
 use Rattle.wi_check.proofs.Parts.{part_found, part_none, is_some_mapped}
 use Rattle.wi_check.proofs.RowLemmas.{one_part, two_parts, summary_of, is_open_in, own_parts, own_terms, sum_of_part}
+use Rattle.wi_check.proofs.OwnRows.{own_after, terms_of_own}
 use Rattle.wi_check.proofs.rows.open_after_two.Goals as goal
 
 pub open_after-found-requires-clause-parts : goal.open_after-found-requires-clause-parts
-open_after-found-requires-clause-parts c = own_terms c.args.rows.terms c.part-item.result.q c.args.v c.args.rows.rows.now _ c.rows_at-others.ensures c.requires.rows.terms
+open_after-found-requires-clause-parts c = terms_of_own c.args.rows c.args.own c.args.head c.args.bound c.requires.own _ (own_terms c.args.rows.terms c.part-item.result.q c.args.v c.args.rows.rows.now _ c.rows_at-others.ensures c.requires.rows.terms)
 
 pub returns-then-is_some : goal.returns-then-is_some
 returns-then-is_some c =
     let half = sum_of_part c.args.rows.terms _ (components c.args.weight) _ _ _ c.extend-half.ensures c.weight_of.ensures.value c.as_slice.ensures in
-    let found = c.open_after-found.ensures
+    let found = c.open_after-found.ensures ∙ own_after c.args.rows c.args.own c.args.head c.args.bound c.requires.own (components c.extend-half.result) c.rows_at-others.result.now
     ∙ ap (λ (w : List ℕ). find (is_open_in c.args.rows c.args.bound) (map (one_part c.args.head w) (rows_of c.args.rows.terms c.rows_at-others.result.now))) half
     ∙ ap (λ (ss : List Summary). find (is_open_in c.args.rows c.args.bound) (map (one_part c.args.head (plus (components c.args.weight) (padded c.args.rows.terms c.part-item.result.weight))) ss))
     (own_parts c.args.rows.terms c.part-item.result.q c.args.v c.args.rows.rows.now _ c.rows_at-others.ensures) in
@@ -30,7 +31,7 @@ returns-then-is_some c =
 pub loop-part-preserved : goal.loop-part-preserved
 loop-part-preserved c =
     let half = sum_of_part c.args.rows.terms _ (components c.args.weight) _ _ _ c.extend-half.ensures c.weight_of.ensures.value c.as_slice.ensures in
-    let found = c.open_after-found.ensures
+    let found = c.open_after-found.ensures ∙ own_after c.args.rows c.args.own c.args.head c.args.bound c.requires.own (components c.extend-half.result) c.rows_at-others.result.now
     ∙ ap (λ (w : List ℕ). find (is_open_in c.args.rows c.args.bound) (map (one_part c.args.head w) (rows_of c.args.rows.terms c.rows_at-others.result.now))) half
     ∙ ap (λ (ss : List Summary). find (is_open_in c.args.rows c.args.bound) (map (one_part c.args.head (plus (components c.args.weight) (padded c.args.rows.terms c.part-item.result.weight))) ss))
     (own_parts c.args.rows.terms c.part-item.result.q c.args.v c.args.rows.rows.now _ c.rows_at-others.ensures) in

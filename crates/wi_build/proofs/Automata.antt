@@ -1,7 +1,6 @@
 -- An expression's automaton, as rules are made of it: it accepts just what the expression matches.
-use Rattle.std.proofs.Common.{◌≡◌, ℕ, ◌<◌, true, ◌↔◌, List, [], ◌∷◌, nat_eq, inl, inr, arith}
-use Rattle.std.specs.List.{Contains, list_any, range_with_len}
-use Rattle.std.proofs.lemmas.Bool.{eqb-true, eq-eqb, or_cases, or_left, or_right}
+use Rattle.std.proofs.Common.{◌≡◌, ℕ, ◌<◌, ◌↔◌, List, [], ◌∷◌, inl, inr, arith}
+use Rattle.std.specs.List.{Contains, range_with_len}
 use Rattle.wi_regex.specs.Matching.{Matches}
 use Rattle.wi_nfa.specs.Automata as nfa
 use Rattle.wi_nfa.specs.Rows.{automaton_of}
@@ -12,7 +11,7 @@ use Rattle.wi_query.specs.Compiled.{Compiled, HasAutomaton}
 use Rattle.wi_query.specs.Sets.{holds}
 use Rattle.wi_rules.specs.Rules.{IsAutomaton, IsTurned}
 use Rattle.wi_rules.specs.Goals.{Walks, Accepts}
-use Rattle.wi_rules.proofs.Lists.{In, contains_in, in_contains, in_range}
+use Rattle.wi_rules.proofs.Lists.{contains_in, in_contains, in_range}
 use Rattle.wi_build.specs.Encodings.{after, comes_after, before, automaton}
 use Rattle.wi_build.proofs.StateLemmas.{any_in, in_any}
 

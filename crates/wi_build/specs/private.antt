@@ -1,6 +1,5 @@
 -- What only private contracts and proofs use: no public contract reaches it.
 pub mod Tags
-pub mod Systems
 pub mod Small
 pub mod Needs
 pub mod Rows

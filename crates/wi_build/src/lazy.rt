@@ -53,7 +53,9 @@ impl<'a> Model for LazySystem<'a> {
     ghost use Rattle.wi_regex.specs.contracts.regex.Regex as regex;
     ghost use Rattle.wi_query.specs.contracts.symbols.SymbolSet as set;
     ghost use Rattle.wi_build.specs.Problems.{Problem};
-    ghost use Rattle.wi_build.specs.private.Systems.{IsLazy};
+    ghost use Rattle.std.specs.Prelude.{◌≡◌};
+    ghost use Rattle.wi_build.specs.Encodings.{encoding_of};
+    ghost use Rattle.wi_rules.specs.Numbers.{layout_of};
 
     ghost Value = { Problem };
 
@@ -61,7 +63,7 @@ impl<'a> Model for LazySystem<'a> {
 
     ghost view = { λ s. s.problem.now };
 
-    ghost invariant = { λ s. IsLazy s.problem.now s.layout };
+    ghost invariant = { λ s. s.layout ≡ layout_of (encoding_of s.problem.now) };
 }
 
 impl<'a> LazySystem<'a> {
@@ -74,13 +76,6 @@ impl<'a> LazySystem<'a> {
             problem,
             layout: Layout::of(problem.net(), problem.query()),
         }
-    }
-
-    /// The problem whose rules these are.
-    pub fn problem(&self) -> &'a Problem<'a>
-        ensures { result.now ≡ self.now }
-    {
-        self.problem
     }
 
     /// How its spots are numbered.
@@ -142,7 +137,7 @@ impl<'a> LazySystem<'a> {
 // What the rules are made of: the automata of the query, what operations write, and weights.
 impl<'a> LazySystem<'a> {
     /// The network.
-    pub(crate) fn network(&self) -> &'a Network
+    pub fn network(&self) -> &'a Network
         ensures { result.now ≡ self.now.net }
     {
         self.problem.net()
@@ -153,6 +148,13 @@ impl<'a> LazySystem<'a> {
         ensures { result.now ≡ self.now.bounds }
     {
         self.problem.bounds()
+    }
+
+    /// How many terms a weight has that is shown, its effort not counted.
+    pub fn terms(&self) -> usize
+        ensures { result ≡ length self.now.vector }
+    {
+        self.problem.terms()
     }
 
     // The query.

@@ -5,6 +5,7 @@ use Rattle.wi_weight.specs.declared.kinds.Pair.{Pair}
 use Rattle.wi_weight.specs.declared.kinds.Terms.{Terms}
 use Rattle.wi_weight.specs.declared.kinds.Effort.{Effort}
 use Rattle.wi_weight.specs.Weights.{EachBelow, IsWeight}
+use Rattle.wi_net.specs.Net.{Net}
 use Rattle.wi_world.specs.declared.run.Run.{Run}
 use Rattle.wi_world.specs.Moving.{IsMovingRun}
 use Rattle.wi_world.specs.Runs.{effort_of}
@@ -19,10 +20,12 @@ use Rattle.wi_saturate.specs.declared.row.Row.{Row}
 use Rattle.wi_saturate.specs.Rows.{IsFor, TableView}
 use Rattle.wi_saturate.proofs.Elements.{get_last}
 use Rattle.wi_witness.specs.GoalRuns.{IsNamedRun}
+use Rattle.wi_rules.specs.Numbers.{Layout, layout_of}
 use Rattle.wi_build.specs.Problems.{IsAnswering, Problem, IsProblem, asks, weighs}
 use Rattle.wi_build.specs.Encodings.{encoding_of}
 use Rattle.wi_build.specs.Systems.{rules, rules_by, scale}
 use Rattle.wi_trees.specs.Trees.{NoRunBelow}
+use Rattle.wi_decide.specs.Spelled.{AreRulesFor}
 use Rattle.wi_decide.specs.declared.refused.SearchRefused.{SearchRefused}
 use Rattle.wi_decide.specs.declared.refused.SearchRefused.TheVariants.{Overflow, TooLong, Memory}
 use Rattle.wi_decide.specs.private.Tables.{HasTable, IsNoTable, IsNotShown, IsTable}
@@ -30,6 +33,10 @@ use Rattle.wi_decide.specs.Searches.{AllFitBelow, IsLeastBelow, IsTooLongBelow, 
 use Rattle.wi_accept.proofs.OrderLemmas.{below_within, not_less, within_below}
 use Rattle.wi_accept.proofs.RuleLemmas.{answers_pop, pops_answer}
 use Rattle.wi_accept.proofs.WeightLemmas.{six_components, effort_at}
+
+-- a problem's rules, with its network and the layout of its spots
+pub rules_for : (problem : Problem) (net : Net) (layout : Layout) → IsProblem problem → net ≡ problem.net → layout ≡ layout_of (encoding_of problem) → AreRulesFor problem net layout (rules_by (encoding_of problem))
+rules_for problem net layout k net_is layout_is = record { is_problem = k; net_is = sym net_is; layout_is = layout_is; rules_are = refl }
 
 -- a cut is a weight, if there is one
 cut_weight : (cut : Option (Pair Terms Effort)) → IfSome (option_map components cut) (λ b. IsWeight scale b)

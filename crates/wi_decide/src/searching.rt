@@ -83,7 +83,7 @@ fn search_by(
     let heads = reach(alloc, system)?;
     let table = table_of::<Brand, Brand>(alloc, system, &heads, cut, Blank::new(1), Blank::new(1))?;
     let found = found_of(alloc, system, &table)?;
-    let closed = closed_of(alloc, system.problem().terms() as u32, heads, &table)?;
+    let closed = closed_of(alloc, system.terms() as u32, heads, &table)?;
     Ok(Searched { found, closed })
 }
 
@@ -160,8 +160,13 @@ fn least_run(
 {
     system.keeps();
     let ids = goal_run(alloc, table)?;
-    let net = system.problem().net();
-    Ok(run_of(alloc, net, system.layout(), system, ids.as_slice())?)
+    Ok(run_of(
+        alloc,
+        system.network(),
+        system.layout(),
+        system,
+        ids.as_slice(),
+    )?)
 }
 
 // The rules of a goal run of the goal's weight, if they aren't too many.

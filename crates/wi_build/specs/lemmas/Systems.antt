@@ -7,7 +7,7 @@ use Rattle.wi_pds.specs.Rules.{IsOf}
 use Rattle.wi_rules.specs.declared.spot.Origin.TheVariants.{Nothing}
 use Rattle.wi_rules.specs.Rules.{Encoding}
 use Rattle.wi_rules.specs.Numbers.{rules_at_number}
-use Rattle.wi_build.specs.Systems.{weight, rule_at, rules_by}
+use Rattle.wi_build.specs.Systems.{rule_at, rules_by}
 
 -- each rule of a head names it
 pub rules_name_heads : (s : Encoding) (n g : ℕ) → All (IsOf n g) (rules_by s n g)

@@ -1,6 +1,6 @@
 use Rattle.wi_rules.proofs.Pops.{match_pops, pops_match, tells_match}
 use Rattle.wi_build.specs.Encodings.{encoding_of}
-use Rattle.wi_build.proofs.Sound.{sound, to_match, of_match}
+use Rattle.wi_build.proofs.Sound.{to_match, of_match}
 use Rattle.wi_build.proofs.laws.goal_runs_are_matching_runs.Goals as goal
 
 pub returns : goal.returns

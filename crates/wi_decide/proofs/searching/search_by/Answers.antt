@@ -1,6 +1,4 @@
-use Rattle.std.proofs.Common.{◌≡◌, length, ap, ◌∙◌}
 use Rattle.std.proofs.lemmas.Result.{err_from_is_err_and}
-use Rattle.wi_build.specs.Problems.{Problem}
 use Rattle.wi_decide.specs.private.Tables.{HasTable}
 use Rattle.wi_decide.proofs.AnswerLemmas.{all_fit, no_table}
 use Rattle.wi_decide.proofs.MakerLemmas.{few_terms, found_small, written_by}
@@ -11,9 +9,7 @@ pub found_of-requires : goal.found_of-requires
 found_of-requires c = (c.args.cut, record { heads = c.in_ok-heads.heads.heads; pairs = c.in_ok-heads.heads.pairs; closed = c.in_ok-heads.ensures; least = c.in_ok-table.ensures.table })
 
 pub closed_of-requires-clause-few : goal.closed_of-requires-clause-few
-closed_of-requires-clause-few c =
-    let terms_are : c.terms.result ≡ length c.args.system.now.vector = c.terms.ensures ∙ ap (λ (p : Problem). length p.vector) c.problem.ensures in
-    rw terms_are (few_terms c.args.system.now.vector c.keeps.ensures.vector)
+closed_of-requires-clause-few c = rw c.terms.ensures (few_terms c.args.system.now.vector c.keeps.ensures.vector)
 
 pub closed_of-requires-clause-fits : goal.closed_of-requires-clause-fits
 closed_of-requires-clause-fits c = rows_fit c.args.system.now c.in_ok-heads.heads.heads c.args.cut c.in_ok-table.table c.in_ok-table.ensures.table
@@ -25,9 +21,8 @@ returns-clause-found c =
 
 pub returns-clause-closed : goal.returns-clause-closed
 returns-clause-closed c =
-    let terms_are : c.terms.result ≡ length c.args.system.now.vector = c.terms.ensures ∙ ap (λ (p : Problem). length p.vector) c.problem.ensures in
     written_by c.args.system.now c.in_ok-heads.heads.heads c.in_ok-heads.heads.pairs c.args.cut c.in_ok-table.table c.in_ok-found.found c.in_ok-closed.closed c.terms.result
-    c.keeps.ensures.problem c.keeps.ensures.vector terms_are c.in_ok-heads.ensures c.in_ok-table.ensures.table c.in_ok-found.ensures.weight
+    c.keeps.ensures.problem c.keeps.ensures.vector c.terms.ensures c.in_ok-heads.ensures c.in_ok-table.ensures.table c.in_ok-found.ensures.weight
     c.in_ok-closed.ensures.heads c.in_ok-closed.ensures.pairs c.in_ok-closed.ensures.heads_rise c.in_ok-closed.ensures.pairs_rise c.in_ok-closed.ensures.rows c.in_ok-closed.ensures.sorted
 
 pub returns-clause-fits : goal.returns-clause-fits

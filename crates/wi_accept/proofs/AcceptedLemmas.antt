@@ -17,7 +17,7 @@ use Rattle.wi_build.specs.Systems.{scale, weight}
 use Rattle.wi_build.proofs.LawLemmas.{weight_tells}
 use Rattle.wi_cert.specs.declared.certificate.Certificate.{Certificate}
 use Rattle.wi_cert.specs.declared.check_refused.CheckRefused.{CheckRefused}
-use Rattle.wi_cert.specs.declared.check_refused.CheckRefused.TheVariants.{TermsDiffer, StepNotInTable, NoMatch, WeightDiffers, WrongAnswer, Unbounded, BadSplit, Leaf, Memory}
+use Rattle.wi_cert.specs.declared.check_refused.CheckRefused.TheVariants.{OfAnotherQuestion, TermsDiffer, StepNotInTable, NoMatch, WeightDiffers, WrongAnswer, Unbounded, BadSplit, Leaf, Memory}
 use Rattle.wi_cert.specs.Shown.{is_no}
 use Rattle.wi_cert.specs.Text.{IsWritable}
 use Rattle.wi_accept.specs.Answers.{IsDecided, word_of, padded, run_of, answer_of}
@@ -29,6 +29,7 @@ use Rattle.wi_accept.proofs.Showing.{moving, matches, weight_is, word_is}
 
 -- what speaks against what is shown speaks against the certificate
 shown_cause : (problem : Problem) (c : Certificate) (r : CheckRefused) → IsShownCause problem c.shown r → IsCause problem c r
+shown_cause problem c OfAnotherQuestion h = h
 shown_cause problem c (TermsDiffer shown asked) h = h
 shown_cause problem c (StepNotInTable n) h = h
 shown_cause problem c (NoMatch part) h = h

@@ -21,7 +21,7 @@ use Rattle.wi_cert.specs.declared.shown.Claim.{Claim}
 use Rattle.wi_cert.specs.declared.shown.Claim.TheVariants as claims
 use Rattle.wi_cert.specs.declared.check_refused.ClosedRefused.{ClosedRefused}
 use Rattle.wi_cert.specs.declared.check_refused.CheckRefused.{CheckRefused}
-use Rattle.wi_cert.specs.declared.check_refused.CheckRefused.TheVariants.{TermsDiffer, StepNotInTable, NoMatch, WeightDiffers, WrongAnswer, Unbounded, BadSplit, Leaf, Memory}
+use Rattle.wi_cert.specs.declared.check_refused.CheckRefused.TheVariants.{OfAnotherQuestion, TermsDiffer, StepNotInTable, NoMatch, WeightDiffers, WrongAnswer, Unbounded, BadSplit, Leaf, Memory}
 use Rattle.wi_cert.specs.Shown.{is_no}
 use Rattle.wi_cert.specs.Closed.{IsClosed}
 use Rattle.wi_cert.specs.Trees.{is_inconclusive, IsLeafOf, IsTreeWritable}
@@ -41,6 +41,7 @@ use Rattle.wi_accept.proofs.Visits.{matches_within, problem_within, all_from_get
 
 -- what speaks against what is shown speaks against the tree
 shown_cause : (problem : Problem) (t : TreeCertificate) (r : CheckRefused) → IsShownCause problem t.shown r → IsTreeCause problem t r
+shown_cause problem t OfAnotherQuestion h = h
 shown_cause problem t (TermsDiffer shown asked) h = h
 shown_cause problem t (StepNotInTable n) h = h
 shown_cause problem t (NoMatch part) h = h

@@ -17,7 +17,7 @@ use Rattle.wi_cert.specs.declared.certificate.Certificate.{Certificate}
 use Rattle.wi_cert.specs.declared.check_refused.Part.{Part}
 use Rattle.wi_cert.specs.declared.check_refused.Part.TheVariants.{First, Path, Last}
 use Rattle.wi_cert.specs.declared.check_refused.CheckRefused.{CheckRefused}
-use Rattle.wi_cert.specs.declared.check_refused.CheckRefused.TheVariants.{TermsDiffer, StepNotInTable, NoMatch, WeightDiffers, WrongAnswer, Unbounded, BadSplit, Leaf, Memory}
+use Rattle.wi_cert.specs.declared.check_refused.CheckRefused.TheVariants.{OfAnotherQuestion, TermsDiffer, StepNotInTable, NoMatch, WeightDiffers, WrongAnswer, Unbounded, BadSplit, Leaf, Memory}
 use Rattle.wi_cert.specs.declared.check_refused.ClosedRefused.{ClosedRefused}
 use Rattle.wi_cert.specs.declared.check_refused.ClosedRefused.TheVariants.{HeadMissing, PairMissing, GoalBelow, NotClosed}
 use Rattle.wi_cert.specs.declared.closed.Closed.{Closed}
@@ -81,6 +81,7 @@ same_gap problem terms bound c r s e h k = absurd (omega (arith, e))
 
 -- two causes of one place against what is shown
 pub same_shown : (problem : Problem) (s : Shown) (r t : CheckRefused) → place r ≡ place t → IsShownCause problem s r → IsShownCause problem s t → r ≡ t
+same_shown problem s OfAnotherQuestion OfAnotherQuestion e h k = refl
 same_shown problem s (TermsDiffer a b) (TermsDiffer x y) e h k = ap (λ n. TermsDiffer n b) (h.0 ∙ sym k.0) ∙ ap (λ n. TermsDiffer x n) (h.1 ∙ sym k.1)
 same_shown problem s (StepNotInTable n) (StepNotInTable x) e h k = ap (λ (y : ℕ × Cause). StepNotInTable y.0) (some_same (n, h.1) (x, k.1) (sym h.2 ∙ k.2))
 same_shown problem s (NoMatch a) (NoMatch x) e h k = ap (λ y. NoMatch y) (one_part problem.net (asks problem) (run_of problem.net s) a x h.1 k.1)
@@ -107,6 +108,7 @@ one_first IsOne same r s h k = elim (cases_order (place r) (place s)) [
 module _ (problem : Problem) (c : Certificate) where
   same_cause : (r s : CheckRefused) → place r ≡ place s → IsCause problem c r → IsCause problem c s → r ≡ s
   same_cause (Unbounded r) (Unbounded s) e h k = ap (λ x. Unbounded x) (same_gap problem c.shown.terms (bound_of c.shown) c.closed r s (omega (arith, e)) h k)
+  same_cause (Unbounded r) OfAnotherQuestion e h k = absurd (omega (arith, e))
   same_cause (Unbounded r) (TermsDiffer x y) e h k = absurd (omega (arith, e))
   same_cause (Unbounded r) (StepNotInTable x) e h k = absurd (omega (arith, e))
   same_cause (Unbounded r) (NoMatch x) e h k = absurd (omega (arith, e))
@@ -115,6 +117,7 @@ module _ (problem : Problem) (c : Certificate) where
   same_cause (Unbounded r) (BadSplit n) e h k = absurd k
   same_cause (Unbounded r) (Leaf n x) e h k = absurd k
   same_cause (Unbounded r) Memory e h k = absurd k
+  same_cause OfAnotherQuestion (Unbounded s) e h k = absurd (omega (arith, e))
   same_cause (TermsDiffer a b) (Unbounded s) e h k = absurd (omega (arith, e))
   same_cause (StepNotInTable n) (Unbounded s) e h k = absurd (omega (arith, e))
   same_cause (NoMatch a) (Unbounded s) e h k = absurd (omega (arith, e))
@@ -135,7 +138,8 @@ few_places (GoalBelow w) = omega arith
 few_places (NotClosed head target sum) = omega arith
 
 -- what speaks against what is shown comes before what speaks against nodes
-pub shown_first : (problem : Problem) (s : Shown) (r : CheckRefused) → IsShownCause problem s r → place r < 5
+pub shown_first : (problem : Problem) (s : Shown) (r : CheckRefused) → IsShownCause problem s r → place r < 6
+shown_first problem s OfAnotherQuestion h = omega arith
 shown_first problem s (TermsDiffer a b) h = omega arith
 shown_first problem s (StepNotInTable n) h = omega arith
 shown_first problem s (NoMatch part) h = omega arith

@@ -108,4 +108,4 @@ module _ (problem : Problem) (answer : Answer) (t : TreeCertificate) (k : IsProb
       let made = get_from_all IsMade (branches_of problem t) (n - 1) (h.0, node.Closed h.1) maker.nodes h.2.1 in
       let b = part_of (n - 1) h.0 (node.Closed h.1) h.2.1 in
       nothing_open_in (within problem h.0) t.shown.terms bound h.1 made.1 (bound_weight t.shown maker.writable.shown) (leaf_none h.0 b made.0) r h.3
-  nothing_against_tree r h = nothing_against_shown problem t.shown k maker.terms rightly r h
+  nothing_against_tree r h = nothing_against_shown problem t.shown k maker.about maker.terms rightly r h

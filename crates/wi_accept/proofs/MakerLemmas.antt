@@ -98,4 +98,4 @@ module _ (problem : Problem) (answer : Answer) (c : Certificate) (k : IsProblem 
   nothing_against (Unbounded r) h = nothing_open_in problem c.shown.terms (bound_of c.shown) c.closed maker.least (bound_weight c.shown maker.writable.shown) none_within r h
   nothing_against (BadSplit n) h = h
   nothing_against (Leaf n r) h = h
-  nothing_against r h = nothing_against_shown problem c.shown k maker.terms rightly r h
+  nothing_against r h = nothing_against_shown problem c.shown k maker.about maker.terms rightly r h

@@ -8,7 +8,7 @@ use Rattle.wi_nfa.proofs.Walks.{accepted}
 use Rattle.wi_query.specs.Compiled.{Compiled, HasAutomaton}
 use Rattle.wi_query.specs.Sets.{holds}
 use Rattle.wi_world.specs.declared.run.Run.{Run}
-use Rattle.wi_world.specs.Holds.{Matches}
+use Rattle.wi_world.specs.Holds.{Matches, is_dropped}
 use Rattle.wi_world.specs.Runs.{links_of, last_header}
 use Rattle.wi_rules.proofs.Lists.{in_contains, contains_in}
 use Rattle.wi_build.specs.Problems.{Problem, IsProblem, asks}
@@ -40,10 +40,11 @@ matched e k w h = elim (accepts_or_not (automaton_of holds e.nfa) 0 w) [
   | inr n ↦ absurd (h (λ a. n ((accepted holds e.regex (automaton_of holds e.nfa) k.automaton w).1 a)))
 ]
 
--- a run of which no part is the first unmatched one matches
-pub none_unmatched : (problem : Problem) → IsProblem problem → (run : Run) → ((part : Part) → IsFirstUnmatched problem.net (asks problem) run part → ⊥) → Matches problem.net (asks problem) run
-none_unmatched problem k run none =
+-- a run of which no part is the first unmatched one, and that is dropped exactly where that is asked for, matches
+pub none_unmatched : (problem : Problem) → IsProblem problem → (run : Run) → ((part : Part) → IsFirstUnmatched problem.net (asks problem) run part → ⊥)
+    → is_dropped run.end ≡ (asks problem).drops → Matches problem.net (asks problem) run
+none_unmatched problem k run none end =
     let first = matched problem.query.first k.automata.first (map (λ l. l.0.0) run.header) (λ n. none First n) in
     let path = matched problem.query.path k.automata.path (map (λ e. e.0) (links_of problem.net run)) (λ n. none Path (first, n)) in
     let last = matched problem.query.last k.automata.last (map (λ l. l.0.0) (last_header problem.net (run.first, run.header) run.steps)) (λ n. none Last (first, path, n)) in
-    record { first = first; path = path; last = last }
+    record { first = first; path = path; last = last; end = end }

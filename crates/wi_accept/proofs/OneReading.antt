@@ -21,7 +21,7 @@ use Rattle.wi_cert.specs.declared.tree.Node.TheVariants as node
 use Rattle.wi_cert.specs.declared.tree.TreeCertificate.{TreeCertificate}
 use Rattle.wi_cert.specs.declared.check_refused.Part.TheVariants.{First, Path, Last}
 use Rattle.wi_cert.specs.declared.check_refused.CheckRefused.{CheckRefused}
-use Rattle.wi_cert.specs.declared.check_refused.CheckRefused.TheVariants.{TermsDiffer, StepNotInTable, NoMatch, WeightDiffers, WrongAnswer, Unbounded, BadSplit, Leaf, Memory}
+use Rattle.wi_cert.specs.declared.check_refused.CheckRefused.TheVariants.{OfAnotherQuestion, TermsDiffer, StepNotInTable, NoMatch, WeightDiffers, WrongAnswer, Unbounded, BadSplit, Leaf, Memory}
 use Rattle.wi_cert.specs.declared.check_refused.ClosedRefused.{ClosedRefused}
 use Rattle.wi_cert.specs.declared.check_refused.ClosedRefused.TheVariants.{HeadMissing, PairMissing, GoalBelow, NotClosed}
 use Rattle.wi_accept.specs.declared.need.Need.TheVariants.{Head, Pair}
@@ -46,6 +46,7 @@ closed_in_first p s terms bound c same (NotClosed head target sum) h =
 
 -- a cause in the second problem is one in the first
 shown_in_first : (net : Net) (vector : List (List Part)) (q r : Query) (s : Shown) → AreOne net vector q r → (cause : CheckRefused) → IsShownCause (problem_of net r vector) s cause → IsShownCause (problem_of net q vector) s cause
+shown_in_first net vector q r s one OfAnotherQuestion h = λ same. h (same ∙ one.asks.drops)
 shown_in_first net vector q r s one (TermsDiffer shown asked) h = h
 shown_in_first net vector q r s one (StepNotInTable n) h = (h.0, h.1, subst (λ b. moving_fault net b (run_of net s) ≡ Some (n, h.1)) (sym one.asks.bounds) h.2)
 shown_in_first net vector q r s one (NoMatch First) h = (h.0, λ m. h.1 ((one.asks.first _).0 m))

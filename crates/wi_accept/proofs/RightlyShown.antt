@@ -1,5 +1,5 @@
 -- Nothing speaks against what is shown rightly.
-use Rattle.std.proofs.Common.{◌≡◌, Bool, true, false, length, refl, sym, ◌∙◌}
+use Rattle.std.proofs.Common.{◌≡◌, Bool, true, false, length, is_some, refl, sym, ◌∙◌}
 use Rattle.wi_world.specs.declared.answer.Verdict.{Verdict}
 use Rattle.wi_world.specs.Moving.{IsMovingRun}
 use Rattle.wi_world.specs.Runs.{verdict_of}
@@ -12,7 +12,7 @@ use Rattle.wi_cert.specs.declared.shown.Claim.TheVariants as claims
 use Rattle.wi_cert.specs.declared.shown.Shown.{Shown}
 use Rattle.wi_cert.specs.declared.check_refused.Part.TheVariants.{First, Path, Last}
 use Rattle.wi_cert.specs.declared.check_refused.CheckRefused.{CheckRefused}
-use Rattle.wi_cert.specs.declared.check_refused.CheckRefused.TheVariants.{TermsDiffer, StepNotInTable, NoMatch, WeightDiffers, WrongAnswer, Unbounded, BadSplit, Leaf, Memory}
+use Rattle.wi_cert.specs.declared.check_refused.CheckRefused.TheVariants.{OfAnotherQuestion, TermsDiffer, StepNotInTable, NoMatch, WeightDiffers, WrongAnswer, Unbounded, BadSplit, Leaf, Memory}
 use Rattle.wi_cert.specs.Shown.{is_no}
 use Rattle.wi_accept.specs.Answers.{padded, run_of}
 use Rattle.wi_accept.specs.Causes.{is_wrong, IsShownCause}
@@ -29,7 +29,8 @@ no_is_right claims.No v h = refl
 no_is_right claims.Yes v h = cc
 no_is_right claims.Inconclusive v h = cc
 
-module _ (problem : Problem) (s : Shown) (k : IsProblem problem) (terms : s.terms ≡ length problem.vector) (rightly : is_no s.claim ≡ false → IsRightlyShown problem s) where
+module _ (problem : Problem) (s : Shown) (k : IsProblem problem) (about : is_some s.dropped ≡ (asks problem).drops) (terms : s.terms ≡ length problem.vector)
+    (rightly : is_no s.claim ≡ false → IsRightlyShown problem s) where
   right : is_wrong s.claim (verdict_of problem.net problem.bounds (run_of problem.net s)) ≡ false
   right = go (is_no s.claim) refl
     where
@@ -38,6 +39,7 @@ module _ (problem : Problem) (s : Shown) (k : IsProblem problem) (terms : s.term
       go false e = (rightly e).right
 
   pub nothing_against_shown : (r : CheckRefused) → IsShownCause problem s r → ⊥
+  nothing_against_shown OfAnotherQuestion h = h about
   nothing_against_shown (TermsDiffer shown asked) h = h.2 (h.0 ∙ terms ∙ sym h.1)
   nothing_against_shown (StepNotInTable n) h =
       fault_not_possible problem.net problem.bounds (run_of problem.net s) n h.1 h.2

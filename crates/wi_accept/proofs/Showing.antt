@@ -1,5 +1,5 @@
 -- A run that is shown, where nothing speaks against it, moves and matches, and weighs what is said.
-use Rattle.std.proofs.Common.{◌≡◌, ℕ, true, false, List, length, Option, Some, None, refl, ap, sym, ◌∙◌}
+use Rattle.std.proofs.Common.{◌≡◌, ◌≢◌, ℕ, Bool, true, false, List, length, Option, Some, None, is_some, refl, ap, sym, ◌∙◌}
 use Rattle.wi_weight.specs.Weights.{AtMost}
 use Rattle.wi_weight.specs.lemmas.Order.{at_most_both, tied}
 use Rattle.wi_world.specs.declared.answer.Verdict.{Verdict}
@@ -7,7 +7,7 @@ use Rattle.wi_world.specs.declared.answer.Verdict.TheVariants.{Fits, Exceeds, Us
 use Rattle.wi_world.specs.declared.run.Run.{Run}
 use Rattle.wi_world.specs.Moving.{IsMovingRun}
 use Rattle.wi_world.specs.Runs.{verdict_of}
-use Rattle.wi_world.specs.Holds.{Matches}
+use Rattle.wi_world.specs.Holds.{Matches, is_dropped}
 use Rattle.wi_world.specs.private.Holds.{word_for}
 use Rattle.wi_world.proofs.MovingLaws.{possible_moving}
 use Rattle.wi_trace.specs.declared.cause.Cause.{Cause}
@@ -18,11 +18,13 @@ use Rattle.wi_build.specs.Systems.{scale, weight}
 use Rattle.wi_build.proofs.LawLemmas.{weight_tells}
 use Rattle.wi_cert.specs.declared.shown.Claim.{Claim}
 use Rattle.wi_cert.specs.declared.shown.Claim.TheVariants as claims
+use Rattle.wi_cert.specs.declared.shown.Dropped.{Dropped}
+use Rattle.wi_cert.specs.declared.shown.Dropped.TheVariants.{Nowhere, Inactive, Undefined}
 use Rattle.wi_cert.specs.declared.shown.Shown.{Shown}
 use Rattle.wi_cert.specs.declared.check_refused.CheckRefused.{CheckRefused}
-use Rattle.wi_cert.specs.declared.check_refused.CheckRefused.TheVariants.{StepNotInTable, NoMatch, WeightDiffers, WrongAnswer}
-use Rattle.wi_cert.specs.Shown.{is_no, IsShown}
-use Rattle.wi_accept.specs.Answers.{word_of, padded, run_of}
+use Rattle.wi_cert.specs.declared.check_refused.CheckRefused.TheVariants.{OfAnotherQuestion, StepNotInTable, NoMatch, WeightDiffers, WrongAnswer}
+use Rattle.wi_cert.specs.Shown.{is_no, MayBeDropped, IsShown}
+use Rattle.wi_accept.specs.Answers.{word_of, padded, end_of, run_of}
 use Rattle.wi_accept.specs.Causes.{is_wrong, IsShownCause}
 use Rattle.wi_accept.proofs.WeightLemmas.{scale_laws, six_components, shown_six}
 use Rattle.wi_accept.proofs.MatchLemmas.{none_unmatched}
@@ -36,6 +38,20 @@ right_word claims.Yes (UsesFailed e) run right = absurd (right refl)
 right_word claims.Inconclusive (Fits fails) run right = absurd (right refl)
 right_word claims.Inconclusive (Exceeds n) run right = refl
 right_word claims.Inconclusive (UsesFailed e) run right = refl
+
+-- where a run is shown, its packet is dropped in a text of version 2 alone
+dropped_shown : (claim : Claim) (dropped : Option Dropped) → is_no claim ≡ false → MayBeDropped claim dropped → is_dropped (end_of dropped) ≡ is_some dropped
+dropped_shown claim None run may = refl
+dropped_shown claim (Some Nowhere) run may = cc
+dropped_shown claim (Some Inactive) run may = refl
+dropped_shown claim (Some (Undefined j m)) run may = refl
+
+-- truth values that aren't different are the same
+not_apart : (a b : Bool) → (a ≢ b → ⊥) → a ≡ b
+not_apart true true h = refl
+not_apart true false h = absurd (h (λ e. cc))
+not_apart false true h = absurd (h (λ e. cc))
+not_apart false false h = refl
 
 -- weights that aren't different are the same
 not_different : (a b : List ℕ) → length a ≡ 6 → length b ≡ 6 → ((a ≡ b → ⊥) → ⊥) → a ≡ b
@@ -62,7 +78,9 @@ module _ (problem : Problem) (s : Shown) (k : IsProblem problem) (shown : IsShow
   moving = possible_moving problem.net problem.bounds shown_run k.network k.bounds_of (moving_fault_none problem.net problem.bounds shown_run none_at_fault)
 
   pub matches : Matches problem.net (asks problem) shown_run
-  matches = none_unmatched problem k shown_run (λ part n. none (NoMatch part) (claim, n))
+  matches =
+      let asked : is_some s.dropped ≡ (asks problem).drops = not_apart (is_some s.dropped) (asks problem).drops (λ n. none OfAnotherQuestion n) in
+      none_unmatched problem k shown_run (λ part n. none (NoMatch part) (claim, n)) (dropped_shown s.claim s.dropped claim shown.dropped ∙ asked)
 
   pub weight_is : weighs problem shown_run ≡ shown_weight
   weight_is =

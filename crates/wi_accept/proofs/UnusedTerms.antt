@@ -14,9 +14,11 @@ use Rattle.wi_weight.specs.declared.kinds.Effort.{Effort}
 use Rattle.wi_world.specs.declared.run.Quantity.{Quantity}
 use Rattle.wi_world.specs.declared.run.Run.{Run as WorldRun}
 use Rattle.wi_world.specs.declared.run.Step.{Step}
+use Rattle.wi_world.specs.declared.run.End.{End}
+use Rattle.wi_world.specs.Moves.{before_end}
 use Rattle.wi_world.specs.Runs.{link_share, quantity_of, effort_of}
 use Rattle.wi_quantity.specs.declared.vector.Part.{Part}
-use Rattle.wi_quantity.specs.Weighing.{components, term_value, term_values, member_share, hop_weight, member_in, entry_weight, first_weight}
+use Rattle.wi_quantity.specs.Weighing.{components, term_value, term_values, member_share, end_adds, hop_weight, end_weight, member_in, entry_weight, first_weight}
 use Rattle.wi_pds.specs.declared.rule.Rule.{Rule}
 use Rattle.wi_pds.specs.Runs.{Run, Pops, run_weight, symbols}
 use Rattle.wi_rules.specs.declared.spot.Spot.{Spot}
@@ -65,7 +67,7 @@ module _ (problem : Problem) (k : IsProblem problem) where
   is_encoding : IsEncoding (encoding_of problem)
   is_encoding = sound problem k
 
-  -- what links and hops add to terms
+  -- what links, hops and ends add to terms
   first_zero : (e : LinkId) → IsZeroFrom (length problem.vector) (take 5 (first_weight problem.net problem.vector e.0))
   first_zero e = record { five = is_encoding.first_length e; past = values_at (λ q. link_share q problem.net (record { 0 = e.0 })) problem.vector }
 
@@ -78,6 +80,13 @@ module _ (problem : Problem) (k : IsProblem problem) where
   step_zero e l step = record {
     five = is_encoding.step_length e l step;
     past = entry_at (entry problem.net e l) step.group (member_in (entry problem.net e l) step.group step.member);
+  }
+
+  end_zero : (e : LinkId) (l : Label) (end : End)
+      → IsZeroFrom (length problem.vector) (take 5 (end_weight problem.vector (risk_count problem.net (before_end problem.net (entry problem.net e l) end))))
+  end_zero e l end = record {
+    five = is_encoding.end_length e l end;
+    past = values_at (λ q. end_adds q (risk_count problem.net (before_end problem.net (entry problem.net e l) end))) problem.vector;
   }
 
   -- what a rule weighs
@@ -94,7 +103,7 @@ module _ (problem : Problem) (k : IsProblem problem) where
       let b = option_in (λ (p : Spot). map (λ (x : SpotRule). numbered s x) (rules_of s p g)) (spot_of (layout_of s) n) a.0 a.1 in
       let d = map_in (λ (x : SpotRule). numbered s x) (rules_of s b.0 g) a.0 b.2 in
       let share : IsZeroFrom (length problem.vector) (d.0).share =
-      shares_hold s is_encoding (λ (x : List ℕ). IsZeroFrom (length problem.vector) x) (record { five = refl; past = λ j p. zeros_at 5 j }) first_zero step_zero b.0 g d.0 d.1 in
+      shares_hold s is_encoding (λ (x : List ℕ). IsZeroFrom (length problem.vector) x) (record { five = refl; past = λ j p. zeros_at 5 j }) first_zero step_zero end_zero b.0 g d.0 d.1 in
       let same : rule_at n g (numbered s d.0) ≡ r = ap (λ (x : NumberedRule). rule_at n g x) d.2 ∙ a.2 in
       subst (λ (x : Rule (Pair Terms Effort)). slice_index (components x.weight) i ≡ 0) same (spot_rule_at n g d.0 share.five share.past i past low)
 

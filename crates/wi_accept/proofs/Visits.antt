@@ -24,14 +24,14 @@ use Rattle.wi_accept.proofs.ListLemmas.{both_or_not}
 
 -- what matches matches within a branch too, and the other way round
 pub matches_within : (problem : Problem) (branch : Bounds) (run : Run) → Matches problem.net (asks problem) run → Matches problem.net (asks (within problem branch)) run
-matches_within problem branch run m = record { first = m.first; path = m.path; last = m.last }
+matches_within problem branch run m = record { first = m.first; path = m.path; last = m.last; end = m.end }
 
 pub matches_whole : (problem : Problem) (branch : Bounds) (run : Run) → Matches problem.net (asks (within problem branch)) run → Matches problem.net (asks problem) run
-matches_whole problem branch run m = record { first = m.first; path = m.path; last = m.last }
+matches_whole problem branch run m = record { first = m.first; path = m.path; last = m.last; end = m.end }
 
 -- within a branch a problem is one
 pub problem_within : (problem : Problem) (branch : Bounds) → IsProblem problem → IsBranch problem.net problem.bounds branch → IsProblem (within problem branch)
-problem_within problem branch k b = record { network = k.network; automata = k.automata; bounds_of = b.bounds }
+problem_within problem branch k b = record { network = k.network; automata = k.automata; any_last = k.any_last; bounds_of = b.bounds }
 
 -- what is so at each place is so of all, and the other way round
 pub all_from_get : {A : Type 0} (P : A → Type 0) (xs : List A) → ((i : ℕ) (x : A) → slice_get xs i ≡ Some x → P x) → All P xs

@@ -1,5 +1,5 @@
 -- The answer that a certificate shows, and what it is for an answer to hold.
-use Rattle.std.specs.Prelude.{ℕ, ◌-◌, if◌then◌else◌, List, ◌++◌, map, take, drop, replicate, slice_get, slice_index, unwrap_or, option_map, Some, None}
+use Rattle.std.specs.Prelude.{ℕ, ◌-◌, if◌then◌else◌, List, ◌++◌, map, take, drop, replicate, slice_get, slice_index, unwrap_or, option_map, Option, Some, None}
 use Rattle.wi_labels.specs.declared.label.Class.TheVariants.{Ip}
 use Rattle.wi_labels.specs.Header.{Entry}
 use Rattle.wi_net.specs.Net.{Net}
@@ -7,6 +7,8 @@ use Rattle.wi_world.specs.declared.answer.Word.{Word}
 use Rattle.wi_world.specs.declared.answer.Word.TheVariants as words
 use Rattle.wi_world.specs.declared.run.Run.{Run}
 use Rattle.wi_world.specs.declared.run.Step.{Step}
+use Rattle.wi_world.specs.declared.run.End.{End}
+use Rattle.wi_world.specs.declared.run.End.TheVariants as ends
 use Rattle.wi_world.specs.Runs.{verdict_of}
 use Rattle.wi_world.specs.Holds.{Holds}
 use Rattle.wi_quantity.specs.Weighing.{components}
@@ -15,6 +17,8 @@ use Rattle.wi_build.specs.Problems.{Problem, asks, weighs}
 use Rattle.wi_build.specs.Systems.{weight}
 use Rattle.wi_cert.specs.declared.shown.Claim.{Claim}
 use Rattle.wi_cert.specs.declared.shown.Claim.TheVariants.{Yes, No, Inconclusive}
+use Rattle.wi_cert.specs.declared.shown.Dropped.{Dropped}
+use Rattle.wi_cert.specs.declared.shown.Dropped.TheVariants.{Inactive, Undefined}
 use Rattle.wi_cert.specs.declared.shown.Shown.{Shown}
 use Rattle.wi_cert.specs.Shown.{is_no}
 
@@ -39,9 +43,20 @@ labels_of net ns = map (λ n. (record { 0 = n }, unwrap_or (slice_get net.classe
 abbrev pub steps_of : List (ℕ × ℕ) → List Step
 steps_of xs = map (λ x. record { group = x.0 - 1; member = x.1 - 1 }) xs
 
--- the run that is shown: its first link and the labels there, and then its steps
+-- the packet is dropped as a text of version 2 says; in one of version 1 it arrives
+abbrev pub end_of : Option Dropped → End
+end_of (Some Inactive) = ends.Inactive
+end_of (Some (Undefined j m)) = ends.Undefined (record { group = j - 1; member = m - 1 })
+end_of dropped = ends.Arrives
+
+-- the run that is shown: its first link and the labels there, its steps, and its end
 abbrev pub run_of : Net → Shown → Run
-run_of net s = record { first = record { 0 = slice_index s.first 0 }; header = labels_of net (drop 1 s.first); steps = steps_of s.steps }
+run_of net s = record {
+  first = record { 0 = slice_index s.first 0 };
+  header = labels_of net (drop 1 s.first);
+  steps = steps_of s.steps;
+  end = end_of s.dropped;
+}
 
 -- the answer that is shown, with the verdict on its run
 abbrev pub answer_of : Problem → Shown → Answer

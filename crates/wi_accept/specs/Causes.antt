@@ -1,5 +1,5 @@
 -- Why a certificate isn't believed, and which cause is told.
-use Rattle.std.specs.Prelude.{◌≡◌, ◌≢◌, ℕ, ◌+◌, ◌*◌, ◌<◌, Bool, true, false, if◌then◌else◌, List, map, length, Option, Some, None}
+use Rattle.std.specs.Prelude.{◌≡◌, ◌≢◌, ℕ, ◌+◌, ◌*◌, ◌<◌, Bool, true, false, if◌then◌else◌, List, map, length, Option, Some, None, is_some}
 use Rattle.wi_net.specs.Net.{Net}
 use Rattle.wi_world.specs.declared.run.Run.{Run}
 use Rattle.wi_world.specs.declared.answer.Verdict.{Verdict}
@@ -21,7 +21,7 @@ use Rattle.wi_cert.specs.declared.row.Row.{Row}
 use Rattle.wi_cert.specs.declared.check_refused.Part.{Part}
 use Rattle.wi_cert.specs.declared.check_refused.Part.TheVariants.{First, Path, Last}
 use Rattle.wi_cert.specs.declared.check_refused.CheckRefused.{CheckRefused}
-use Rattle.wi_cert.specs.declared.check_refused.CheckRefused.TheVariants.{TermsDiffer, StepNotInTable, NoMatch, WeightDiffers, WrongAnswer, Unbounded, BadSplit, Leaf, Memory}
+use Rattle.wi_cert.specs.declared.check_refused.CheckRefused.TheVariants.{OfAnotherQuestion, TermsDiffer, StepNotInTable, NoMatch, WeightDiffers, WrongAnswer, Unbounded, BadSplit, Leaf, Memory}
 use Rattle.wi_cert.specs.declared.check_refused.ClosedRefused.{ClosedRefused}
 use Rattle.wi_cert.specs.declared.check_refused.ClosedRefused.TheVariants.{HeadMissing, PairMissing, GoalBelow, NotClosed}
 use Rattle.wi_cert.specs.Shown.{is_no}
@@ -73,6 +73,7 @@ ShowsRun s = is_no s.claim ≡ false
 
 -- a cause for which what is shown isn't believed
 abbrev pub IsShownCause : Problem → Shown → CheckRefused → Type 0
+IsShownCause problem s OfAnotherQuestion = is_some s.dropped ≢ (asks problem).drops
 IsShownCause problem s (TermsDiffer shown asked) = (shown ≡ s.terms) × (asked ≡ length problem.vector) × (shown ≢ asked)
 IsShownCause problem s (StepNotInTable n) = ShowsRun s × (why : Cause) × (moving_fault problem.net problem.bounds (run_of problem.net s) ≡ Some (n, why))
 IsShownCause problem s (NoMatch part) = ShowsRun s × IsFirstUnmatched problem.net (asks problem) (run_of problem.net s) part
@@ -105,15 +106,16 @@ closed_place (GoalBelow w) = 1
 closed_place (NotClosed head target sum) = 2
 
 abbrev pub place : CheckRefused → ℕ
-place (TermsDiffer shown asked) = 0
-place (StepNotInTable n) = 1
-place (NoMatch part) = 2
-place (WeightDiffers shown counted) = 3
-place WrongAnswer = 4
-place (Unbounded r) = 5 + closed_place r
-place (BadSplit n) = 5 + 3 * n
-place (Leaf n r) = 5 + 3 * n + closed_place r
-place Memory = 5
+place OfAnotherQuestion = 0
+place (TermsDiffer shown asked) = 1
+place (StepNotInTable n) = 2
+place (NoMatch part) = 3
+place (WeightDiffers shown counted) = 4
+place WrongAnswer = 5
+place (Unbounded r) = 6 + closed_place r
+place (BadSplit n) = 6 + 3 * n
+place (Leaf n r) = 6 + 3 * n + closed_place r
+place Memory = 6
 
 -- of several causes the first is told
 pub record IsFirstCause (IsOne : CheckRefused → Type 0) (r : CheckRefused) : Type 0 where

@@ -1,5 +1,5 @@
 -- Why a tree isn't believed, and the tree that a maker writes: a certificate's causes, where each leaf is judged within its branch.
-use Rattle.std.specs.Prelude.{◌≡◌, ℕ, ◌-◌, ◌<◌, List, [], ◌∷◌, length, slice_get, Option, Some, option_map}
+use Rattle.std.specs.Prelude.{◌≡◌, ℕ, ◌-◌, ◌<◌, List, [], ◌∷◌, length, slice_get, Option, Some, option_map, is_some}
 use Rattle.std.specs.List.{All}
 use Rattle.wi_net.specs.Net.{Net}
 use Rattle.wi_net.specs.declared.bounds.Bounds.{Bounds}
@@ -68,9 +68,11 @@ IsMadeAt problem terms bound branch (node.Split e) = CanSplit problem.net branch
 IsMadeAt problem terms bound branch (node.Closed c) =
     NoRunBelow problem.net (asks problem) (weighs problem) bound branch × AreLeast (within problem branch) terms bound c
 
--- The tree can be written, shows the answer with as many terms as are asked for, and each of its nodes is one that a maker writes.
+-- The tree can be written, is about packets that are dropped exactly where these are asked for, shows the answer with as many terms as
+-- are asked for, and each of its nodes is one that a maker writes.
 pub record IsTreeMaker (problem : Problem) (answer : Answer) (t : TreeCertificate) : Type 0 where
   pub writable : IsTreeWritable t
+  pub about : is_some t.shown.dropped ≡ (asks problem).drops
   pub terms : t.shown.terms ≡ length problem.vector
   pub shows : answer_of problem t.shown ≡ answer
   pub nodes : All (λ x. IsMadeAt problem t.shown.terms (bound_of t.shown) x.0 x.1) (branches_of problem t)

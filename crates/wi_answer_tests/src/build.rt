@@ -1,19 +1,19 @@
 //! Systems by example.
-ghost use Rattle.wi_world.specs.Moves.{AreBounds};
+ghost use Rattle.wi_query.specs.Meaning.{IsQueryOf};
 
 use crate::common::query_of;
 use std::alloc::Global;
 use std::process::Abort;
 use std::test::Fail;
 use wi_build::{Layout, LazySystem, Problem, build};
-use wi_labels::Label;
+use wi_labels::{Class, Label, Op};
 use wi_net::{LinkId, Network};
 use wi_pds::{Rule, RuleList, System, Word2};
 use wi_quantity::{Weight, read_weights};
 use wi_query::Query;
 use wi_rules::{Origin, Spot};
 use wi_samples::{N1, N1_FIBER, N1_NEAR, N2, N2_FIBER, N3, N4, N5, Sample, network};
-use wi_world::Step;
+use wi_world::{End, Step};
 
 // What a rule is to be: where it leads, what it writes, what it adds to each term, and what it stands for.
 type Expected = (u64, Word2, [u128; 5], Origin);
@@ -22,6 +22,8 @@ type Expected = (u64, Word2, [u128; 5], Origin);
 type HeadCase<'a> = (u64, u32, &'a [Expected]);
 
 const NO_TERM: [u128; 5] = [0; 5];
+
+const ARRIVES: Origin = Origin::Ending(End::Arrives);
 
 // The only member of the first group, and of the second.
 const FIRST: Origin = Origin::Hop(Step {
@@ -186,7 +188,7 @@ fn weighed_is(
     query: &Query,
     case: &Case,
 ) -> Result<(), Fail>
-    requires { AreBounds net.now query.now.bounds }
+    requires { IsQueryOf net.now query.now }
 {
     let vector = read_weights(alloc, case.1)?;
     let outcome = system_is(rt, alloc, &Problem::of(net, query, &vector), case.2);
@@ -234,7 +236,7 @@ const AGAIN_HEADS: &[HeadCase] = &[
             Origin::SetOut(LinkId(1)),
         )],
     ),
-    (11, 2, &[(5, Word2::One(2), NO_TERM, Origin::Nothing)]),
+    (11, 2, &[(5, Word2::One(2), NO_TERM, ARRIVES)]),
     (5, 2, &[(6, Word2::Empty, NO_TERM, Origin::Nothing)]),
     (6, 3, &[(7, Word2::Empty, NO_TERM, Origin::Nothing)]),
     (7, 0, &[(1, Word2::Empty, NO_TERM, Origin::Nothing)]),
@@ -274,7 +276,7 @@ const AROUND_HEADS: &[HeadCase] = &[
             (30, Word2::Empty, [1, 1, 0, 0, 0], FIRST),
         ],
     ),
-    (30, 3, &[(4, Word2::One(3), NO_TERM, Origin::Nothing)]),
+    (30, 3, &[(4, Word2::One(3), NO_TERM, ARRIVES)]),
 ];
 
 const SMALL_CASES: &[Case] = &[
@@ -336,16 +338,36 @@ const SPOTS: &[(u64, Option<Spot>)] = &[
     (u64::MAX, None),
 ];
 
-fn layout_is(rt: &impl Abort, layout: &Layout) {
-    for (number, spot) in SPOTS {
+// The same where packets are dropped, and where they arrive.
+const SPOTS_OF_DROPPED: &[(u64, Option<Spot>)] = &[
+    (85, Some(Spot::Mid(4, 7, 1))),
+    (86, Some(Spot::Drop(0, 1))),
+    (93, Some(Spot::Drop(1, 1))),
+    (120, Some(Spot::Drop(4, 7))),
+    (121, None),
+];
+
+const SPOTS_OF_ARRIVING: &[(u64, Option<Spot>)] = &[(85, Some(Spot::Mid(4, 7, 1))), (86, None)];
+
+// A query, and the spots that its numbers are of.
+const SPOTS_OF: &[(&str, &[(u64, Option<Spot>)])] = &[
+    (AGAIN, SPOTS),
+    ("<ip1> [x#a] drop 0", SPOTS_OF_DROPPED),
+    ("<ip1> [x#a] <.*> 0", SPOTS_OF_ARRIVING),
+];
+
+fn layout_is(rt: &impl Abort, layout: &Layout, spots: &[(u64, Option<Spot>)]) {
+    for (number, spot) in spots {
         assert!(rt; layout.spot_of(*number) == *spot);
     }
 }
 
 fn spots_are(rt: &impl Abort, alloc: Global, net: &Network) -> Result<(), Fail> {
-    let query = query_of(alloc, net, AGAIN)?;
-    layout_is(rt, &Layout::of(net, &query));
-    drop(query);
+    for (text, spots) in SPOTS_OF {
+        let query = query_of(alloc, net, text)?;
+        layout_is(rt, &Layout::of(net, &query), spots);
+        drop(query);
+    }
     Ok(())
 }
 
@@ -465,6 +487,73 @@ fn a_packet_may_return(rt: HostRuntime) -> Result<(), Fail> {
     network_has(&rt, rt.alloc(), &N3, RETURNING_CASES)
 }
 
+const PUSH_S10: Op = Op::Push(Label(1), Class::Smpls);
+
+// The second operation of the backup would push an smpls label on another.
+const UNDEFINED_BACKUP: Sample = Sample {
+    rows: &[(0, 2, &[&[(1, &[PUSH_S10])], &[(2, &[PUSH_S10, PUSH_S10])]])],
+    ..N1
+};
+
+// The backup's end, by its first operation.
+const BACKUP_ENDS: Origin = Origin::Ending(End::Undefined(Step {
+    group: 1,
+    member: 0,
+}));
+
+const INACTIVE_ENDS: Origin = Origin::Ending(End::Inactive);
+
+const DROPPED_CASES: &[Case] = &[
+    (
+        "<ip1> [x#a] drop 0 down [a#b]",
+        "Failures",
+        &[
+            (
+                7,
+                3,
+                &[(51, Word2::Two(2, 3), [1, 0, 0, 0, 0], BACKUP_ENDS)],
+            ),
+            (
+                51,
+                2,
+                &[(4, Word2::One(2), NO_TERM, Origin::Operation(1, 1))],
+            ),
+            (51, 0, &[]),
+            (52, 2, &[]),
+        ],
+    ),
+    // None may fail, or both.
+    ("<ip1> [x#a] drop 0", "Failures", &[(7, 3, &[])]),
+    (
+        "<ip1> [x#a] drop 2",
+        "Failures",
+        &[(
+            7,
+            3,
+            &[
+                (4, Word2::One(3), [2, 0, 0, 0, 0], INACTIVE_ENDS),
+                (51, Word2::Two(2, 3), [1, 0, 0, 0, 0], BACKUP_ENDS),
+            ],
+        )],
+    ),
+    // There is no entry where the packet comes to b.
+    (
+        "<ip1> [x#a] .* drop 0",
+        "Failures",
+        &[(11, 2, &[(4, Word2::One(2), NO_TERM, INACTIVE_ENDS)])],
+    ),
+    (
+        "<ip1> [x#a] <.*> 2",
+        "Failures",
+        &[(7, 3, &[(4, Word2::One(3), NO_TERM, ARRIVES)])],
+    ),
+];
+
+#[test]
+fn a_row_ends_where_a_packet_is_dropped(rt: HostRuntime) -> Result<(), Fail> {
+    network_has(&rt, rt.alloc(), &UNDEFINED_BACKUP, DROPPED_CASES)
+}
+
 const UNDEFINED_CASES: &[Case] = &[
     ("<ip1> [x#a] [a#c] .* [b#y] <ip1> 0", "Hops", &[(7, 3, &[])]),
     (
@@ -480,7 +569,7 @@ const UNDEFINED_CASES: &[Case] = &[
             3,
             &[
                 (31, Word2::Two(2, 3), [1, 0, 0, 0, 0], SECOND),
-                (4, Word2::One(3), NO_TERM, Origin::Nothing),
+                (4, Word2::One(3), NO_TERM, ARRIVES),
             ],
         )],
     ),

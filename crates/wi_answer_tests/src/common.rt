@@ -1,6 +1,6 @@
 //! What tests of several libraries ask.
 ghost use Rattle.std.specs.Prelude.{IfOk};
-ghost use Rattle.wi_world.specs.Moves.{AreBounds};
+ghost use Rattle.wi_query.specs.Meaning.{IsQueryOf};
 
 use std::alloc::Global;
 use std::process::Abort;
@@ -12,7 +12,7 @@ use wi_world::Step;
 
 /// The query that a text is.
 pub fn query_of(alloc: Global, net: &Network, text: &str) -> Result<Query, Fail>
-    ensures { IfOk result (λ query. AreBounds net.now query.bounds) }
+    ensures { IfOk result (IsQueryOf net.now) }
 {
     match read_query(alloc, net, text) {
         Ok(query) => Ok(query),

@@ -1,5 +1,5 @@
 //! Answers by example.
-ghost use Rattle.wi_world.specs.Moves.{AreBounds};
+ghost use Rattle.wi_query.specs.Meaning.{IsQueryOf};
 
 use crate::common::{query_of, steps_are, vector_of};
 use std::alloc::Global;
@@ -128,7 +128,7 @@ fn weighed_is(
     query: &Query,
     case: &Case,
 ) -> Result<(), Fail>
-    requires { AreBounds net.now query.now.bounds }
+    requires { IsQueryOf net.now query.now }
 {
     let vector = vector_of(alloc, case.1)?;
     decides(rt, alloc, &Problem::of(net, query, &vector), &case.2);

@@ -1,6 +1,6 @@
 //! Texts by example.
 ghost use Rattle.std.specs.Prelude.{IfOk, IfSome};
-ghost use Rattle.wi_world.specs.Moves.{AreBounds};
+ghost use Rattle.wi_query.specs.Meaning.{IsQueryOf};
 ghost use Rattle.wi_report.specs.Reports.{IsKnownRun};
 
 use crate::common::{query_of, vector_of};
@@ -23,7 +23,7 @@ use wi_script::{ScriptCause, ScriptRefused, play, read_script};
 use wi_text::Text;
 use wi_trace::Answer;
 use wi_weight::{Effort, Pair, Terms};
-use wi_world::{Run, Step, Verdict, Word};
+use wi_world::{End, Run, Step, Verdict, Word};
 
 fn says(rt: &impl Abort, text: Result<Text, NoMemory>, said: &str) -> Result<(), Fail> {
     assert!(rt; text?.as_bytes() == said.as_bytes());
@@ -301,6 +301,7 @@ fn run_of(alloc: Global, net: &Network, shown: &Shown) -> Result<Run, Fail>
             first: script.first,
             header: script.header,
             steps,
+            end: End::Arrives,
         }),
         Err(_) => {
             drop(steps);
@@ -383,7 +384,7 @@ fn weighed_is(
     query: &Query,
     case: &Case,
 ) -> Result<(), Fail>
-    requires { AreBounds net.now query.now.bounds }
+    requires { IsQueryOf net.now query.now }
 {
     let vector = vector_of(alloc, case.1)?;
     let outcome = answered_is(rt, alloc, &Problem::of(net, query, &vector), case);

@@ -1,5 +1,5 @@
 //! Searches by example: below a cut, and within bounds that aren't the query's own.
-ghost use Rattle.wi_world.specs.Moves.{AreBounds};
+ghost use Rattle.wi_query.specs.Meaning.{IsQueryOf};
 
 use crate::common::{query_of, steps_are};
 use std::alloc::Global;
@@ -58,7 +58,7 @@ fn bounded_is(
     query: &Query,
     case: &Case,
 ) -> Result<(), Fail>
-    requires { AreBounds net.now query.now.bounds }
+    requires { IsQueryOf net.now query.now }
 {
     let within = query_of(alloc, net, case.1)?;
     let vector = Vector::new(alloc);

@@ -11,7 +11,7 @@ use Rattle.wi_world.specs.declared.answer.Word.{Word}
 use Rattle.wi_world.specs.declared.answer.Word.TheVariants.{Yes, No, Inconclusive}
 use Rattle.wi_world.specs.declared.answer.Verdict.{Verdict}
 use Rattle.wi_world.specs.declared.answer.Verdict.TheVariants.{Fits, Exceeds, UsesFailed}
-use Rattle.wi_world.specs.Moves.{is_usable, follows, is_start}
+use Rattle.wi_world.specs.Moves.{is_usable, may_end, follows, is_start}
 use Rattle.wi_world.specs.Holds.{Holds, Question, Weighing}
 use Rattle.wi_quantity.specs.Weighing.{components}
 use Rattle.wi_trace.specs.declared.answer.Answer.{Answer}
@@ -36,7 +36,7 @@ start_known net fails run start = record { link = link; header = parts.1 }
 
 run_known : (net : Net) (question : Question) (weigh : Weighing) (word : Word) (w : Option (List ℕ)) (run : Run) (verdict : Option Verdict) → Holds net question weigh word w (Some run) verdict → IsKnownRun net run
 run_known net question weigh Yes (Some w) run (Some (Fits fails)) h =
-    start_known net fails run (and_parts (is_start net fails run.first run.header) (follows net (is_usable net fails) (run.first, run.header) run.steps) h.trace).0
+    start_known net fails run (and_parts (is_start net fails run.first run.header) (follows net (is_usable net fails) (λ at. may_end net fails at run.end) (run.first, run.header) run.steps) h.trace).0
 run_known net question weigh Yes (Some w) run (Some (Exceeds n)) h = elim h [ ]
 run_known net question weigh Yes (Some w) run (Some (UsesFailed e)) h = elim h [ ]
 run_known net question weigh Yes (Some w) run None h = elim h [ ]

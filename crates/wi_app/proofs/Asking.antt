@@ -19,7 +19,7 @@ use Rattle.wi_app.specs.Wanted.{FromWanted, IsGiven, IsStoredFor}
 
 -- it is a problem, where the query has its automata, as each query of the program has
 pub asked_problem : (net : Net) (text : List ℕ) (weights : Option (List ℕ)) (query : Query) (vector : List (List Part)) → IsAsked net text weights query vector → HasAutomata query → IsProblem (problem_of net query vector)
-asked_problem net text weights query vector asked automata = record { network = asked.network; automata = automata; bounds_of = asked.reads.keeps.bounds }
+asked_problem net text weights query vector asked automata = record { network = asked.network; automata = automata; any_last = asked.reads.keeps.any_last; bounds_of = asked.reads.keeps.bounds }
 
 -- what is told of the problem is told of what texts ask, and so is what is refused
 pub asked_told : (r : Result Printed Refusal) (P : Problem → ℕ → List ℕ → Type 0) (net : Net) (text : List ℕ) (weights : Option (List ℕ)) (query : Query) (vector : List (List Part)) → IsAsked net text weights query vector → HasAutomata query

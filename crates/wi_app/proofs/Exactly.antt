@@ -21,7 +21,7 @@ use Rattle.wi_accept.specs.Trees.{IsDecidedExactly}
 use Rattle.wi_branch.specs.declared.refused.ExactRefused.TheVariants as none
 use Rattle.wi_report.specs.Reports.{IsKnownRun, accepted_text, exact_report_of}
 use Rattle.std.proofs.lemmas.Bool.{and_parts}
-use Rattle.wi_world.specs.Moves.{follows, is_start, is_usable}
+use Rattle.wi_world.specs.Moves.{follows, is_start, is_usable, may_end}
 use Rattle.wi_outcome.specs.declared.printed.Printed.{Printed}
 use Rattle.wi_outcome.specs.declared.refusal.Refusal.{Refusal}
 use Rattle.wi_outcome.specs.declared.refusal.Refusal.TheVariants.{CannotWrite, ManyNodes, Memory, NotAccepted, Overflow, TooLong, TreeNotWritten}
@@ -38,7 +38,7 @@ use Rattle.wi_app.proofs.Ending.{Ends, ends_as}
 -- ---- what an exact answer is like
 
 exact_run_known : (net : Net) (question : Question) (weigh : Weighing) (word : Word) (w : Option (List ℕ)) (run : Option Run) (verdict : Option Verdict) → HoldsExactly net question weigh word w run verdict → IfSome run (λ r. IsKnownRun net r)
-exact_run_known net question weigh Yes (Some w) (Some run) (Some (Fits fails)) h = start_known net fails run (and_parts (is_start net fails run.first run.header) (follows net (is_usable net fails) (run.first, run.header) run.steps) h.trace).0
+exact_run_known net question weigh Yes (Some w) (Some run) (Some (Fits fails)) h = start_known net fails run (and_parts (is_start net fails run.first run.header) (follows net (is_usable net fails) (λ at. may_end net fails at run.end) (run.first, run.header) run.steps) h.trace).0
 exact_run_known net question weigh word w None verdict h = tt
 exact_run_known net question weigh Yes None (Some run) verdict h = elim h [ ]
 exact_run_known net question weigh Yes (Some w) (Some run) None h = elim h [ ]

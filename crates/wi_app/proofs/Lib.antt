@@ -7,3 +7,4 @@ pub mod Tolerating
 pub mod Protecting
 pub mod Outcomes
 pub mod Written
+pub mod Surviving

@@ -20,8 +20,8 @@ use Rattle.wi_world.specs.declared.answer.Verdict.TheVariants.{Fits, Exceeds, Us
 use Rattle.wi_world.specs.declared.run.Run.{Run}
 use Rattle.wi_world.specs.declared.run.Step.{Step}
 use Rattle.wi_world.specs.Holds.{Holds}
-use Rattle.wi_world.specs.Moves.{Location, follows, is_possible, is_possible_run, is_start, is_trace, is_usable, member_at, moved, through}
-use Rattle.wi_world.specs.Runs.{effort_of, sum_over, work}
+use Rattle.wi_world.specs.Moves.{Location, can_end, follows, is_possible, is_possible_run, is_start, is_trace, is_usable, may_end, member_at, moved, through}
+use Rattle.wi_world.specs.Runs.{effort_of, end_work, sum_over, work}
 use Rattle.wi_world.proofs.MovingLaws.{moving_possible}
 use Rattle.wi_quantity.specs.Weighing.{components}
 use Rattle.wi_trace.specs.declared.answer.Answer.{Answer}
@@ -58,42 +58,47 @@ use Rattle.wi_app.specs.Exact.{IsBelievedTreeFile, IsReportedExactly, IsTreeBeli
 use Rattle.wi_app.specs.Run.{AreAnswered, CanBeAnswered, Completes, Does, IsAnswered, IsStatus, TellsFor}
 
 -- ---- the text isn't too long to be read
--- what is done from each place on, whatever the steps are
-abbrev TakesSteps : Net → (Location → Step → Bool) → List Step → Type 0
-TakesSteps net test steps = (at : Location) → follows net test at steps ≡ true → length steps ≤ sum_over net (work net) at steps
+-- what is done from each place on, whatever the steps and what is left behind them
+abbrev TakesSteps : Net → (Location → Step → Bool) → (Location → Bool) → (Location → ℕ) → List Step → Type 0
+TakesSteps net test last left steps = (at : Location) → follows net test last at steps ≡ true → length steps ≤ sum_over net (work net) left at steps
 
-through_place : (net : Net) (test : Location → Step → Bool) (steps : List Step) (member : Member) (place : Option Location) → TakesSteps net test steps → option_map_or (λ next. follows net test next steps) place false ≡ true
-    → suc (length steps) ≤ option_map_or (λ next. max 1 (length member.ops) + sum_over net (work net) next steps) place 0
-through_place net test steps member None takes h = cc
-through_place net test steps member (Some next) takes h = let rest = takes next h in let one = le-max_left 1 (length member.ops) in omega (arith, rest, one)
+module _ (net : Net) (test : Location → Step → Bool) (last : Location → Bool) (left : Location → ℕ) where
+  through_place : (steps : List Step) (member : Member) (place : Option Location) → TakesSteps net test last left steps → option_map_or (λ next. follows net test last next steps) place false ≡ true
+      → suc (length steps) ≤ option_map_or (λ next. max 1 (length member.ops) + sum_over net (work net) left next steps) place 0
+  through_place steps member None takes h = cc
+  through_place steps member (Some next) takes h = let rest = takes next h in let one = le-max_left 1 (length member.ops) in omega (arith, rest, one)
 
-through_member : (net : Net) (test : Location → Step → Bool) (steps : List Step) (header : List Entry) (member : Option Member) → TakesSteps net test steps
-    → option_map_or (λ next. follows net test next steps) (option_and_then (λ m. through header m) member) false ≡ true
-    → suc (length steps) ≤ option_map_or (λ next. option_map_or (λ m. max 1 (length m.ops)) member 0 + sum_over net (work net) next steps) (option_and_then (λ m. through header m) member) 0
-through_member net test steps header None takes h = cc
-through_member net test steps header (Some member) takes h = through_place net test steps member (through header member) takes h
+  through_member : (steps : List Step) (header : List Entry) (member : Option Member) → TakesSteps net test last left steps
+      → option_map_or (λ next. follows net test last next steps) (option_and_then (λ m. through header m) member) false ≡ true
+      → suc (length steps) ≤ option_map_or (λ next. option_map_or (λ m. max 1 (length m.ops)) member 0 + sum_over net (work net) left next steps) (option_and_then (λ m. through header m) member) 0
+  through_member steps header None takes h = cc
+  through_member steps header (Some member) takes h = through_place steps member (through header member) takes h
 
--- each step that is taken does some work
-steps_work : (net : Net) (test : Location → Step → Bool) (steps : List Step) → TakesSteps net test steps
-steps_work net test [] at h = omega arith
-steps_work net test (step ∷ steps) at h =
-    through_member net test steps at.1 (member_at net at step) (steps_work net test steps) (and_parts (test at step) (option_map_or (λ next. follows net test next steps) (moved net at step) false) h).1
+  -- each step that is taken does some work
+  steps_work : (steps : List Step) → TakesSteps net test last left steps
+  steps_work [] at h = omega arith
+  steps_work (step ∷ steps) at h =
+      through_member steps at.1 (member_at net at step) (steps_work steps) (and_parts (test at step) (option_map_or (λ next. follows net test last next steps) (moved net at step) false) h).1
 
 -- a run that is taken has no more labels and steps than its effort
 record IsShort (run : Run) : Type 0 where
   labels : length run.header ≤ 4096
   steps : length run.steps ≤ 4096
 
-taken_short : (net : Net) (test : Location → Step → Bool) (run : Run) → follows net test (run.first, run.header) run.steps ≡ true → effort_of net run ≤ 4096 → IsShort run
-taken_short net test run h short =
-    let work = steps_work net test run.steps (run.first, run.header) h in
+taken_short : (net : Net) (test : Location → Step → Bool) (last : Location → Bool) (run : Run) → follows net test last (run.first, run.header) run.steps ≡ true → effort_of net run ≤ 4096 → IsShort run
+taken_short net test last run h short =
+    let work = steps_work net test last (end_work net run.end) run.steps (run.first, run.header) h in
     record { labels = omega (arith, short); steps = omega (arith, short, work) }
 
 trace_short : (net : Net) (fails : List LinkId) (run : Run) → is_trace net fails run ≡ true → effort_of net run ≤ 4096 → IsShort run
-trace_short net fails run h = taken_short net (is_usable net fails) run (and_parts (is_start net fails run.first run.header) (follows net (is_usable net fails) (run.first, run.header) run.steps) h).1
+trace_short net fails run h =
+    taken_short net (is_usable net fails) (λ at. may_end net fails at run.end) run
+    (and_parts (is_start net fails run.first run.header) (follows net (is_usable net fails) (λ at. may_end net fails at run.end) (run.first, run.header) run.steps) h).1
 
 possible_short : (net : Net) (bounds : Bounds) (run : Run) → is_possible_run net bounds run ≡ true → effort_of net run ≤ 4096 → IsShort run
-possible_short net bounds run h = taken_short net (is_possible net bounds) run (and_parts (is_start net bounds.down run.first run.header) (follows net (is_possible net bounds) (run.first, run.header) run.steps) h).1
+possible_short net bounds run h =
+    taken_short net (is_possible net bounds) (λ at. can_end net bounds at run.end) run
+    (and_parts (is_start net bounds.down run.first run.header) (follows net (is_possible net bounds) (λ at. can_end net bounds at run.end) (run.first, run.header) run.steps) h).1
 
 holding_short : (problem : Problem) (word : Word) (w : Option (List ℕ)) (run : Run) (verdict : Option Verdict) → IsProblem problem → Holds problem.net (asks problem) (weighs problem) word w (Some run) verdict → effort_of problem.net run ≤ 4096 → IsShort run
 holding_short problem Yes (Some w) run (Some (Fits fails)) is h short = trace_short problem.net fails run h.trace short
@@ -216,7 +221,7 @@ says_high text status old new result high s = elim s [
   ]
 ]
 
-why_high : (refusal : Refusal) (old new : SinkSeen) (result : ℕ) → SaysWhy refusal old new result → 3 ≤ result
+pub why_high : (refusal : Refusal) (old new : SinkSeen) (result : ℕ) → SaysWhy refusal old new result → 3 ≤ result
 why_high refusal old new result s = elim s [
   | inl own ↦ says_high (text_of refusal) (status_of refusal) old new result (status_high refusal) own
   | inr want ↦ says_high (codes "whatif: out of memory\n") 11 old new result (omega arith) want.1

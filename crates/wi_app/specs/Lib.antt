@@ -6,4 +6,5 @@ pub mod Tolerance
 pub mod Wanted
 pub mod Generated
 pub mod Run
+pub mod Surviving
 pub mod private

@@ -14,4 +14,6 @@ mod tolerate;
 mod verify;
 
 pub use app::run;
-pub use laws::{what_exact_writes_is_accepted, what_is_written_is_accepted};
+pub use laws::{
+    a_no_of_loss_is_survival, what_exact_writes_is_accepted, what_is_written_is_accepted,
+};

@@ -219,6 +219,11 @@ fn certificates_are_written_within_a_limit(rt: HostRuntime) {
     equal(&rt, over, Ok(TOO_LONG));
 }
 
+// The first line of what is about packets that are dropped.
+const V2: (usize, &str) = (1, "mpls-whatif-certificate 2\n");
+
+const TREE_V2: (usize, &str) = (1, "mpls-whatif-tree 2\n");
+
 // Texts that give a certificate.
 const GOOD: &[(&[&str], Edits)] = &[
     (YES, &[]),
@@ -240,6 +245,13 @@ const GOOD: &[(&[&str], Edits)] = &[
         ],
     ),
     (NO, &[(7, "heads 0\n"), (8, ""), (9, ""), (10, "")]),
+    (YES, &[V2, (6, "steps 0\ndrop inactive\n")]),
+    (YES, &[V2, (6, "steps 1\n2 1\ndrop 1 4294967295\n")]),
+    (
+        YES,
+        &[V2, (3, "answer inconclusive\n"), (6, "steps 0\ndrop 2 1\n")],
+    ),
+    (NO, &[V2, (6, "steps 0\ndrop none\n")]),
     (NO, &[(13, "rows 1\n4 0 1 18446744073709551615\n")]),
     (
         NO,
@@ -271,7 +283,8 @@ fn texts_come_back_byte_for_byte(rt: HostRuntime) {
 // Texts that give none, and their first bad lines.
 const BAD: &[(&[&str], Edits, u128)] = &[
     (&[], &[], 1),
-    (YES, &[(1, "mpls-whatif-certificate 2\n")], 1),
+    (YES, &[(1, "mpls-whatif-certificate 3\n")], 1),
+    (YES, &[(1, "mpls-whatif-certificate 02\n")], 1),
     (YES, &[(1, "mpls-whatif-tree 1\n")], 1),
     (YES, &[(1, "mpls-whatif-certificate 1\r\n")], 1),
     (YES, &[(2, "terms 6\n")], 2),
@@ -340,9 +353,27 @@ const BAD: &[(&[&str], Edits, u128)] = &[
     (NO, &[(13, "rows 1\n4 0 1 18446744073709551616\n")], 14),
 ];
 
+// The same of the line that says how the packet is dropped.
+const BAD_DROPS: &[(&[&str], Edits, u128)] = &[
+    (YES, &[V2], 7),
+    (NO, &[V2], 7),
+    (YES, &[(6, "steps 0\ndrop 2 1\n")], 7),
+    (NO, &[(6, "steps 0\ndrop none\n")], 7),
+    (YES, &[V2, (6, "steps 0\ndrop none\n")], 7),
+    (NO, &[V2, (6, "steps 0\ndrop inactive\n")], 7),
+    (NO, &[V2, (6, "steps 0\ndrop 2 1\n")], 7),
+    (YES, &[V2, (6, "steps 0\ndrop 0 1\n")], 7),
+    (YES, &[V2, (6, "steps 0\ndrop 2 0\n")], 7),
+    (YES, &[V2, (6, "steps 0\ndrop 2\n")], 7),
+    (YES, &[V2, (6, "steps 0\ndrop 2 1 1\n")], 7),
+    (YES, &[V2, (6, "steps 0\ndrop 4294967296 1\n")], 7),
+    (YES, &[V2, (6, "drop 2 1\nsteps 0\n")], 6),
+    (YES, &[V2, (6, "steps 0\ndrop 2 1\ndrop 2 1\n")], 8),
+];
+
 #[test]
 fn other_texts_have_a_first_bad_line(rt: HostRuntime) {
-    for (lines, edits, line) in BAD {
+    for (lines, edits, line) in BAD.iter().chain(BAD_DROPS) {
         let found = come_back(rt.alloc(), Form::Certificate, lines, edits);
         equal(&rt, found, Err(DecodeRefused::BadLine(*line)));
     }
@@ -532,6 +563,7 @@ const SPLIT: &[&str] = &[
 // Texts that give a tree certificate.
 const GOOD_TREES: &[(&[&str], Edits)] = &[
     (LEAF, &[]),
+    (LEAF, &[TREE_V2, (6, "steps 0\ndrop none\n")]),
     (SPLIT, &[]),
     (SPLIT, &[(8, "split 4294967295\n")]),
     (
@@ -574,6 +606,10 @@ fn trees_come_back_byte_for_byte(rt: HostRuntime) {
 const BAD_TREES: &[(&[&str], Edits, u128)] = &[
     (&[], &[], 1),
     (LEAF, &[(1, "mpls-whatif-certificate 1\n")], 1),
+    (LEAF, &[(1, "mpls-whatif-tree 3\n")], 1),
+    (LEAF, &[TREE_V2], 7),
+    (LEAF, &[(6, "steps 0\ndrop none\n")], 7),
+    (LEAF, &[TREE_V2, (6, "steps 0\ndrop inactive\n")], 7),
     (LEAF, &[(3, "answer inconclusive\n")], 3),
     (LEAF, &[(7, "nodes 2\n")], 7),
     (LEAF, &[(7, "nodes 0\n")], 7),

@@ -2,6 +2,7 @@
 use Rattle.std.proofs.Common.{◌≡◌, ℕ, ◌<◌, ◌≤◌, true, false, List, [], ◌∷◌, length, map, Option, Some, None, IfSome, option_map, ◌⊎◌, inl, inr, refl, arith, sym, ◌∙◌, subst}
 use Rattle.std.proofs.lemmas.List.{length-map}
 use Rattle.wi_net.specs.declared.bounds.Bounds.{Bounds}
+use Rattle.wi_net.specs.Net.{Net}
 use Rattle.wi_net.specs.Network.{IsNetwork}
 use Rattle.wi_world.specs.declared.answer.Word.TheVariants.{Yes}
 use Rattle.wi_world.specs.declared.answer.Verdict.{Verdict}
@@ -24,8 +25,8 @@ use Rattle.wi_build.specs.Problems.{Problem, IsProblem, asks, weighs, within}
 use Rattle.wi_accept.specs.Trees.{IsDecidedExactly, IsTreeAccepted, IsTreeMaker}
 use Rattle.wi_accept.proofs.Visits.{matches_whole}
 use Rattle.wi_accept.proofs.MadeTrees.{nothing_against_tree}
-use Rattle.wi_decide.specs.Showing.{claim_for, shown_by}
-use Rattle.wi_decide.proofs.ShowingLemmas.{nothing, Shows, ShowsRun, shows_either, small_run}
+use Rattle.wi_decide.specs.Showing.{claim_for, shown_by, IsSmallRun}
+use Rattle.wi_decide.proofs.ShowingLemmas.{about_asked, nothing, Shows, ShowsRun, shows_either, small_run}
 use Rattle.wi_decide.specs.declared.searching.LeastRun.{LeastRun}
 use Rattle.wi_branch.specs.Walks.{IsWalk}
 use Rattle.wi_branch.specs.Exactly.{IsExact, node_under}
@@ -92,12 +93,21 @@ module _ (problem : Problem) (limit : ℕ) (k : IsNetwork problem.net) (kw : Are
     shows = refl;
     is = refl;
     moving = whole_moving found h.0 h.1 h.2 none;
+    drops = h.2.answers.matches.end;
     weight = h.2.answers.weight;
   })
 
   not_inconclusive : (best : Option LeastRun) → is_inconclusive (claim_for (answer_with problem.net problem.bounds best).word) ≡ false
   not_inconclusive None = refl
   not_inconclusive (Some found) = refl
+
+-- the numbers of the answer's run are small, where that can be shown
+pub small_with : (net : Net) (whole : Bounds) (best : Option LeastRun) (a : Answer) → CanBeShown best → a ≡ answer_with net whole best → IfSome a.run IsSmallRun
+small_with net whole best a can is = subst (λ (x : Answer). IfSome x.run IsSmallRun) (sym is) (go best can)
+  where
+    go : (found : Option LeastRun) → CanBeShown found → IfSome (answer_with net whole found).run IsSmallRun
+    go None h = tt
+    go (Some found) h = h.1
 
 module _ (problem : Problem) (limit : ℕ) (k : IsProblem problem) where
   can_show : (best : Option LeastRun) → HasBest problem best → NoTraceBelow problem.net (asks problem) (weighs problem) (cut_of best) problem.bounds → CanBeShown best
@@ -113,7 +123,7 @@ module _ (problem : Problem) (limit : ℕ) (k : IsProblem problem) where
     answer = answer_with problem.net problem.bounds done.best
 
     abbrev shown : Shown
-    shown = shown_by (length problem.vector) answer
+    shown = shown_by problem answer
 
     abbrev nodes : List Node
     nodes = map (node_under shown) done.opened
@@ -121,7 +131,7 @@ module _ (problem : Problem) (limit : ℕ) (k : IsProblem problem) where
     abbrev tree : TreeCertificate
     tree = record { shown = shown; nodes = nodes }
 
-    seen : Shows problem (length problem.vector) answer
+    seen : Shows problem answer
     seen = shows_either problem k few answer (shows_with problem limit k.network k.bounds_of done.best h.0.best (none_below problem limit k.network k.bounds_of done h))
 
     last : Option (List ℕ)
@@ -147,6 +157,7 @@ module _ (problem : Problem) (limit : ℕ) (k : IsProblem problem) where
         whole = whole;
         leaves = walk_leaves problem shown seen.shown refl few None done.opened (problem.bounds ∷ []) (cut_of done.best) walk;
       };
+      about = about_asked problem answer;
       terms = refl;
       shows = seen.back;
       nodes = walk_made problem shown seen.shown refl few k.network k.bounds_of (cut_of done.best) (seen.bound ∙ cut_with problem limit k.network k.bounds_of done.best) None done.opened (problem.bounds ∷ []) tt

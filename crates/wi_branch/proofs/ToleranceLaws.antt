@@ -17,11 +17,11 @@ use Rattle.wi_world.specs.declared.answer.Word.{Word}
 use Rattle.wi_world.specs.declared.answer.Word.TheVariants.{Yes, No, Inconclusive}
 use Rattle.wi_world.specs.declared.answer.Verdict.{Verdict}
 use Rattle.wi_world.specs.declared.answer.Verdict.TheVariants.{Fits, Exceeds, UsesFailed}
-use Rattle.wi_world.specs.Holds.{Question, Matches, Weighing}
+use Rattle.wi_world.specs.Holds.{Question, Matches, Weighing, NoTrace}
 use Rattle.wi_world.specs.Moves.{is_trace, IsAllowed}
 use Rattle.wi_quantity.specs.Weighing.{components}
 use Rattle.wi_trace.specs.declared.answer.Answer.{Answer}
-use Rattle.wi_trees.specs.Trees.{HoldsExactly, IsExactNo}
+use Rattle.wi_trees.specs.Trees.{HoldsExactly}
 use Rattle.wi_cert.specs.declared.tree.TreeCertificate.{TreeCertificate}
 use Rattle.wi_build.specs.Problems.{Problem, asks, weighs, allowing}
 use Rattle.wi_accept.specs.Trees.{IsDecidedExactly, IsTreeAccepted}
@@ -44,7 +44,7 @@ yes_shows net question weigh (Some w) (Some run) (Some (Exceeds n)) h = elim h [
 yes_shows net question weigh (Some w) (Some run) (Some (UsesFailed e)) h = elim h [ ]
 
 -- a no says that there is none
-no_says : (net : Net) (question : Question) (weigh : Weighing) (w : Option (List ℕ)) (run : Option Run) (verdict : Option Verdict) → HoldsExactly net question weigh No w run verdict → IsExactNo net question
+pub no_says : (net : Net) (question : Question) (weigh : Weighing) (w : Option (List ℕ)) (run : Option Run) (verdict : Option Verdict) → HoldsExactly net question weigh No w run verdict → NoTrace net question
 no_says net question weigh None None None h = h
 no_says net question weigh (Some w) run verdict h = elim h [ ]
 no_says net question weigh None (Some run) verdict h = elim h [ ]
@@ -126,7 +126,7 @@ groups_suffice problem j n all has = record {
   run = has.run;
   allowed = record { union = has.allowed.union; down = has.allowed.down; up = has.allowed.up; few = few };
   trace = has.trace;
-  matches = record { first = has.matches.first; path = has.matches.path; last = has.matches.last };
+  matches = record { first = has.matches.first; path = has.matches.path; last = has.matches.last; end = has.matches.end };
 }
   where
     net : Net

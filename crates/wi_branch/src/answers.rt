@@ -1,6 +1,6 @@
 //! Branches are opened until none is left, each below the weight of the best run that fitted before it, so that a branch without a
 //! lighter run ends at once. The answer's verdict is within the whole bounds.
-ghost use Rattle.std.specs.Prelude.{◌≡◌, ◌≤◌, map, length, Some, None, IfOk, IfErr};
+ghost use Rattle.std.specs.Prelude.{◌≡◌, ◌≤◌, map, Some, None, IfOk, IfErr};
 ghost use Rattle.wi_world.specs.Moves.{AreBounds};
 ghost use Rattle.wi_build.specs.Problems.{allowing, within};
 ghost use Rattle.wi_accept.specs.Trees.{IsTreeAccepted};
@@ -135,13 +135,13 @@ fn shown_with(
 ) -> Result<(Answer, TreeCertificate), NoMemory>
     requires { CanBeShown course.best }
     ensures answer { IfOk result (λ found. found.0 ≡ answer_with problem.now.net problem.now.bounds course.best) }
-    ensures shown { IfOk result (λ found. found.1.shown ≡ shown_by (length problem.now.vector) (answer_with problem.now.net problem.now.bounds course.best)) }
+    ensures shown { IfOk result (λ found. found.1.shown ≡ shown_by problem.now (answer_with problem.now.net problem.now.bounds course.best)) }
     ensures nodes { IfOk result (λ found. found.1.nodes ≡ map (node_under found.1.shown) course.opened) }
 {
     problem.keeps();
     let Course { best, opened, .. } = course;
     let answer = answer_of(alloc, problem, best)?;
-    let shown = shown_of(alloc, problem.terms() as u32, &answer)?;
+    let shown = shown_of(alloc, problem, &answer)?;
     let nodes = nodes_of(alloc, opened, &shown)?;
     let nodes = Listed::of(nodes);
     Ok((answer, TreeCertificate { shown, nodes }))

@@ -30,6 +30,7 @@ pub(crate) enum Told {
 }
 
 /// What is found for the problem within a branch, below a cut.
+#[tactic(auto, using(crate::proofs::FindingLaws::judged_well))]
 pub(crate) fn tell(
     alloc: Global,
     problem: &Problem<'_>,

@@ -9,8 +9,7 @@ use Rattle.wi_nfa.proofs.Reading.{from_filter, into_filter}
 use Rattle.wi_nfa.proofs.Walks.{led_within, accepted}
 use Rattle.wi_query.specs.Compiled.{Compiled, HasAutomaton}
 use Rattle.wi_query.specs.Sets.{holds}
-use Rattle.wi_rules.specs.Rules.{IsAutomaton, IsTurned}
-use Rattle.wi_rules.specs.Goals.{Walks, Accepts}
+use Rattle.wi_rules.specs.Rules.{IsAutomaton, IsTurned, Walks, Accepts}
 use Rattle.wi_rules.proofs.Lists.{contains_in, in_contains, in_range}
 use Rattle.wi_build.specs.Encodings.{after, comes_after, before, automaton}
 use Rattle.wi_build.proofs.StateLemmas.{any_in, in_any}

@@ -1,5 +1,5 @@
 -- The rules of a head are few.
-use Rattle.std.proofs.Common.{◌≡◌, ℕ, zero, suc, ◌+◌, ◌*◌, ◌<◌, ◌≤◌, ◌^◌, Bool, not, List, [], ◌∷◌, length, map, slice_get, arith, length-append}
+use Rattle.std.proofs.Common.{◌≡◌, ℕ, zero, suc, ◌+◌, ◌*◌, ◌<◌, ◌≤◌, ◌^◌, Bool, true, false, not, List, [], ◌∷◌, ◌++◌, length, map, slice_get, arith, length-append}
 use Rattle.std.specs.Prelude.{if◌then◌else◌}
 use Rattle.std.specs.List.{filter, flat_map, range_with_len}
 use Rattle.std.specs.Option.{option_map_or}
@@ -12,22 +12,24 @@ use Rattle.wi_net.specs.declared.parts.LinkId.{LinkId}
 use Rattle.wi_net.specs.declared.parts.Member.{Member}
 use Rattle.wi_net.specs.LinkSet.{has}
 use Rattle.wi_net.specs.Tables.{all_members, row_members}
-use Rattle.wi_net.specs.Net.{Net, entry, all_links, links_where}
+use Rattle.wi_net.specs.Net.{Net, entry, before as before_group, all_links, links_where}
 use Rattle.wi_pds.specs.declared.rule.Word2.{Word2}
 use Rattle.wi_pds.specs.declared.rule.Word2.TheVariants.{Empty, One}
 use Rattle.wi_nfa.specs.Rows.{automaton_of}
 use Rattle.wi_world.specs.declared.run.Step.{Step}
+use Rattle.wi_world.specs.declared.run.End.TheVariants.{Arrives, Inactive, Undefined}
+use Rattle.wi_world.specs.Moves.{may_be_down}
 use Rattle.wi_query.specs.Compiled.{Compiled, HasAutomaton}
 use Rattle.wi_query.specs.Sets.{holds}
 use Rattle.wi_rules.specs.declared.spot.Spot.{Spot}
-use Rattle.wi_rules.specs.declared.spot.Spot.TheVariants.{Start, Done, Build, Close, OnLink, Mid}
-use Rattle.wi_rules.specs.Rules.{Encoding, SpotRule, each_at, plain, working, pushing, is_label, written, first_written, on_way, may_build, may_use, build_rules, set_out_rules, hop_rules, entry_rules, next_op_rules, on_link_rules, rules_of}
+use Rattle.wi_rules.specs.declared.spot.Spot.TheVariants.{Start, Done, Build, Close, OnLink, Mid, Drop}
+use Rattle.wi_rules.specs.Rules.{Encoding, SpotRule, each_member, plain, working, pushing, ending, is_label, written, first_written, member_number, on_way, may_build, may_use, build_rules, set_out_rules, hop_rules, entry_rules, inactive_rules, lost_by, undefined_rules, lost_rules, end_rules, next_op_rules, on_link_rules, rules_of}
 use Rattle.wi_rules.specs.Numbers.{layout_of, spot_of, numbered, rules_at_number}
 use Rattle.wi_rules.proofs.HopRun.{hop_rule}
 use Rattle.wi_build.specs.Encodings.{after, comes_after, before, encoding_of}
 use Rattle.wi_build.specs.Problems.{Problem, IsProblem}
 use Rattle.wi_build.proofs.Automata.{is_automaton}
-use Rattle.wi_build.proofs.Lengths.{filter_length, rising_length, flat_length, each_length, groups_length, entry_members, if_length, option_length}
+use Rattle.wi_build.proofs.Lengths.{filter_length, rising_length, flat_length, members_length, entry_members, if_length, option_length}
 
 -- how many labels, links and members a network may have, and how many states an automaton
 pub record IsFew (s : Encoding) : Type 0 where
@@ -63,50 +65,76 @@ module _ (s : Encoding) (few : IsFew s) where
 
   entry_few : (e : LinkId) (q : ℕ) (l : Label) → length (entry_rules s e q l) ≤ 400000 * 513
   entry_few e q l =
-      let all = groups_length (λ (j : ℕ) (group : List Member). each_at (λ (i : ℕ) (member : Member). hop_rules s e q l (record { group = j; member = i }) member) 0 group) 513 0 (entry s.net e l)
-      (λ j group. each_length (λ (i : ℕ) (member : Member). hop_rules s e q l (record { group = j; member = i }) member) 513 0 group (λ i member. hop_few e q l (record { group = j; member = i }) member)) in
+      let all = members_length (hop_rules s e q l) 513 (entry s.net e l) (hop_few e q l) in
       let most = entry_members s.net.rows e l in
       omega (arith, all, most, few.members)
 
-  on_link_few : (e : LinkId) (q n : ℕ) → length (on_link_rules s e q n) ≤ 400000 * 513 + 1
-  on_link_few e q n =
-      let over : length (if s.path.accepts q then plain s (Close 0) (One (suc n)) ∷ [] else []) ≤ 1 = if_length (s.path.accepts q) (plain s (Close 0) (One (suc n)) ∷ []) 1 (omega arith) in
-      omega (arith, length-append (entry_rules s e q (record { 0 = n })) (if s.path.accepts q then plain s (Close 0) (One (suc n)) ∷ [] else []), entry_few e q (record { 0 = n }), over)
+  inactive_few : (e : LinkId) (l : Label) → length (inactive_rules s e l) ≤ 1
+  inactive_few e l = if_length (may_be_down s.net s.bounds (before_group s.net (entry s.net e l) (length (entry s.net e l)))) (ending s e l Inactive (Close 0) (One (suc l.0)) ∷ []) 1 (omega arith)
+
+  undefined_few : (e : LinkId) (l : Label) (step : Step) (member : Member) → length (undefined_rules s e l step member) ≤ 1
+  undefined_few e l step member =
+      let to_rule : Spot × Word2 → List SpotRule = λ way. ending s e l (Undefined step) way.0 way.1 ∷ [] in
+      if_length (may_use s.net s.bounds (entry s.net e l) step.group member.link) (option_map_or to_rule (lost_by s.net member.ops (member_number s.net e l step) 0 l.0) []) 1
+      (option_length to_rule (lost_by s.net member.ops (member_number s.net e l step) 0 l.0) 1 (λ way. omega arith))
+
+  end_few : (e : LinkId) (l : Label) → length (end_rules s e l) ≤ 400001
+  end_few e l = go s.drops
+    where
+      go : (b : Bool) → length (if b then inactive_rules s e l ++ each_member (undefined_rules s e l) (entry s.net e l) else ending s e l Arrives (Close 0) (One (suc l.0)) ∷ []) ≤ 400001
+      go false = omega arith
+      go true =
+          let all = members_length (undefined_rules s e l) 1 (entry s.net e l) (undefined_few e l) in
+          let most = entry_members s.net.rows e l in
+          omega (arith, length-append (inactive_rules s e l) (each_member (undefined_rules s e l) (entry s.net e l)), inactive_few e l, all, most, few.members)
+
+  on_link_few : (e : LinkId) (q : ℕ) (l : Label) → length (on_link_rules s e q l) ≤ 400000 * 514 + 1
+  on_link_few e q l =
+      let over : length (if s.path.accepts q then end_rules s e l else []) ≤ 400001 = if_length (s.path.accepts q) (end_rules s e l) 400001 (end_few e l) in
+      omega (arith, length-append (entry_rules s e q l) (if s.path.accepts q then end_rules s e l else []), entry_few e q l, over)
 
   next_op_few : (m i q n : ℕ) (member : Member) → length (next_op_rules s m i q n member) ≤ 1
   next_op_few m i q n member =
       option_length (λ (op : Op). option_map_or (λ (word : Word2). working s m i (on_way member m (suc i) q) word ∷ []) (written s.net op n) []) (slice_get member.ops i) 1
       (λ op. option_length (λ (word : Word2). working s m i (on_way member m (suc i) q) word ∷ []) (written s.net op n) 1 (λ word. omega arith))
 
-  pub rules_few : (p : Spot) (g : ℕ) → length (rules_of s p g) ≤ 400000 * 513 + 1
+  lost_few : (m i n : ℕ) (member : Member) → length (lost_rules s m i n member) ≤ 1
+  lost_few m i n member = option_length (λ (way : Spot × Word2). working s m i way.0 way.1 ∷ []) (lost_by s.net member.ops m i n) 1 (λ way. omega arith)
+
+  pub rules_few : (p : Spot) (g : ℕ) → length (rules_of s p g) ≤ 400000 * 514 + 1
   rules_few Start zero =
       let accepting = filter_length (λ (q : ℕ). s.first.accepts q) (range_with_len 0 s.first.states) in
-      map_length (λ (q : ℕ). plain s (Build q) (One 0)) (filter (λ (q : ℕ). s.first.accepts q) (range_with_len 0 s.first.states)) (400000 * 513 + 1) (omega (arith, accepting, length-range_with_len 0 s.first.states, few.first))
+      map_length (λ (q : ℕ). plain s (Build q) (One 0)) (filter (λ (q : ℕ). s.first.accepts q) (range_with_len 0 s.first.states)) (400000 * 514 + 1) (omega (arith, accepting, length-range_with_len 0 s.first.states, few.first))
   rules_few Start (suc n) = omega arith
   rules_few Done g = omega arith
   rules_few (Build zero) zero = omega arith
   rules_few (Build zero) (suc n) =
       let alive = links_where s.net (λ e. not (has s.bounds.down e)) in
       let all = flat_length (set_out_rules s n) 513 alive (set_out_few n) in
-      if_length (is_label s.net n) (flat_map (set_out_rules s n) alive) (400000 * 513 + 1) (omega (arith, all, links_length s.net (λ e. not (has s.bounds.down e)), few.links))
+      if_length (is_label s.net n) (flat_map (set_out_rules s n) alive) (400000 * 514 + 1) (omega (arith, all, links_length s.net (λ e. not (has s.bounds.down e)), few.links))
   rules_few (Build (suc q)) g =
       let all = flat_length (build_rules s (suc q) g) 513 (range_with_len 0 (length s.net.classes)) (build_few (suc q) g) in
       omega (arith, all, length-range_with_len 0 (length s.net.classes), few.labels)
-  rules_few (Close q) zero = if_length (s.last.accepts q) (plain s Done Empty ∷ []) (400000 * 513 + 1) (omega arith)
+  rules_few (Close q) zero = if_length (s.last.accepts q) (plain s Done Empty ∷ []) (400000 * 514 + 1) (omega arith)
   rules_few (Close q) (suc n) =
-      if_length (is_label s.net n) (map (λ (r : ℕ). plain s (Close r) Empty) (s.last.next q n)) (400000 * 513 + 1)
-      (map_length (λ (r : ℕ). plain s (Close r) Empty) (s.last.next q n) (400000 * 513 + 1) (omega (arith, few.last q n)))
+      if_length (is_label s.net n) (map (λ (r : ℕ). plain s (Close r) Empty) (s.last.next q n)) (400000 * 514 + 1)
+      (map_length (λ (r : ℕ). plain s (Close r) Empty) (s.last.next q n) (400000 * 514 + 1) (omega (arith, few.last q n)))
   rules_few (OnLink e q) zero = omega arith
-  rules_few (OnLink e q) (suc n) = if_length (is_label s.net n) (on_link_rules s e q n) (400000 * 513 + 1) (on_link_few e q n)
+  rules_few (OnLink e q) (suc n) = if_length (is_label s.net n) (on_link_rules s e q (record { 0 = n })) (400000 * 514 + 1) (on_link_few e q (record { 0 = n }))
   rules_few (Mid m zero q) g = omega arith
   rules_few (Mid m (suc i) q) zero = omega arith
   rules_few (Mid m (suc i) q) (suc n) =
-      option_length (next_op_rules s m (suc i) q n) (slice_get (all_members s.net.rows) m) (400000 * 513 + 1) (λ member. omega (arith, next_op_few m (suc i) q n member))
+      option_length (next_op_rules s m (suc i) q n) (slice_get (all_members s.net.rows) m) (400000 * 514 + 1) (λ member. omega (arith, next_op_few m (suc i) q n member))
+  rules_few (Drop m zero) g = omega arith
+  rules_few (Drop m (suc i)) zero = omega arith
+  rules_few (Drop m (suc i)) (suc n) =
+      if_length (is_label s.net n) (option_map_or (lost_rules s m (suc i) n) (slice_get (all_members s.net.rows) m) []) (400000 * 514 + 1)
+      (option_length (lost_rules s m (suc i) n) (slice_get (all_members s.net.rows) m) (400000 * 514 + 1) (λ member. omega (arith, lost_few m (suc i) n member)))
 
   pub head_few : (n g : ℕ) → length (rules_at_number s n g) < 2 ^ 32
   head_few n g =
-      let most = option_length (λ (p : Spot). map (λ (r : SpotRule). numbered s r) (rules_of s p g)) (spot_of (layout_of s) n) (400000 * 513 + 1)
-      (λ p. map_length (λ (r : SpotRule). numbered s r) (rules_of s p g) (400000 * 513 + 1) (rules_few p g)) in
+      let most = option_length (λ (p : Spot). map (λ (r : SpotRule). numbered s r) (rules_of s p g)) (spot_of (layout_of s) n) (400000 * 514 + 1)
+      (λ p. map_length (λ (r : SpotRule). numbered s r) (rules_of s p g) (400000 * 514 + 1) (rules_few p g)) in
       omega (arith, most)
 
 module _ (e : Compiled) (k : HasAutomaton e) where

@@ -16,10 +16,13 @@ use Rattle.wi_weight.specs.lemmas.Sums.{each_below_both}
 use Rattle.wi_world.specs.declared.run.Quantity.{Quantity}
 use Rattle.wi_world.specs.declared.run.Quantity.TheVariants.{Links, Hops, Distance, Failures, Tunnels}
 use Rattle.wi_world.specs.declared.run.Step.{Step}
+use Rattle.wi_world.specs.declared.run.End.{End}
+use Rattle.wi_world.specs.declared.run.End.TheVariants.{Arrives, Inactive, Undefined}
+use Rattle.wi_world.specs.Moves.{before_end}
 use Rattle.wi_world.specs.Runs.{link_share}
 use Rattle.wi_quantity.specs.declared.vector.Part.{Part}
 use Rattle.wi_quantity.specs.Vectors.{is_vector}
-use Rattle.wi_quantity.specs.Weighing.{growth, member_share, hop_weight, entry_weight, first_weight, is_way_out}
+use Rattle.wi_quantity.specs.Weighing.{growth, member_share, end_adds, hop_weight, entry_weight, first_weight, end_weight, is_way_out}
 use Rattle.wi_quantity.proofs.RiskLemmas.{before_few}
 use Rattle.wi_quantity.proofs.ShareLemmas.{growth_small}
 use Rattle.wi_rules.specs.declared.spot.Spot.{Spot}
@@ -36,6 +39,12 @@ use Rattle.wi_build.proofs.RuleShares.{shares_hold}
 -- each link's distance is below 2^32
 abbrev pub are_near : Net → Bool
 are_near net = list_all (λ (l : Link). nat_lt l.distance (2 ^ 32)) net.links
+
+-- an end needs no more risk groups than there can be links
+pub end_few : (net : Net) (groups : List (List Member)) (end : End) → IsNetwork net → risk_count net (before_end net groups end) ≤ 20000
+end_few net groups Arrives k = omega arith
+end_few net groups Inactive k = before_few net groups (length groups) k
+end_few net groups (Undefined step) k = before_few net groups step.group k
 
 module _ (net : Net) (k : IsNetwork net) (near : are_near net ≡ true) where
   distance_small : (e : LinkId) (o : Option Link) → slice_get net.links e.0 ≡ o → option_map_or (λ (l : Link). l.distance) o 0 < 2 ^ 32
@@ -91,10 +100,23 @@ module _ (net : Net) (k : IsNetwork net) (near : are_near net ≡ true) where
       in_groups_below vector (entry net e l) step.group step.member is
       (λ group member g f. kept net k _ member (member_numbered net.rows e l step.group step.member group member g f))
 
+  end_small : (failures : ℕ) → failures ≤ 20000 → (q : Quantity) → end_adds q failures < 2 ^ 32
+  end_small failures few Links = omega arith
+  end_small failures few Hops = omega arith
+  end_small failures few Distance = omega arith
+  end_small failures few Failures = omega (arith, few)
+  end_small failures few Tunnels = omega arith
+
+  end_below : (vector : List (List Part)) (e : LinkId) (l : Label) (end : End) → is_vector vector ≡ true → EachBelow (2 ^ 64) (take 5 (end_weight vector (risk_count net (before_end net (entry net e l) end))))
+  end_below vector e l end is =
+      let failures = risk_count net (before_end net (entry net e l) end) in
+      values_below (λ q. end_adds q failures) (end_small failures (end_few net (entry net e l) end k)) vector is
+
 pub fits : (problem : Problem) (n g : ℕ) (rule : NumberedRule) → IsProblem problem → is_vector problem.vector ≡ true → Contains (rules_at_number (encoding_of problem) n g) rule → EachBelow (2 ^ 64) rule.weight
 fits problem n g rule k is h =
     let s = encoding_of problem in
     let a = option_in (λ (p : Spot). map (λ (r : SpotRule). numbered s r) (rules_of s p g)) (spot_of (layout_of s) n) rule (contains_in (rules_at_number s n g) rule h) in
     let b = map_in (λ (r : SpotRule). numbered s r) (rules_of s a.0 g) rule a.2 in
-    let share = shares_hold s (sound problem k) (λ (share : List ℕ). EachBelow (2 ^ 64) share) (zeros_below (2 ^ 64) 5 (omega arith)) (λ e. first_below problem.net k.network k.network.near problem.vector e is) (λ e l step. step_below problem.net k.network k.network.near problem.vector e l step is) a.0 g b.0 b.1 in
+    let share = shares_hold s (sound problem k) (λ (share : List ℕ). EachBelow (2 ^ 64) share) (zeros_below (2 ^ 64) 5 (omega arith)) (λ e. first_below problem.net k.network k.network.near problem.vector e is) (λ e l step. step_below problem.net k.network k.network.near problem.vector e l step is)
+    (λ e l end. end_below problem.net k.network k.network.near problem.vector e l end is) a.0 g b.0 b.1 in
     subst (λ (x : NumberedRule). EachBelow (2 ^ 64) x.weight) b.2 (each_below_both (2 ^ 64) b.0.share (1 ∷ []) share (omega arith, tt))

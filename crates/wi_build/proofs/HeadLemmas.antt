@@ -8,7 +8,7 @@ use Rattle.wi_labels.specs.declared.ops.Op.{Op}
 use Rattle.wi_net.specs.declared.parts.Member.{Member}
 use Rattle.wi_net.specs.Tables.{all_members}
 use Rattle.wi_rules.specs.declared.spot.Spot.{Spot}
-use Rattle.wi_rules.specs.declared.spot.Spot.TheVariants.{Start, Done, Build, Close, OnLink, Mid}
+use Rattle.wi_rules.specs.declared.spot.Spot.TheVariants.{Start, Done, Build, Close, OnLink, Mid, Drop}
 use Rattle.wi_rules.specs.Rules.{Encoding, SpotRule, build_rules, next_op_rules, rules_of}
 use Rattle.wi_rules.specs.Numbers.{Fits, layout_of, numbered, spot_of}
 use Rattle.wi_rules.proofs.Spots.{number_of_spot}
@@ -53,6 +53,8 @@ past_label s (Build zero) n h = rw (le-ltb n (length s.net.classes) h) refl
 past_label s (Build (suc q)) n h = flat_none (build_rules s (suc q) (suc n)) (range_with_len 0 (length s.net.classes)) (λ l. none_built s (suc q) n l (slice_get_past s.net.classes n h))
 past_label s (Close q) n h = rw (le-ltb n (length s.net.classes) h) refl
 past_label s (OnLink e q) n h = rw (le-ltb n (length s.net.classes) h) refl
+past_label s (Drop m zero) n h = refl
+past_label s (Drop m (suc i)) n h = rw (le-ltb n (length s.net.classes) h) refl
 past_label s (Mid m zero q) n h = refl
 past_label s (Mid m (suc i) q) n h = go (slice_get (all_members s.net.rows) m) refl
   where

@@ -1,6 +1,7 @@
 -- The rules of the packet's travel, made by code and of the definitions.
-use Rattle.std.proofs.Common.{◌≡◌, ℕ, zero, suc, ◌+◌, ◌<◌, ◌≤◌, ◌^◌, Bool, true, false, ◌&&◌, nat_lt, nat_le, List, [], ◌∷◌, ◌++◌, length, map, take, drop, slice_get, get_or, Option, Some, None, refl, sym, ap, ◌∙◌, arith, add-one, append_assoc, append-nil}
+use Rattle.std.proofs.Common.{◌≡◌, ℕ, zero, suc, ◌+◌, ◌<◌, ◌≤◌, ◌^◌, Bool, true, false, ◌&&◌, nat_lt, nat_le, List, [], ◌∷◌, ◌++◌, length, map, take, drop, slice_get, get_or, Option, Some, None, Result, OnOk, refl, sym, ap, ◌∙◌, arith, add-one, append_assoc, append-nil}
 use Rattle.std.proofs.lemmas.Bool.{and_parts, and_from, ltb-true, le-leb}
+use Rattle.std.proofs.Math.Seq.{take-length}
 use Rattle.std.specs.List.{list_all}
 use Rattle.std.specs.Option.{option_map_or}
 use Rattle.wi_weight.specs.declared.kinds.Pair.{Pair}
@@ -20,15 +21,22 @@ use Rattle.wi_net.specs.Tables.{all_members, group_members, groups_in, is_row, m
 use Rattle.wi_net.proofs.GroupLemmas.{all_weaken, entry_known}
 use Rattle.wi_net.proofs.MemberLemmas.{get_read}
 use Rattle.wi_pds.specs.declared.rule.Word2.{Word2}
+use Rattle.wi_pds.specs.declared.rule.Word2.TheVariants.{One}
 use Rattle.wi_world.specs.declared.run.Step.{Step}
-use Rattle.wi_quantity.specs.Weighing.{hop_weight, is_way_out, member_in}
+use Rattle.wi_world.specs.declared.run.End.TheVariants.{Inactive, Undefined}
+use Rattle.wi_world.specs.Moves.{before_end, may_be_down as all_may_be_down}
+use Rattle.wi_quantity.specs.Weighing.{hop_weight, end_weight, is_way_out, member_in}
 use Rattle.wi_quantity.proofs.RiskLemmas.{before_few}
-use Rattle.wi_rules.specs.declared.spot.Origin.TheVariants.{Hop}
-use Rattle.wi_rules.specs.Rules.{SpotRule, each_at, first_written, hop_rules, may_use, member_number, on_way}
+use Rattle.wi_rules.specs.declared.spot.Spot.{Spot}
+use Rattle.wi_rules.specs.declared.spot.Spot.TheVariants.{Close}
+use Rattle.wi_rules.specs.declared.spot.Origin.TheVariants.{Hop, Ending}
+use Rattle.wi_rules.specs.Rules.{SpotRule, each_at, first_written, hop_rules, ending, inactive_rules, lost_by, may_use, member_number, on_way, undefined_rules}
 use Rattle.wi_rules.proofs.Lists.{all_in, drop_get, get_in, get_below}
 use Rattle.wi_rules.proofs.Members.{kept, member_numbered}
 use Rattle.wi_build.specs.declared.head.Head.{Head}
 use Rattle.wi_build.specs.declared.head.Way.{Way}
+use Rattle.wi_build.specs.declared.head.Fate.{Fate}
+use Rattle.wi_build.specs.declared.head.Fate.TheVariants.{Travels, Lost}
 use Rattle.wi_build.specs.declared.head.Arrival.{Arrival}
 use Rattle.wi_build.specs.declared.needs.Needs.{Needs}
 use Rattle.wi_build.specs.Problems.{Problem, IsProblem}
@@ -36,9 +44,9 @@ use Rattle.wi_build.specs.Encodings.{encoding_of}
 use Rattle.wi_build.specs.Systems.{weight}
 use Rattle.wi_build.specs.private.Needs.{may_be_down, may_be_up, no_needs, with_groups, with_members}
 use Rattle.wi_build.specs.private.Hops.{AreNeeds, IsGroup, IsMember}
-use Rattle.wi_build.specs.private.Rows.{group_rules, rule_made, rules_for, spot_on, way_through}
-use Rattle.wi_build.proofs.NeedsLemmas.{groups_more, groups_stop, needs_count, needs_mean, needs_stop}
-use Rattle.wi_build.proofs.RowLemmas.{Listing, each_row, rules_append}
+use Rattle.wi_build.specs.private.Rows.{member_rules, group_rules, rule_made, rules_for, spot_on, way_through}
+use Rattle.wi_build.proofs.NeedsLemmas.{groups_more, groups_stop, needs_count, needs_down, needs_mean, needs_stop}
+use Rattle.wi_build.proofs.RowLemmas.{Listing, each_row, none_made, one_made, rules_append}
 
 -- where the first operations of a member lead
 way_is : (member : Member) (m i q : ℕ) → spot_on (way_through member m i) q ≡ on_way member m i q
@@ -155,8 +163,8 @@ hop_rule problem at step member word r = record {
 }
 
 -- the rules of the groups of an entry from one on
-abbrev pub later_rules : Problem → Arrival → ℕ → List SpotRule
-later_rules problem at j = each_at (group_rules (encoding_of problem) at.link at.state at.top) j (drop j (entry problem.net at.link at.top))
+abbrev pub later_rules : Problem → Arrival → Fate → ℕ → List SpotRule
+later_rules problem at fate j = each_at (group_rules (encoding_of problem) at fate) j (drop j (entry problem.net at.link at.top))
 
 module _ (problem : Problem) (at : Arrival) (needs : Needs) (step : Step) (number : ℕ) (member : Member) (k : IsProblem problem) (n : AreNeeds problem at needs step.group) (i : IsMember problem at step number member) where
   known : IsKnown problem step member
@@ -169,8 +177,12 @@ module _ (problem : Problem) (at : Arrival) (needs : Needs) (step : Step) (numbe
       ∙ ap (λ b. b && may_be_up problem.net problem.bounds needs member.link) n.down
 
   -- no rule, where the member's link may not be up
-  pub no_hop : (b : Bool) → b ≡ may_be_up problem.net problem.bounds needs member.link → b ≡ false → hop_rules (encoding_of problem) at.link at.state at.top step member ≡ []
-  no_hop b same no_way = rw (may_use_is ∙ sym same ∙ no_way) refl
+  pub no_member : (fate : Fate) (b : Bool) → b ≡ may_be_up problem.net problem.bounds needs member.link → b ≡ false → member_rules (encoding_of problem) at fate step member ≡ []
+  no_member Travels b same no_way = rw (may_use_is ∙ sym same ∙ no_way) refl
+  no_member Lost b same no_way = rw (may_use_is ∙ sym same ∙ no_way) refl
+
+  pub taken : (b : Bool) → b ≡ may_be_up problem.net problem.bounds needs member.link → b ≡ true → may_use problem.net problem.bounds (entry problem.net at.link at.top) step.group member.link ≡ true
+  taken b same way = may_use_is ∙ sym same ∙ way
 
   count_is : risk_count problem.net (before problem.net (entry problem.net at.link at.top) step.group) ≡ length needs.risks
   count_is = needs_count problem.net problem.bounds (entry problem.net at.link at.top) step.group k.network k.bounds_of (entry_known problem.net at.link at.top k.network) ∙ ap (λ (x : Needs). length x.risks) (sym n.are)
@@ -179,11 +191,11 @@ module _ (problem : Problem) (at : Arrival) (needs : Needs) (step : Step) (numbe
   needs_few = omega (arith, count_is, before_few problem.net (entry problem.net at.link at.top) step.group k.network)
 
   -- or else one for each state that comes after by the member's link
-  pub hop_row : (head : Head) (word : Word2) (w : Pair Terms Effort) (failures : ℕ) (through : Way) (qs : List ℕ) (old new : Listing) → may_be_up problem.net problem.bounds needs member.link ≡ true → first_written problem.net member.ops at.top.0 ≡ Some word
+  pub hop_row : (head : Head) (word : Word2) (w : Pair Terms Effort) (failures : ℕ) (through : Way) (qs : List ℕ) (old new : Listing) → may_use problem.net problem.bounds (entry problem.net at.link at.top) step.group member.link ≡ true → first_written problem.net member.ops at.top.0 ≡ Some word
       → failures ≡ length needs.risks → w ≡ weight (take 5 (hop_weight problem.net problem.vector member failures) ++ 1 ∷ []) → qs ≡ (encoding_of problem).path.next at.state member.link.0
       → through ≡ way_through member number 1 → new ≡ old ++ map (λ r. rule_made (encoding_of problem) head (spot_on through r) (record { word = word; weight = w; origin = Hop step })) qs
       → new ≡ old ++ rules_for (encoding_of problem) head (hop_rules (encoding_of problem) at.link at.state at.top step member)
-  hop_row head word w failures through qs old new up fw fails we states way put =
+  hop_row head word w failures through qs old new usable fw fails we states way put =
       each_row (encoding_of problem) head (way_through member number 1) (record { word = word; weight = w; origin = Hop step }) (take 5 (hop_weight problem.net problem.vector member failures)) qs ((encoding_of problem).path.next at.state member.link.0) old new
       (hop_rules (encoding_of problem) at.link at.state at.top step member) we states put' rules_are
     where
@@ -204,7 +216,48 @@ module _ (problem : Problem) (at : Arrival) (needs : Needs) (step : Step) (numbe
           one = cc (to_is, share)
 
       rules_are : hop_rules (encoding_of problem) at.link at.state at.top step member ≡ map (λ r. record { to = spot_on (way_through member number 1) r; word = word; share = take 5 (hop_weight problem.net problem.vector member failures); origin = Hop step }) ((encoding_of problem).path.next at.state member.link.0)
-      rules_are = rw (may_use_is ∙ up, fw) (each ((encoding_of problem).path.next at.state member.link.0))
+      rules_are = rw (usable, fw) (each ((encoding_of problem).path.next at.state member.link.0))
+
+  -- the rule of a packet that is dropped on the way through the member, by the first operation
+  pub lost_row : (head : Head) (to : Spot) (word : Word2) (w : Pair Terms Effort) (failures : ℕ) (old new : Listing) → may_use problem.net problem.bounds (entry problem.net at.link at.top) step.group member.link ≡ true → lost_by problem.net member.ops number 0 at.top.0 ≡ Some (to, word)
+      → failures ≡ length needs.risks → w ≡ weight (take 5 (end_weight problem.vector failures) ++ 1 ∷ []) → new ≡ old ++ rule_made (encoding_of problem) head to (record { word = word; weight = w; origin = Ending (Undefined step) }) ∷ []
+      → new ≡ old ++ rules_for (encoding_of problem) head (undefined_rules (encoding_of problem) at.link at.top step member)
+  lost_row head to word w failures old new usable way fails we put =
+      put
+      ∙ ap (λ r. old ++ r ∷ []) (one_made (encoding_of problem) head to (record { word = word; weight = w; origin = Ending (Undefined step) }) (take 5 (end_weight problem.vector failures)) we)
+      ∙ ap (λ rs. old ++ rules_for (encoding_of problem) head rs) (sym rules_are)
+    where
+      way_there : lost_by problem.net member.ops (member_number problem.net at.link at.top step) 0 at.top.0 ≡ Some (to, word)
+      way_there = ap (λ (n : ℕ). lost_by problem.net member.ops n 0 at.top.0) (sym i.number_is) ∙ way
+
+      rules_are : undefined_rules (encoding_of problem) at.link at.top step member ≡ record { to = to; word = word; share = take 5 (end_weight problem.vector failures); origin = Ending (Undefined step) } ∷ []
+      rules_are = rw (usable, way_there) (ap (λ (n : ℕ). record { to = to; word = word; share = take 5 (end_weight problem.vector n); origin = Ending (Undefined step) } ∷ []) (count_is ∙ sym fails))
+
+-- what must have failed for no group to be active
+module _ (problem : Problem) (at : Arrival) (needs : Needs) (k : IsProblem problem) (are : needs ≡ with_groups problem.net problem.bounds no_needs (entry problem.net at.link at.top)) where
+  of_all : with_groups problem.net problem.bounds no_needs (take (length (entry problem.net at.link at.top)) (entry problem.net at.link at.top)) ≡ needs
+  of_all = ap (λ gs. with_groups problem.net problem.bounds no_needs gs) (take-length (entry problem.net at.link at.top)) ∙ sym are
+
+  pub all_down : all_may_be_down problem.net problem.bounds (before problem.net (entry problem.net at.link at.top) (length (entry problem.net at.link at.top))) ≡ may_be_down problem.bounds needs
+  all_down =
+      needs_down problem.net problem.bounds (entry problem.net at.link at.top) (length (entry problem.net at.link at.top)) k.network k.bounds_of (entry_known problem.net at.link at.top k.network)
+      ∙ ap (λ (x : Needs). may_be_down problem.bounds x) of_all
+
+  pub all_count : length needs.risks ≡ risk_count problem.net (before_end problem.net (entry problem.net at.link at.top) Inactive)
+  all_count =
+      ap (λ (x : Needs). length x.risks) (sym of_all)
+      ∙ sym (needs_count problem.net problem.bounds (entry problem.net at.link at.top) (length (entry problem.net at.link at.top)) k.network k.bounds_of (entry_known problem.net at.link at.top k.network))
+
+  -- no rule, where they may not be down at once, or else one
+  pub no_inactive : (head : Head) (b : Bool) (old : Listing) → b ≡ may_be_down problem.bounds needs → b ≡ false → old ≡ old ++ rules_for (encoding_of problem) head (inactive_rules (encoding_of problem) at.link at.top)
+  no_inactive head b old same no_way = none_made (encoding_of problem) head old (inactive_rules (encoding_of problem) at.link at.top) (rw (all_down ∙ sym same ∙ no_way) refl)
+
+  pub inactive_row : {A E : Type 0} (head : Head) (b : Bool) (r : Result A E) (old new : Listing) → b ≡ may_be_down problem.bounds needs → b ≡ true
+      → OnOk r (new ≡ old ++ rules_for (encoding_of problem) head (ending (encoding_of problem) at.link at.top Inactive (Close 0) (One (suc at.top.0)) ∷ []))
+      → OnOk r (new ≡ old ++ rules_for (encoding_of problem) head (inactive_rules (encoding_of problem) at.link at.top))
+  inactive_row head b r old new same way put =
+      let one : inactive_rules (encoding_of problem) at.link at.top ≡ ending (encoding_of problem) at.link at.top Inactive (Close 0) (One (suc at.top.0)) ∷ [] = rw (all_down ∙ sym same ∙ way) refl in
+      rw one put
 
 -- what code reads at a place of a list
 read_there : {X : Type 0} (xs ys : List X) (j : ℕ) (x y : X) → xs ≡ ys → j < length xs → x ≡ get_or xs j x → y ≡ x → slice_get ys j ≡ Some y
@@ -247,34 +300,38 @@ module _ (problem : Problem) (at : Arrival) (j : ℕ) (members : List Member) (t
       ∙ ap (λ (n : Needs). with_members problem.net problem.bounds n members) are
       ∙ sym (groups_more problem.net problem.bounds (entry problem.net at.link at.top) j members (drop (suc j) (entry problem.net at.link at.top)) (drop_there (entry problem.net at.link at.top) j members there)))
 
-  pub next_rules : (head : Head) (now new whole : Listing) → now ++ rules_for (encoding_of problem) head (later_rules problem at j) ≡ whole → new ≡ now ++ rules_for (encoding_of problem) head (group_rules (encoding_of problem) at.link at.state at.top j members)
-      → new ++ rules_for (encoding_of problem) head (later_rules problem at (j + 1)) ≡ whole
-  next_rules head now new whole before put =
-      ap (λ t. t ++ rules_for (encoding_of problem) head (later_rules problem at (j + 1))) put
-      ∙ append_assoc now (rules_for (encoding_of problem) head (group_rules (encoding_of problem) at.link at.state at.top j members)) (rules_for (encoding_of problem) head (later_rules problem at (j + 1)))
-      ∙ ap (λ t. now ++ t) (sym (rules_append (encoding_of problem) head (group_rules (encoding_of problem) at.link at.state at.top j members) (later_rules problem at (j + 1))) ∙ ap (rules_for (encoding_of problem) head) (sym here))
+  pub next_rules : (fate : Fate) (head : Head) (now new whole : Listing) → now ++ rules_for (encoding_of problem) head (later_rules problem at fate j) ≡ whole → new ≡ now ++ rules_for (encoding_of problem) head (group_rules (encoding_of problem) at fate j members)
+      → new ++ rules_for (encoding_of problem) head (later_rules problem at fate (j + 1)) ≡ whole
+  next_rules fate head now new whole before put =
+      ap (λ t. t ++ rules_for (encoding_of problem) head (later_rules problem at fate (j + 1))) put
+      ∙ append_assoc now (rules_for (encoding_of problem) head (group_rules (encoding_of problem) at fate j members)) (rules_for (encoding_of problem) head (later_rules problem at fate (j + 1)))
+      ∙ ap (λ t. now ++ t) (sym (rules_append (encoding_of problem) head (group_rules (encoding_of problem) at fate j members) (later_rules problem at fate (j + 1))) ∙ ap (rules_for (encoding_of problem) head) (sym here))
       ∙ before
     where
-      here : later_rules problem at j ≡ group_rules (encoding_of problem) at.link at.state at.top j members ++ later_rules problem at (j + 1)
+      here : later_rules problem at fate j ≡ group_rules (encoding_of problem) at fate j members ++ later_rules problem at fate (j + 1)
       here = rw (drop_there (entry problem.net at.link at.top) j members there, add-one) refl
 
 -- no rule of later groups, where what they need may not be down at once
-stopped : (problem : Problem) (at : Arrival) (i : ℕ) (gs : List (List Member)) → IsProblem problem → drop i (entry problem.net at.link at.top) ≡ gs → may_be_down problem.bounds (with_groups problem.net problem.bounds no_needs (take i (entry problem.net at.link at.top))) ≡ false
-    → each_at (group_rules (encoding_of problem) at.link at.state at.top) i gs ≡ []
-stopped problem at i [] k e h = refl
-stopped problem at i (g ∷ gs) k e h =
-    rw (none g 0) (rw add-one (stopped problem at (suc i) gs k (drop_get (entry problem.net at.link at.top) i g gs e).1 (groups_stop problem.net problem.bounds (entry problem.net at.link at.top) i g gs e h)))
+stopped : (problem : Problem) (at : Arrival) (fate : Fate) (i : ℕ) (gs : List (List Member)) → IsProblem problem → drop i (entry problem.net at.link at.top) ≡ gs → may_be_down problem.bounds (with_groups problem.net problem.bounds no_needs (take i (entry problem.net at.link at.top))) ≡ false
+    → each_at (group_rules (encoding_of problem) at fate) i gs ≡ []
+stopped problem at fate i [] k e h = refl
+stopped problem at fate i (g ∷ gs) k e h =
+    rw (none g 0) (rw add-one (stopped problem at fate (suc i) gs k (drop_get (entry problem.net at.link at.top) i g gs e).1 (groups_stop problem.net problem.bounds (entry problem.net at.link at.top) i g gs e h)))
   where
     no_use : (link : LinkId) → may_use problem.net problem.bounds (entry problem.net at.link at.top) i link ≡ false
     no_use link = needs_stop problem.net problem.bounds (entry problem.net at.link at.top) i link k.network k.bounds_of (entry_known problem.net at.link at.top k.network) h
 
-    none : (ms : List Member) (n : ℕ) → each_at (λ m member. hop_rules (encoding_of problem) at.link at.state at.top (record { group = i; member = m }) member) n ms ≡ []
-    none [] n = refl
-    none (m ∷ ms) n = rw (no_use m.link) (none ms (n + 1))
+    no_rule : (f : Fate) (n : ℕ) (m : Member) → member_rules (encoding_of problem) at f (record { group = i; member = n }) m ≡ []
+    no_rule Travels n m = rw (no_use m.link) refl
+    no_rule Lost n m = rw (no_use m.link) refl
 
-pub stop_there : (problem : Problem) (at : Arrival) (j : ℕ) (needs : Needs) (b : Bool) (head : Head) (now whole : Listing) → IsProblem problem → needs ≡ with_groups problem.net problem.bounds no_needs (take j (entry problem.net at.link at.top)) → b ≡ may_be_down problem.bounds needs → b ≡ false
-    → now ++ rules_for (encoding_of problem) head (later_rules problem at j) ≡ whole → now ≡ whole
-stop_there problem at j needs b head now whole k are same no_more left =
+    none : (ms : List Member) (n : ℕ) → each_at (λ m member. member_rules (encoding_of problem) at fate (record { group = i; member = m }) member) n ms ≡ []
+    none [] n = refl
+    none (m ∷ ms) n = rw (no_rule fate n m) (none ms (n + 1))
+
+pub stop_there : (problem : Problem) (at : Arrival) (fate : Fate) (j : ℕ) (needs : Needs) (b : Bool) (head : Head) (now whole : Listing) → IsProblem problem → needs ≡ with_groups problem.net problem.bounds no_needs (take j (entry problem.net at.link at.top)) → b ≡ may_be_down problem.bounds needs → b ≡ false
+    → now ++ rules_for (encoding_of problem) head (later_rules problem at fate j) ≡ whole → now ≡ whole
+stop_there problem at fate j needs b head now whole k are same no_more left =
     sym (append-nil now)
-    ∙ ap (λ rs. now ++ rules_for (encoding_of problem) head rs) (sym (stopped problem at j (drop j (entry problem.net at.link at.top)) k refl (ap (may_be_down problem.bounds) (sym are) ∙ sym same ∙ no_more)))
+    ∙ ap (λ rs. now ++ rules_for (encoding_of problem) head rs) (sym (stopped problem at fate j (drop j (entry problem.net at.link at.top)) k refl (ap (may_be_down problem.bounds) (sym are) ∙ sym same ∙ no_more)))
     ∙ left

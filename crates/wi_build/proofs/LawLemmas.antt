@@ -1,22 +1,24 @@
 -- What the rules of a head weigh and stand for can be said by weights and tags, and each rule is listed once.
-use Rattle.std.proofs.Common.{◌≡◌, ℕ, ◌+◌, ◌*◌, ◌/◌, ◌%◌, ◌<◌, List, [], ◌∷◌, ◌++◌, length, map, take, slice_get, Option, Some, None, refl, ap, ◌∙◌, arith, inl, inr, length-append}
+use Rattle.std.proofs.Common.{◌≡◌, ℕ, ◌+◌, ◌*◌, ◌/◌, ◌%◌, ◌<◌, List, [], ◌∷◌, ◌++◌, length, map, take, Option, Some, None, refl, ap, ◌∙◌, arith, inl, inr, length-append}
 use Rattle.wi_weight.specs.declared.kinds.Pair.{Pair}
 use Rattle.wi_weight.specs.declared.kinds.Terms.{Terms}
 use Rattle.wi_weight.specs.declared.kinds.Effort.{Effort}
-use Rattle.wi_net.specs.declared.parts.Member.{Member}
+use Rattle.wi_labels.specs.declared.label.Label.{Label}
+use Rattle.wi_net.specs.declared.parts.LinkId.{LinkId}
 use Rattle.wi_net.specs.Net.{entry}
 use Rattle.wi_net.specs.Tables.{group_members, members_before}
 use Rattle.wi_pds.specs.declared.rule.Rule.{Rule}
 use Rattle.wi_quantity.specs.Weighing.{components}
+use Rattle.wi_world.specs.declared.run.Step.{Step}
+use Rattle.wi_world.specs.declared.run.End.TheVariants.{Arrives, Inactive, Undefined}
 use Rattle.wi_rules.specs.declared.spot.Origin.{Origin}
-use Rattle.wi_rules.specs.declared.spot.Origin.TheVariants.{Pushed, SetOut, Hop, Operation, Nothing}
+use Rattle.wi_rules.specs.declared.spot.Origin.TheVariants.{Pushed, SetOut, Hop, Operation, Ending, Nothing}
 use Rattle.wi_rules.specs.declared.spot.Spot.{Spot}
 use Rattle.wi_rules.specs.Rules.{IsEncoding, SpotRule, rules_of}
 use Rattle.wi_rules.specs.Numbers.{AreRulesOf, layout_of, numbered, rules_at_number, seen, spot_of}
 use Rattle.wi_rules.proofs.Lists.{In, get_below}
 use Rattle.wi_rules.proofs.Members.{all_count}
 use Rattle.wi_build.proofs.Sound.{sound}
-use Rattle.wi_build.specs.declared.head.Arrival.{Arrival}
 use Rattle.wi_build.specs.private.Tags.{IsWithin}
 use Rattle.wi_build.specs.Tags.{origin_by, origin_of, tag_of, tagged}
 use Rattle.wi_build.specs.Problems.{Problem, IsProblem}
@@ -24,7 +26,7 @@ use Rattle.wi_build.specs.Encodings.{encoding_of}
 use Rattle.wi_build.specs.Systems.{rule_at, rules_by, weight}
 use Rattle.wi_build.proofs.HeadLemmas.{spot_fits}
 use Rattle.wi_build.proofs.HopLemmas.{HasRoom, cons_same, group_room}
-use Rattle.wi_build.proofs.KindLemmas.{OfKinds, all_kind}
+use Rattle.wi_build.proofs.KindLemmas.{IsListed, OfKinds, all_kind}
 
 -- what a tag says is what it was made for
 tag_kind : (kind a b : ℕ) → kind < 8 → b < 1073741824 → (tagged kind a b % 8 ≡ kind) × (tagged kind a b / 8 ≡ b + 1073741824 * a)
@@ -51,6 +53,9 @@ tag_tells (Pushed l) h = tag_read 1 l.0 0 (omega arith) (omega arith)
 tag_tells (SetOut e) h = tag_read 2 e.0 0 (omega arith) (omega arith)
 tag_tells (Hop step) h = tag_read 3 step.group step.member (omega arith) h.1
 tag_tells (Operation m i) h = tag_read 4 m i (omega arith) h.1
+tag_tells (Ending Arrives) h = tag_read 5 0 0 (omega arith) (omega arith)
+tag_tells (Ending Inactive) h = tag_read 6 0 0 (omega arith) (omega arith)
+tag_tells (Ending (Undefined step)) h = tag_read 7 step.group step.member (omega arith) h.1
 
 -- a weight has six components
 pub weight_tells : (xs : List ℕ) → length xs ≡ 6 → components (weight xs) ≡ xs
@@ -72,11 +77,11 @@ module _ (problem : Problem) (k : IsProblem problem) where
   is_encoding : IsEncoding (encoding_of problem)
   is_encoding = sound problem k
 
-  hop_within : (at : Arrival) (j i : ℕ) (group : List Member) (member : Member) → slice_get (entry problem.net at.link at.top) j ≡ Some group → slice_get group i ≡ Some member → (j < 1073741824) × (i < 1073741824)
-  hop_within at j i group member g m =
-      let first = members_before problem.net.rows at.link at.top + group_members (take j (entry problem.net at.link at.top)) in
-      let room : HasRoom problem at j first group = group_room problem at j first group k.network (record { group = g; first_is = refl }) in
-      let below = get_below group i member m in
+  step_within : (e : LinkId) (l : Label) (step : Step) → IsListed problem e l step → (step.group < 1073741824) × (step.member < 1073741824)
+  step_within e l step there =
+      let first = members_before problem.net.rows e l + group_members (take step.group (entry problem.net e l)) in
+      let room : HasRoom problem (record { link = e; state = 0; top = l }) step.group first there.0 = group_room problem (record { link = e; state = 0; top = l }) step.group first there.0 k.network (record { group = there.2; first_is = refl }) in
+      let below = get_below there.0 step.member there.1 there.3 in
       (omega (arith, room.few_groups), omega (arith, room.few_members, below))
 
   pub sayable : OfKinds problem IsSayable
@@ -84,7 +89,10 @@ module _ (problem : Problem) (k : IsProblem problem) where
     plains = λ to word. record { five = refl; within = tt };
     pushes = λ l g q below. record { five = refl; within = omega (arith, below, k.network.classes, k.network.few_labels) };
     firsts = λ e n q below. record { five = is_encoding.first_length e; within = omega (arith, below, k.network.few_links) };
-    hops = λ at j i q group member word g m. record { five = is_encoding.step_length at.link at.top (record { group = j; member = i }); within = hop_within at j i group member g m };
+    hops = λ at step q member word there. record { five = is_encoding.step_length at.link at.top step; within = step_within at.link at.top step there };
+    arrivals = λ e l to word. record { five = is_encoding.end_length e l Arrives; within = tt };
+    inactives = λ e l to word. record { five = is_encoding.end_length e l Inactive; within = tt };
+    undefineds = λ e l step to word there. record { five = is_encoding.end_length e l (Undefined step); within = step_within e l step there };
     operations = λ m i to word below few. record { five = refl; within = (omega (arith, below, all_count problem.net.rows, k.network.few_members), omega (arith, few)) };
   }
 
@@ -105,7 +113,7 @@ module _ (problem : Problem) (k : IsProblem problem) where
     where
       go : (o : Option Spot) → spot_of (layout_of (encoding_of problem)) n ≡ o → map (λ (r : Rule (Pair Terms Effort)). seen components (λ x. origin_of x.tag) r) (rules_by (encoding_of problem) n g) ≡ rules_at_number (encoding_of problem) n g
       go None e = rw e refl
-      go (Some p) e = rw e (said n g (rules_of (encoding_of problem) p g) (λ r i. all_kind problem IsSayable sayable p g r (spot_fits (encoding_of problem) n p e) i))
+      go (Some p) e = rw e (said n g (rules_of (encoding_of problem) p g) (λ r i. all_kind problem k IsSayable sayable p g r (spot_fits (encoding_of problem) n p e) i))
 
   pub systems : AreRulesOf (encoding_of problem) components (λ rule. origin_of rule.tag) (rules_by (encoding_of problem))
   systems = record { each = rules_seen }

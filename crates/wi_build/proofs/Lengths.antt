@@ -12,7 +12,8 @@ use Rattle.wi_net.specs.declared.parts.LinkId.{LinkId}
 use Rattle.wi_net.specs.declared.parts.Member.{Member}
 use Rattle.wi_net.specs.declared.parts.TableRow.{TableRow}
 use Rattle.wi_net.specs.Tables.{is_row, groups_in, group_members, row_members}
-use Rattle.wi_rules.specs.Rules.{each_at}
+use Rattle.wi_world.specs.declared.run.Step.{Step}
+use Rattle.wi_rules.specs.Rules.{each_at, each_member}
 
 pub filter_length : {X : Type 0} (p : X → Bool) (xs : List X) → length (filter p xs) ≤ length xs
 filter_length p [] = omega arith
@@ -39,6 +40,11 @@ each_length f n i (x ∷ xs) each = omega (arith, length-append (f i x) (each_at
 pub groups_length : {Y : Type 0} (f : ℕ → List Member → List Y) (n i : ℕ) (groups : List (List Member)) → ((j : ℕ) (group : List Member) → length (f j group) ≤ length group * n) → length (each_at f i groups) ≤ group_members groups * n
 groups_length f n i [] each = omega arith
 groups_length f n i (group ∷ groups) each = omega (arith, length-append (f i group) (each_at f (i + 1) groups), each i group, groups_length f n (i + 1) groups each)
+
+pub members_length : {Y : Type 0} (f : Step → Member → List Y) (n : ℕ) (groups : List (List Member)) → ((step : Step) (member : Member) → length (f step member) ≤ n) → length (each_member f groups) ≤ group_members groups * n
+members_length f n groups each =
+    groups_length (λ (j : ℕ) (group : List Member). each_at (λ (i : ℕ) (member : Member). f (record { group = j; member = i }) member) 0 group) n 0 groups
+    (λ j group. each_length (λ (i : ℕ) (member : Member). f (record { group = j; member = i }) member) n 0 group (λ i member. each (record { group = j; member = i }) member))
 
 -- an entry has no more members than all rows
 pub entry_members : (rows : List TableRow) (e : LinkId) (l : Label) → group_members (groups_in rows e l) ≤ row_members rows

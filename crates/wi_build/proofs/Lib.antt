@@ -1,6 +1,7 @@
 pub mod Automata
 pub mod Shares
 pub mod Sound
+pub mod Losses
 pub mod Lengths
 pub mod Few
 pub mod Values

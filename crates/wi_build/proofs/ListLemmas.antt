@@ -11,7 +11,7 @@ use Rattle.wi_pds.specs.Rules.{rules_at}
 use Rattle.wi_quantity.specs.Weighing.{components}
 use Rattle.wi_rules.specs.declared.spot.Spot.{Spot}
 use Rattle.wi_rules.specs.Rules.{Encoding}
-use Rattle.wi_rules.specs.Numbers.{AreRulesOf, Layout, NumberedRule, layout_of, rules_at_number, seen, spot_of}
+use Rattle.wi_rules.specs.Numbers.{AreRulesOf, Layout, NumberedRule, layout_of, dropping, rules_at_number, seen, spot_of}
 use Rattle.wi_build.specs.Tags.{origin_of}
 use Rattle.wi_build.specs.Problems.{Problem, IsProblem}
 use Rattle.wi_build.specs.Encodings.{encoding_of}
@@ -66,7 +66,17 @@ past_spots y (suc (suc n)) h =
     let last : nat_lt (n - y.first) y.last ≡ false = le-ltb (n - y.first) y.last (omega (arith, h)) in
     let links : nat_lt (n - y.first - y.last) (y.links * y.path) ≡ false = le-ltb (n - y.first - y.last) (y.links * y.path) (omega (arith, h)) in
     let members : nat_lt (n - y.first - y.last - y.links * y.path) (y.members * 7 * y.path) ≡ false = le-ltb (n - y.first - y.last - y.links * y.path) (y.members * 7 * y.path) (omega (arith, h)) in
-    rw (first, last, links, members) refl
+    rw (first, last, links, members) (none y.drops refl)
+  where
+    rest : ℕ
+    rest = n - y.first - y.last - y.links * y.path - y.members * 7 * y.path
+
+    none : (b : Bool) → y.drops ≡ b → dropping y rest ≡ None
+    none false d = rw d refl
+    none true d =
+        let much : suc (suc (y.first + (y.last + (y.links * y.path + (y.members * 7 * y.path + y.members * 7))))) ≤ suc (suc n) = rw d at h in
+        let more : nat_lt rest (y.members * 7) ≡ false = le-ltb rest (y.members * 7) (omega (arith, much)) in
+        rw (d, more) refl
 
 module _ (s : Encoding) (n g : ℕ) where
   symbol_apart : (h : ℕ) → h ≢ g → filter (is_of n g) (rules_by s n h) ≡ []

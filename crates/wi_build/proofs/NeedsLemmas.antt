@@ -13,7 +13,7 @@ use Rattle.wi_net.proofs.CountLemmas.{bool_same, risk_named}
 use Rattle.wi_net.proofs.RisingLemmas.{filter_rising, rising_same, with_rising}
 use Rattle.wi_net.proofs.WidenLemmas.{has-with_link, or_assoc, or_comm, union_rising}
 use Rattle.wi_net.proofs.GroupLemmas.{any_link, groups_known, in_groups}
-use Rattle.wi_world.specs.Moves.{AreBounds}
+use Rattle.wi_world.specs.Moves.{AreBounds, may_be_down as all_may_be_down}
 use Rattle.wi_rules.specs.Rules.{may_use}
 use Rattle.wi_build.specs.declared.needs.Needs.{Needs}
 use Rattle.wi_build.specs.private.Needs.{no_needs, with_need, with_members, with_groups, may_be_down, may_be_up}
@@ -215,6 +215,13 @@ pub needs_stop : (net : Net) (bounds : Bounds) (gs : List (List Member)) (j : �
 needs_stop net bounds gs j e k b known no_more =
     let kt = known_take net gs j known in
     rw (count_extra net bounds (take j gs) k b kt, apart_up net bounds (take j gs) k b kt, no_more) refl
+
+-- all that the groups before one need may be down at once where what is kept for that one may
+pub needs_down : (net : Net) (bounds : Bounds) (gs : List (List Member)) (j : ℕ) → IsNetwork net → AreBounds net bounds → groups_known net gs ≡ true
+    → all_may_be_down net bounds (before net gs j) ≡ may_be_down bounds (needs_of net bounds (take j gs))
+needs_down net bounds gs j k b known =
+    let kt = known_take net gs j known in
+    rw (count_extra net bounds (take j gs) k b kt, apart_up net bounds (take j gs) k b kt) refl
 
 -- how many risk groups must have failed
 pub needs_count : (net : Net) (bounds : Bounds) (gs : List (List Member)) (j : ℕ) → IsNetwork net → AreBounds net bounds → groups_known net gs ≡ true

@@ -34,7 +34,7 @@ on_ok (Ok a) P Q f h = f h
 on_ok (Err e) P Q f h = h
 
 -- one rule
-one_made : (s : Encoding) (head : Head) (to : Spot) (made : Made) (share : List ℕ) → made.weight ≡ weight (share ++ 1 ∷ [])
+pub one_made : (s : Encoding) (head : Head) (to : Spot) (made : Made) (share : List ℕ) → made.weight ≡ weight (share ++ 1 ∷ [])
     → rule_made s head to made ≡ rule_of s head (record { to = to; word = made.word; share = share; origin = made.origin })
 one_made s head to made share e =
     let make : Pair Terms Effort → Rule (Pair Terms Effort) = λ w. record { from = head.spot; top = head.symbol; to = number (layout_of s) to; word = made.word; weight = w; tag = tag_of made.origin } in

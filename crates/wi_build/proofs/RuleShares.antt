@@ -13,19 +13,31 @@ use Rattle.wi_net.specs.Net.{links_where}
 use Rattle.wi_pds.specs.declared.rule.Word2.{Word2}
 use Rattle.wi_pds.specs.declared.rule.Word2.TheVariants.{Empty, One}
 use Rattle.wi_world.specs.declared.run.Step.{Step}
+use Rattle.wi_world.specs.declared.run.End.{End}
+use Rattle.wi_world.specs.declared.run.End.TheVariants.{Arrives, Inactive, Undefined}
 use Rattle.wi_rules.specs.declared.spot.Origin.TheVariants.{SetOut}
 use Rattle.wi_rules.specs.declared.spot.Spot.{Spot}
-use Rattle.wi_rules.specs.declared.spot.Spot.TheVariants.{Start, Done, Build, Close, OnLink, Mid}
-use Rattle.wi_rules.specs.Rules.{Encoding, SpotRule, zeros, plain, working, pushing, is_label, written, on_way, may_build, build_rules, set_out_rules, entry_rules, next_op_rules, on_link_rules, rules_of, IsEncoding}
+use Rattle.wi_rules.specs.declared.spot.Spot.TheVariants.{Start, Done, Build, Close, OnLink, Mid, Drop}
+use Rattle.wi_rules.specs.Rules.{Encoding, SpotRule, zeros, plain, working, pushing, is_label, written, on_way, may_build, build_rules, set_out_rules, entry_rules, lost_by, lost_rules, end_rules, next_op_rules, on_link_rules, rules_of, IsEncoding}
 use Rattle.wi_rules.proofs.Lists.{In, in_either, map_in, flat_in, if_in, option_in, one_in}
 use Rattle.wi_rules.proofs.HopRun.{Hops, entry_in}
+use Rattle.wi_rules.proofs.Ending.{end_in}
 
--- it holds of no share at all, of each first link's and of each step's
-module _ (s : Encoding) (k : IsEncoding s) (P : List ℕ → Type 0) (none : P (zeros s)) (first : (e : LinkId) → P (s.first_share e)) (step : (e : LinkId) (l : Label) (step : Step) → P (s.step_share e l step)) where
+-- it holds of no share at all, of each first link's, of each step's and of each end's
+module _ (s : Encoding) (k : IsEncoding s) (P : List ℕ → Type 0) (none : P (zeros s)) (first : (e : LinkId) → P (s.first_share e)) (step : (e : LinkId) (l : Label) (step : Step) → P (s.step_share e l step))
+    (last : (e : LinkId) (l : Label) (end : End) → P (s.end_share e l end)) where
   entry_shares : (e : LinkId) (q : ℕ) (l : Label) (r : SpotRule) → In (entry_rules s e q l) r → P r.share
   entry_shares e q l r i =
       let h : Hops s k e q l r = entry_in s k e q l r i in
       subst (λ (x : SpotRule). P x.share) h.is (step e l h.step)
+
+  end_shares : (e : LinkId) (l : Label) (r : SpotRule) → In (end_rules s e l) r → P r.share
+  end_shares e l r i =
+      elim (end_in s k e l r i) [
+        | inl a ↦ subst (λ (x : SpotRule). P x.share) a.is (last e l Arrives)
+        | inr (inl a) ↦ subst (λ (x : SpotRule). P x.share) a.is (last e l Inactive)
+        | inr (inr a) ↦ subst (λ (x : SpotRule). P x.share) a.is (last e l (Undefined a.step))
+      ]
 
   set_out_shares : (n : ℕ) (e : LinkId) (r : SpotRule) → In (set_out_rules s n e) r → P r.share
   set_out_shares n e r i =
@@ -69,12 +81,19 @@ module _ (s : Encoding) (k : IsEncoding s) (P : List ℕ → Type 0) (none : P (
       subst (λ (x : SpotRule). P x.share) a.2 none
   shares_hold (OnLink e q) zero r i = absurd i
   shares_hold (OnLink e q) (suc n) r i =
-      elim (in_either (entry_rules s e q (record { 0 = n })) (if s.path.accepts q then plain s (Close 0) (One (suc n)) ∷ [] else []) r (if_in (is_label s.net n) (on_link_rules s e q n) r i).1) [
+      elim (in_either (entry_rules s e q (record { 0 = n })) (if s.path.accepts q then end_rules s e (record { 0 = n }) else []) r (if_in (is_label s.net n) (on_link_rules s e q (record { 0 = n })) r i).1) [
         | inl a ↦ entry_shares e q (record { 0 = n }) r a
-        | inr a ↦ plain_share (s.path.accepts q) (Close 0) (One (suc n)) r a
+        | inr a ↦ end_shares e (record { 0 = n }) r (if_in (s.path.accepts q) (end_rules s e (record { 0 = n })) r a).1
       ]
   shares_hold (Mid m zero q) g r i = absurd i
   shares_hold (Mid m (suc j) q) zero r i = absurd i
   shares_hold (Mid m (suc j) q) (suc n) r i =
       let a = option_in (next_op_rules s m (suc j) q n) (slice_get (all_members s.net.rows) m) r i in
       next_op_shares m (suc j) q n a.0 r a.2
+  shares_hold (Drop m zero) g r i = absurd i
+  shares_hold (Drop m (suc j)) zero r i = absurd i
+  shares_hold (Drop m (suc j)) (suc n) r i =
+      let there = if_in (is_label s.net n) (option_map_or (lost_rules s m (suc j) n) (slice_get (all_members s.net.rows) m) []) r i in
+      let a = option_in (lost_rules s m (suc j) n) (slice_get (all_members s.net.rows) m) r there.1 in
+      let b = option_in (λ (way : Spot × Word2). working s m (suc j) way.0 way.1 ∷ []) (lost_by s.net a.0.ops m (suc j) n) r a.2 in
+      subst (λ (x : SpotRule). P x.share) (one_in (working s m (suc j) b.0.0 b.0.1) r b.2) none

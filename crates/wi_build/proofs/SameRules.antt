@@ -21,7 +21,7 @@ use Rattle.wi_query.specs.declared.query.Query.{Query}
 use Rattle.wi_query.specs.Compiled.{Compiled, HasAutomaton}
 use Rattle.wi_query.specs.Meaning.{HasAutomata, IsQuery}
 use Rattle.wi_query.specs.Sets.{SymbolMarks, holds}
-use Rattle.wi_query.proofs.Alike.{Alike, count_same, may_follow_same, may_end_same, alike_first, alike_path, alike_last, same_bounds}
+use Rattle.wi_query.proofs.Alike.{Alike, count_same, may_follow_same, may_end_same, alike_first, alike_path, alike_last, same_bounds, ask_the_same}
 use Rattle.wi_quantity.specs.declared.vector.Part.{Part}
 use Rattle.wi_build.specs.Problems.{problem_of}
 use Rattle.wi_build.specs.Encodings.{after, before, automaton, encoding_of}
@@ -99,9 +99,11 @@ module _ (net : Net) (text : List ℕ) (q r : Query) (vector : List (List Part))
     first_before = before_same q.first r.first k.first l.first (alike_first net text q r first other) (alike_first net text r q other first) i;
     path = automaton_same q.path r.path k.path l.path (alike_path net text q r first other) (alike_path net text r q other first) i;
     last = automaton_same q.last r.last k.last l.last (alike_last net text q r first other) (alike_last net text r q other first) i;
+    drops = (ask_the_same net text q r first other).drops i;
     terms = 5;
     first_share = (encoding_of (problem_of net q vector)).first_share;
     step_share = (encoding_of (problem_of net q vector)).step_share;
+    end_share = (encoding_of (problem_of net q vector)).end_share;
   }
 
 pub one_system : (net : Net) (text : List ℕ) (q r : Query) (vector : List (List Part)) → IsQuery net text q → IsQuery net text r → HasAutomata q → HasAutomata r

@@ -1,11 +1,12 @@
 -- What the rules of a pushdown system are made of, for a problem.
 use Rattle.std.specs.Prelude.{ℕ, Bool, ◌==◌, List, take}
 use Rattle.std.specs.List.{filter, list_any, range_with_len}
-use Rattle.wi_net.specs.Net.{entry}
+use Rattle.wi_net.specs.Net.{entry, risk_count}
 use Rattle.wi_nfa.specs.Rows.{automaton_of}
 use Rattle.wi_query.specs.Compiled.{Compiled}
 use Rattle.wi_query.specs.Sets.{holds}
-use Rattle.wi_quantity.specs.Weighing.{first_weight, entry_weight}
+use Rattle.wi_world.specs.Moves.{before_end}
+use Rattle.wi_quantity.specs.Weighing.{first_weight, entry_weight, end_weight}
 use Rattle.wi_rules.specs.Rules.{Automaton, Encoding}
 use Rattle.wi_build.specs.Problems.{Problem}
 
@@ -31,7 +32,9 @@ encoding_of problem = record {
   first_before = before problem.query.first;
   path = automaton problem.query.path;
   last = automaton problem.query.last;
+  drops = problem.query.drops;
   terms = 5;
   first_share = λ e. take 5 (first_weight problem.net problem.vector e.0);
   step_share = λ e l step. take 5 (entry_weight problem.net problem.vector (entry problem.net e l) step.group step.member);
+  end_share = λ e l end. take 5 (end_weight problem.vector (risk_count problem.net (before_end problem.net (entry problem.net e l) end)));
 }

@@ -8,7 +8,7 @@ use Rattle.wi_world.specs.Moves.{AreBounds}
 use Rattle.wi_world.specs.Moving.{IsMovingRun}
 use Rattle.wi_world.specs.Holds.{Question, Matches}
 use Rattle.wi_query.specs.declared.query.Query.{Query}
-use Rattle.wi_query.specs.Meaning.{HasAutomata, question_of}
+use Rattle.wi_query.specs.Meaning.{HasAutomata, MayDropAny, question_of}
 use Rattle.wi_quantity.specs.declared.vector.Part.{Part}
 use Rattle.wi_quantity.specs.Weighing.{weight_of}
 
@@ -19,10 +19,11 @@ pub record Problem : Type 0 where
   pub vector : List (List Part)
   pub bounds : Bounds
 
--- the network and the query are such, and the bounds are the network's
+-- the network and the query are such, a packet may be dropped with any header, and the bounds are the network's
 pub record IsProblem (problem : Problem) : Type 0 where
   pub network : IsNetwork problem.net
   pub automata : HasAutomata problem.query
+  pub any_last : MayDropAny problem.net problem.query
   pub bounds_of : AreBounds problem.net problem.bounds
 
 -- what a query asks within bounds

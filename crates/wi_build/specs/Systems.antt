@@ -1,5 +1,5 @@
 -- The rules of a network and a query as those of a pushdown system (Schwoon 2002), and their list.
-use Rattle.std.specs.Prelude.{ℕ, suc, ◌+◌, ◌*◌, List, length, map, slice_index}
+use Rattle.std.specs.Prelude.{ℕ, suc, ◌+◌, ◌*◌, if◌then◌else◌, List, length, map, slice_index}
 use Rattle.std.specs.List.{flat_map, range_with_len}
 use Rattle.wi_weight.specs.Weights.{Scale}
 use Rattle.wi_weight.specs.Kinds.{pair_scale, terms_scale, effort_scale}
@@ -44,7 +44,7 @@ rules problem = rules_by (encoding_of problem)
 
 -- how many numbers of spots there are
 abbrev pub spot_count : Layout → ℕ
-spot_count y = suc (suc (y.first + (y.last + (y.links * y.path + y.members * 7 * y.path))))
+spot_count y = suc (suc (y.first + (y.last + (y.links * y.path + (y.members * 7 * y.path + (if y.drops then y.members * 7 else 0))))))
 
 -- the rules of all heads: by rising spot, then by rising symbol
 abbrev pub spot_rules : Encoding → ℕ → List (Rule (Pair Terms Effort))

@@ -43,6 +43,15 @@ pub(crate) enum Way {
     Amid(u32, u32),
 }
 
+/// What becomes of a packet that takes a member.
+#[derive(Clone, Copy)]
+pub(crate) enum Fate {
+    /// It goes through.
+    Travels,
+    /// It is dropped, since an operation isn't defined.
+    Lost,
+}
+
 impl Way {
     /// The spot with this state.
     pub fn to(self, state: u32) -> Spot

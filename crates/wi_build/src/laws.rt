@@ -1,6 +1,6 @@
 //! `wi_rules` speaks of any automata and weights, and of no code. These laws say that a problem has such, that the rules made
 //! here are theirs, and so that goal runs answer the problem, whoever searches for them. Each runs no code.
-ghost use Rattle.std.specs.Prelude.{◌≡◌, ◌<◌, ◌^◌, ℕ, List, true, length, Contains};
+ghost use Rattle.std.specs.Prelude.{◌≡◌, ◌↔◌, ◌<◌, ◌^◌, ℕ, List, true, length, Contains};
 ghost use Rattle.wi_weight.specs.Weights.{EachBelow};
 ghost use Rattle.wi_weight.specs.declared.kinds.Pair.{Pair};
 ghost use Rattle.wi_weight.specs.declared.kinds.Terms.{Terms};
@@ -15,12 +15,14 @@ ghost use Rattle.wi_quantity.specs.Weighing.{components};
 ghost use Rattle.wi_pds.specs.Rules.{rules_at};
 ghost use Rattle.wi_pds.specs.Runs.{Pops, PopRun, run_weight};
 ghost use Rattle.wi_world.specs.declared.run.Run.{Run};
+ghost use Rattle.wi_world.specs.Holds.{NoTrace, NoneMoving};
+ghost use Rattle.wi_world.specs.Survival.{Survives, SurvivesMoving};
 ghost use Rattle.wi_rules.specs.declared.spot.Origin.{Origin};
 ghost use Rattle.wi_rules.specs.Rules.{IsEncoding};
 ghost use Rattle.wi_rules.specs.Goals.{origins_for};
 ghost use Rattle.wi_rules.specs.Numbers.{NumberedRule, AreRulesOf, IsSystemOf, origins_by, rules_at_number};
 ghost use Rattle.wi_build.specs.Tags.{origin_of};
-ghost use Rattle.wi_build.specs.Problems.{Problem, IsProblem, IsAnswering, problem_of};
+ghost use Rattle.wi_build.specs.Problems.{Problem, IsProblem, IsAnswering, asks, problem_of};
 ghost use Rattle.wi_build.specs.Encodings.{encoding_of};
 ghost use Rattle.wi_build.specs.Systems.{scale, rules, all_rules};
 
@@ -78,4 +80,11 @@ pub fn weights_fit()
 /// Two readings of the text of a query have the same rules, head by head.
 pub fn readings_have_the_same_rules()
     ensures { (net : Net) (text : List ℕ) (q r : Query) (vector : List (List Part)) → IsQuery net text q → IsQuery net text r → HasAutomata q → HasAutomata r → (p g : ℕ) → rules (problem_of net q vector) p g ≡ rules (problem_of net r vector) p g }
+{}
+
+/// Where dropped packets are asked for, a no says that each packet on the way goes on, and the other way round: under failures that
+/// stay, and at each moment of the moving world.
+pub fn a_no_of_loss_is_survival()
+    ensures traces { (problem : Problem) → IsProblem problem → problem.query.drops ≡ true → NoTrace problem.net (asks problem) ↔ Survives problem.net (asks problem) }
+    ensures moving { (problem : Problem) → IsProblem problem → problem.query.drops ≡ true → NoneMoving problem.net (asks problem) ↔ SurvivesMoving problem.net (asks problem) }
 {}

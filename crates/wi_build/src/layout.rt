@@ -1,10 +1,11 @@
 //! The number of a spot is computed from its parts, and they from it, so that no table of spots is needed: five counts are
-//! enough. Each member has seven numbers for each state of the path's automaton, whether it has so many operations or not.
+//! enough. Each member has seven numbers for each state of the path's automaton, and seven more where packets are dropped,
+//! whether it has so many operations or not.
 ghost use Rattle.std.specs.Prelude.{◌≡◌, ◌<◌, ◌^◌, List};
 ghost use Rattle.wi_net.specs.declared.bounds.Bounds.{Bounds};
 ghost use Rattle.wi_quantity.specs.declared.vector.Part.{Part};
 ghost use Rattle.wi_rules.specs.declared.spot.Spot.{Spot};
-ghost use Rattle.wi_rules.specs.Numbers.{layout_of, number, spot_of, building, closing, on_links, amid};
+ghost use Rattle.wi_rules.specs.Numbers.{layout_of, number, spot_of, building, closing, on_links, amid, dropping};
 ghost use Rattle.wi_build.specs.Encodings.{encoding_of};
 ghost use Rattle.wi_build.specs.Systems.{spot_count};
 ghost use Rattle.wi_build.specs.Tags.{origin_of};
@@ -17,8 +18,8 @@ use wi_quantity::Weight;
 use wi_query::Query;
 use wi_rules::{Origin, Spot};
 
-/// How many states the automata of the first header, of the last header and of the links have, and how many links and members
-/// there are: this numbers the spots.
+/// How many states the automata of the first header, of the last header and of the links have, how many links and members there
+/// are, and whether packets are dropped: this numbers the spots.
 #[derive(Drop)]
 pub struct Layout {
     first: u32,
@@ -26,6 +27,7 @@ pub struct Layout {
     path: u32,
     links: u32,
     members: u32,
+    drops: bool,
 }
 
 impl Model for Layout {
@@ -34,9 +36,9 @@ impl Model for Layout {
 
     ghost Value = { Layout };
 
-    ghost view = { λ y. record { first = y.first; last = y.last; path = y.path; links = y.links; members = y.members } };
+    ghost view = { λ y. record { first = y.first; last = y.last; path = y.path; links = y.links; members = y.members; drops = y.drops } };
 
-    ghost invariant = { λ y. IsSmall (record { first = y.first; last = y.last; path = y.path; links = y.links; members = y.members }) };
+    ghost invariant = { λ y. IsSmall (record { first = y.first; last = y.last; path = y.path; links = y.links; members = y.members; drops = y.drops }) };
 }
 
 impl Layout {
@@ -53,6 +55,7 @@ impl Layout {
             path: query.path.nfa().states() as u32,
             links: counts.links,
             members: counts.members,
+            drops: query.drops,
         }
     }
 
@@ -61,8 +64,9 @@ impl Layout {
         ensures { result ≡ spot_count self.now }
     {
         let path = u64::from(self.path);
-        let amid = u64::from(self.members) * 7 * path;
-        let travel = u64::from(self.links) * path + amid;
+        let rows = u64::from(self.members) * 7;
+        let lost = if self.drops { rows } else { 0 };
+        let travel = u64::from(self.links) * path + (rows * path + lost);
         u64::from(self.first) + (u64::from(self.last) + travel) + 2
     }
 
@@ -77,6 +81,7 @@ impl Layout {
             Spot::Close(state) => u64::from(self.first) + u64::from(state) + 2,
             Spot::OnLink(link, state) => self.number_on_link(link, state),
             Spot::Mid(member, done, state) => self.number_amid(member, done, state),
+            Spot::Drop(member, done) => self.number_dropping(member, done),
         }
     }
 
@@ -94,6 +99,15 @@ impl Layout {
         let row = u64::from(member) * 7 + u64::from(done.saturating_sub(1));
         let amid = u64::from(self.links) * path + (row * path + u64::from(state));
         u64::from(self.first) + (u64::from(self.last) + amid) + 2
+    }
+
+    fn number_dropping(&self, member: u32, done: u32) -> u64
+        ensures { result ≡ number self.now (Spot.Drop member done) }
+    {
+        let path = u64::from(self.path);
+        let row = u64::from(member) * 7 + u64::from(done.saturating_sub(1));
+        let travel = u64::from(self.links) * path + (u64::from(self.members) * 7 * path + row);
+        u64::from(self.first) + (u64::from(self.last) + travel) + 2
     }
 
     /// The spot of a number, if there is one. It takes no memory.
@@ -151,6 +165,16 @@ impl Layout {
         if n < size {
             let row = n / path;
             Some(Spot::Mid((row / 7) as u32, (row % 7) as u32 + 1, (n % path) as u32))
+        } else {
+            self.dropping(n - size)
+        }
+    }
+
+    fn dropping(&self, n: u64) -> Option<Spot>
+        ensures { result ≡ dropping self.now n }
+    {
+        if self.drops && n < u64::from(self.members) * 7 {
+            Some(Spot::Drop((n / 7) as u32, (n % 7) as u32 + 1))
         } else {
             None
         }

@@ -1,25 +1,23 @@
 //! A query may reach few of the states that there are, so the rules of a head are made when they are asked for, in one walk over
-//! what they are of, and aren't kept: whoever asks again has them made again. What must have failed is carried along from group
-//! to group, and the walk over a row ends where not all of it may be down.
+//! what they are of, and aren't kept: whoever asks again has them made again.
 ghost use Rattle.std.specs.List.{list_all, flat_map, range_with_len};
 ghost use Rattle.std.specs.Prelude.{◌≡◌, suc, ◌∷◌, [], ◌++◌, ◌<◌, length, map, OnOk, ◌^◌, Some, true, slice_get, take, IfSome, not, if◌then◌else◌};
 ghost use Rattle.wi_build.specs.Encodings.{encoding_of};
-ghost use Rattle.wi_build.specs.private.Hops.{IsArrival, AreNeeds, IsGroup, IsMember};
 ghost use Rattle.wi_build.specs.Problems.{IsProblem};
-ghost use Rattle.wi_build.specs.private.Rows.{rule_made, head_rules, spot_on, rules_for, group_rules};
+ghost use Rattle.wi_build.specs.private.Rows.{rule_made, head_rules, spot_on, rules_for};
 ghost use Rattle.wi_build.specs.Systems.{rules_by, weight};
 ghost use Rattle.wi_build.specs.private.Tags.{IsWithin};
 ghost use Rattle.wi_net.specs.LinkSet.{has};
-ghost use Rattle.wi_net.specs.Net.{links_where};
+ghost use Rattle.wi_net.specs.Net.{entry, links_where};
 ghost use Rattle.wi_net.specs.Network.{op_known};
 ghost use Rattle.wi_net.specs.Tables.{all_members, row_members};
 ghost use Rattle.wi_nfa.specs.Left.{states_left};
 ghost use Rattle.wi_pds.specs.declared.rule.Word2.{Word2};
 ghost use Rattle.wi_quantity.specs.Vectors.{is_vector};
-ghost use Rattle.wi_quantity.specs.Weighing.{hop_weight, is_way_out};
+ghost use Rattle.wi_quantity.specs.Weighing.{hop_weight, end_weight, is_way_out};
 ghost use Rattle.wi_query.specs.Sets.{holds};
 ghost use Rattle.wi_rules.specs.Numbers.{Fits, layout_of, spot_of};
-ghost use Rattle.wi_rules.specs.Rules.{may_build, written, first_written, plain, build_rules, set_out_rules, hop_rules, entry_rules, on_link_rules};
+ghost use Rattle.wi_rules.specs.Rules.{may_build, written, first_written, lost_by, plain, build_rules, set_out_rules};
 ghost use Rattle.wi_rules.specs.declared.spot.Spot.{Spot};
 
 use crate::head::{Arrival, Head, Made, Way, operation, plain};
@@ -36,10 +34,9 @@ use wi_labels::{Class, Label, Op};
 use wi_net::{Bounds, LinkId, Member, Network};
 use wi_nfa::States;
 use wi_pds::{Rule, System, Word2};
-use wi_quantity::{Weight, first_weight, hop_weight};
+use wi_quantity::{Weight, end_weight, first_weight, hop_weight};
 use wi_query::{Query, SymbolSet};
 use wi_rules::{Origin, Spot};
-use wi_world::Step;
 
 /// The rules of a problem, each head's made when they are asked for.
 #[derive(Drop)]
@@ -162,6 +159,13 @@ impl<'a> LazySystem<'a> {
         ensures { result.now ≡ self.now.query }
     {
         self.problem.query()
+    }
+
+    /// Whether packets are to be dropped.
+    pub(crate) fn drops(&self) -> bool
+        ensures { result ≡ (encoding_of self.now).drops }
+    {
+        self.query().drops
     }
 
     /// How many labels there are.
@@ -290,6 +294,33 @@ impl<'a> LazySystem<'a> {
         }
     }
 
+    /// Where an operation of the member of a number leads a packet that is dropped on the way through it, and what it writes: the
+    /// operation at a place, if it has one.
+    pub(crate) fn lost_by(
+        &self,
+        member: &Member,
+        number: u32,
+        place: u32,
+        top: Label,
+    ) -> Option<(Spot, Word2)>
+        requires top { top.0 < length self.now.net.classes }
+        requires ops { list_all (op_known self.now.net) member.now.ops ≡ true }
+        requires place { place < 8 }
+        ensures { result ≡ lost_by self.now.net member.now.ops number place top.0 }
+    {
+        self.network().keeps();
+        let op = operation(member, place)?;
+        let Some(word) = self.written(op, top) else {
+            return Some((Spot::Close(0), Word2::One(top.0 + 1)));
+        };
+        let next = place + 1;
+        if (next as usize) < member.ops.as_slice().len() {
+            Some((Spot::Drop(number, next), word))
+        } else {
+            None
+        }
+    }
+
     /// The member of a number.
     pub(crate) fn member(&self, number: u32) -> &'a Member
         requires { number < row_members self.now.net.rows }
@@ -316,6 +347,14 @@ impl<'a> LazySystem<'a> {
         ensures { result ≡ weight (take 5 (hop_weight self.now.net self.now.vector member.now failures) ++ 1 ∷ []) }
     {
         counted(hop_weight(self.problem.vector(), self.network(), member, failures))
+    }
+
+    /// The weight of an end, with effort 1, where so many risk groups must have failed for it.
+    pub(crate) fn end_weight(&self, failures: usize) -> Weight
+        requires { failures < 2 ^ 32 }
+        ensures { result ≡ weight (take 5 (end_weight self.now.vector failures) ++ 1 ∷ []) }
+    {
+        counted(end_weight(self.problem.vector(), failures))
     }
 }
 
@@ -468,147 +507,6 @@ impl<'a> LazySystem<'a> {
     }
 }
 
-// Rules of the packet's travel: what may happen on a link, and the further operations of a member.
-impl<'a> LazySystem<'a> {
-    /// On a link: the hops of the entry, and last, in an accepting state, to where the last header is read.
-    pub(crate) fn push_on_link(
-        &self,
-        alloc: Global,
-        rules: &mut Vec<Rule<Weight>>,
-        head: Head,
-        at: Arrival,
-    ) -> Result<(), NoMemory>
-        requires { IsArrival self.now at head.symbol }
-        ensures { OnOk result (rules.new.items ≡ rules.old.items ++ rules_for (encoding_of self.now) head (on_link_rules (encoding_of self.now) at.link at.state at.top.0)) }
-    {
-        self.push_entry(alloc, rules, head, at)?;
-        if self.path_accepts(at.state) {
-            self.push(rules, head, Spot::Close(0), plain(Word2::One(head.symbol)))?;
-        }
-        Ok(())
-    }
-
-    // The hops of an entry, group by group, as long as what must have failed may be down.
-    fn push_entry(
-        &self,
-        alloc: Global,
-        rules: &mut Vec<Rule<Weight>>,
-        head: Head,
-        at: Arrival,
-    ) -> Result<(), NoMemory>
-        requires { IsArrival self.now at head.symbol }
-        ensures { OnOk result (rules.new.items ≡ rules.old.items ++ rules_for (encoding_of self.now) head (entry_rules (encoding_of self.now) at.link at.state at.top)) }
-    {
-        self.keeps();
-        let net = self.network();
-        let bounds = self.limits();
-        let mut needs = Needs::none(alloc);
-        let mut first = net.first_member(at.link, at.top);
-        for (j, group) in net.entry(at.link, at.top).iter().enumerate() {
-            if !needs.may_be_down(bounds) {
-                return Ok(());
-            }
-            let members = group.as_slice();
-            self.push_group(rules, head, at, &needs, j as u32, first, members)?;
-            needs.add_members(net, bounds, members)?;
-            first += members.len() as u32;
-        }
-        Ok(())
-    }
-
-    // The hops of a group. Its first member has this number.
-    fn push_group(
-        &self,
-        rules: &mut Vec<Rule<Weight>>,
-        head: Head,
-        at: Arrival,
-        needs: &Needs,
-        group: u32,
-        first: u32,
-        members: &[Member],
-    ) -> Result<(), NoMemory>
-        requires at { IsArrival self.now at head.symbol }
-        requires needs { AreNeeds self.now at needs.now group }
-        requires group { IsGroup self.now at group first members.now }
-        ensures { OnOk result (rules.new.items ≡ rules.old.items ++ rules_for (encoding_of self.now) head (group_rules (encoding_of self.now) at.link at.state at.top group members.now)) }
-    {
-        self.keeps();
-        for (i, member) in members.iter().enumerate() {
-            let step = Step {
-                group,
-                member: i as u32,
-            };
-            self.push_hop(rules, head, at, needs, step, first + i as u32, member)?;
-        }
-        Ok(())
-    }
-
-    // The hops by a member of this number: one for each state that comes after by its link.
-    fn push_hop(
-        &self,
-        rules: &mut Vec<Rule<Weight>>,
-        head: Head,
-        at: Arrival,
-        needs: &Needs,
-        step: Step,
-        number: u32,
-        member: &Member,
-    ) -> Result<(), NoMemory>
-        requires at { IsArrival self.now at head.symbol }
-        requires needs { AreNeeds self.now at needs.now step.group }
-        requires member { IsMember self.now at step number member.now }
-        ensures { OnOk result (rules.new.items ≡ rules.old.items ++ rules_for (encoding_of self.now) head (hop_rules (encoding_of self.now) at.link at.state at.top step member.now)) }
-    {
-        self.keeps();
-        if !needs.may_be_up(self.network(), self.limits(), member.link) {
-            return Ok(());
-        }
-        let Some(word) = self.first_written(member.ops.as_slice(), at.top) else {
-            return Ok(());
-        };
-        let made = Made {
-            word,
-            weight: self.hop_weight(member, needs.risks.len()),
-            origin: Origin::Hop(step),
-        };
-        let states = self.path_after(at.state, member.link);
-        self.push_each(rules, head, states, Way::through(member, number, 1), made)
-    }
-
-    /// Amid the operations of the member of a number, so many of them done: the next one.
-    pub(crate) fn push_operation(
-        &self,
-        rules: &mut Vec<Rule<Weight>>,
-        head: Head,
-        number: u32,
-        done: u32,
-        state: u32,
-        top: Label,
-    ) -> Result<(), NoMemory>
-        requires symbol { head.symbol ≡ suc top.0 }
-        requires label { top.0 < length self.now.net.classes }
-        requires member { number < row_members self.now.net.rows }
-        requires done { (0 < done) × (done < 8) }
-        ensures { OnOk result (rules.new.items ≡ rules.old.items ++ head_rules self.now head (Spot.Mid number done state)) }
-    {
-        self.keeps();
-        let member = self.member(number);
-        let Some(op) = operation(member, done) else {
-            return Ok(());
-        };
-        let Some(word) = self.written(op, top) else {
-            return Ok(());
-        };
-        let made = Made {
-            word,
-            weight: effort(),
-            origin: Origin::Operation(number, done),
-        };
-        let to = Way::through(member, number, done + 1).to(state);
-        self.push(rules, head, to, made)
-    }
-}
-
 // The rules of a head.
 impl<'a> LazySystem<'a> {
     // Puts the rules of a head over the bottom at the end of a list.
@@ -655,6 +553,7 @@ impl<'a> LazySystem<'a> {
             Spot::Mid(member, done, state) => {
                 self.push_operation(rules, head, member, done, state, top)
             }
+            Spot::Drop(member, done) => self.push_dropping(rules, head, member, done, top),
         }
     }
 
@@ -662,7 +561,8 @@ impl<'a> LazySystem<'a> {
     ///
     /// What it costs: one walk over what these rules are of, with the states that come after or before: all labels where a
     /// header is made, all links where the packet sets out, and on a link the groups of its row, as far as what must have failed
-    /// may be down. What the groups before need is carried along.
+    /// may be down. What the groups before need is carried along. Where a packet may be dropped there, the row is gone over twice
+    /// more, once to its end, for what all its groups need.
     pub(crate) fn push_head(
         &self,
         alloc: Global,

@@ -3,6 +3,7 @@
 ghost use Rattle.std.specs.Prelude.{◌≡◌, true, length, IfOk};
 ghost use Rattle.wi_build.specs.Problems.{IsProblem, allowing, problem_of, within};
 ghost use Rattle.wi_quantity.specs.Vectors.{is_vector};
+ghost use Rattle.wi_query.specs.Meaning.{MayDropAny};
 ghost use Rattle.wi_world.specs.Moves.{AreBounds};
 
 use std::marker::Model;
@@ -38,7 +39,8 @@ impl<'a> Model for Problem<'a> {
 impl<'a> Problem<'a> {
     /// What a query asks of a network: what may fail is as the query says. Runs weigh what the vector says.
     pub fn of(net: &'a Network, query: &'a Query, vector: &'a Vector) -> Problem<'a>
-        requires { AreBounds net.now query.now.bounds }
+        requires bounds { AreBounds net.now query.now.bounds }
+        requires last { MayDropAny net.now query.now }
         ensures { result ≡ problem_of net.now query.now vector.now }
     {
         net.keeps();

@@ -7,7 +7,7 @@ ghost use Rattle.wi_build.specs.private.Tags.{IsWithin};
 use wi_labels::Label;
 use wi_net::LinkId;
 use wi_rules::Origin;
-use wi_world::Step;
+use wi_world::{End, Step};
 
 // How many numbers have room.
 const ROOM: u64 = 1 << 30;
@@ -32,6 +32,9 @@ pub(crate) fn tag_of(origin: Origin) -> u64
         Origin::SetOut(link) => tagged(2, link.0, 0),
         Origin::Hop(step) => tagged(3, step.group, step.member),
         Origin::Operation(number, done) => tagged(4, number, done),
+        Origin::Ending(End::Arrives) => tagged(5, 0, 0),
+        Origin::Ending(End::Inactive) => tagged(6, 0, 0),
+        Origin::Ending(End::Undefined(step)) => tagged(7, step.group, step.member),
     }
 }
 
@@ -41,14 +44,18 @@ pub(crate) fn origin_of(tag: u64) -> Origin
 {
     let first = (tag / 8 / ROOM) as u32;
     let second = (tag / 8 % ROOM) as u32;
+    let step = Step {
+        group: first,
+        member: second,
+    };
     match tag % 8 {
         1 => Origin::Pushed(Label(first)),
         2 => Origin::SetOut(LinkId(first)),
-        3 => Origin::Hop(Step {
-            group: first,
-            member: second,
-        }),
+        3 => Origin::Hop(step),
         4 => Origin::Operation(first, second),
+        5 => Origin::Ending(End::Arrives),
+        6 => Origin::Ending(End::Inactive),
+        7 => Origin::Ending(End::Undefined(step)),
         _ => Origin::Nothing,
     }
 }

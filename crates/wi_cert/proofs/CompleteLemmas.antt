@@ -14,24 +14,27 @@ use Rattle.wi_cert.specs.declared.certificate.Place.TheVariants as places
 use Rattle.wi_cert.specs.declared.row.Row.{Row}
 use Rattle.wi_cert.specs.declared.shown.Claim.{Claim}
 use Rattle.wi_cert.specs.declared.shown.Claim.TheVariants.{Yes, No, Inconclusive}
+use Rattle.wi_cert.specs.declared.shown.Dropped.{Dropped}
+use Rattle.wi_cert.specs.declared.shown.Dropped.TheVariants.{Nowhere, Inactive, Undefined}
 use Rattle.wi_cert.specs.declared.shown.Shown.{Shown}
 use Rattle.wi_cert.specs.declared.shown.ShownPlace.{ShownPlace}
-use Rattle.wi_cert.specs.declared.shown.ShownPlace.TheVariants.{Terms, Answer, Weight, First, StepCount, Step}
+use Rattle.wi_cert.specs.declared.shown.ShownPlace.TheVariants.{Terms, Answer, Weight, First, StepCount, Step, Dropped as DroppedAt}
 use Rattle.wi_cert.specs.declared.closed.Closed.{Closed}
 use Rattle.wi_cert.specs.declared.closed.ClosedPlace.{ClosedPlace}
 use Rattle.wi_cert.specs.declared.closed.ClosedPlace.TheVariants.{HeadCount, Head, PairCount, Pair, RowCount, Row as RowAt}
 use Rattle.wi_cert.specs.private.Ends.{is_free}
 use Rattle.wi_cert.specs.Numbers.{printed, spaced, numbers_in, one_number, numbers_after, count_after, count_line}
 use Rattle.wi_cert.specs.Order.{pair_below, row_below, is_next, EachAdded}
-use Rattle.wi_cert.specs.Shown.{is_no, answer_line, weight_line, first_line, pair_line, shown_lines, IsShown, HasShownRanges, step_of, claim_of, steps_left, blank_shown, asked_shown}
+use Rattle.wi_cert.specs.Shown.{is_no, answer_line, weight_line, first_line, pair_line, dropped_line, dropped_lines, certificate_front, title_line, shown_lines, MayBeDropped, IsShown, HasDroppedRanges, HasShownRanges, step_of, claim_of, steps_left, dropped_of, titled, blank_shown, asked_shown}
 use Rattle.wi_cert.specs.Closed.{row_line, closed_lines, IsRow, IsClosed, HasRowRanges, HasClosedRanges, head_of, pair_of, row_of, with_next, is_lighter, heads_after, pairs_after, rows_after, heads_left, pairs_left, rows_left, blank_closed, asked_closed}
 use Rattle.wi_cert.specs.Sheets.{sheet, blank, certificates}
 use Rattle.wi_cert.specs.Reading.{Form, filled}
 use Rattle.wi_cert.specs.Text.{lines_of, IsWritable, HasRanges}
-use Rattle.wi_cert.proofs.LineLemmas.{after_whole}
+use Rattle.wi_cert.proofs.Cases.{by_test, nothing}
+use Rattle.wi_cert.proofs.LineLemmas.{after_whole, titled_by}
 use Rattle.wi_cert.proofs.NumberLemmas.{numbers_printed}
 use Rattle.wi_cert.proofs.EndLemmas.{all_free, all_free-append, is_free-append}
-use Rattle.wi_cert.proofs.FormLemmas.{AnyStep, IsStep, IsNextPair, IsHeadRange, IsPairRange}
+use Rattle.wi_cert.proofs.FormLemmas.{AnyStep, IsStep, IsNextPair, IsHeadRange, IsPairRange, same_bytes}
 use Rattle.wi_cert.proofs.TellingLemmas.{filled_append}
 
 free_digit : (d : ℕ) → d < 10 → is_free ((48 + d) ∷ []) ≡ true
@@ -177,8 +180,46 @@ none_first : (no : Bool) (xs : List (ℕ × ℕ)) → (no ≡ true → xs ≡ []
 none_first true xs h = ap (λ ys. nat_lt 0 (length ys)) (h refl)
 none_first false xs h = refl
 
+-- before the line that says how the packet is dropped
+abbrev pub begun : Option Dropped → Option Dropped
+begun dropped = option_map (λ d. Nowhere) dropped
+
+abbrev pub begun_shown : Option Dropped → Shown
+begun_shown dropped = record blank_shown { dropped = begun dropped }
+
+pub title_reads : (front : List ℕ) (dropped : Option Dropped) → titled front (title_line front dropped) ≡ Some (begun dropped)
+title_reads front None = titled_by front (front ++ codes "1") (codes "1") (after_whole front (codes "1"))
+title_reads front (Some d) = titled_by front (front ++ codes "2") (codes "2") (after_whole front (codes "2"))
+
+pub free_title : (front : List ℕ) (dropped : Option Dropped) → is_free front ≡ true → is_free (title_line front dropped) ≡ true
+free_title front None h = is_free-append front (codes "1") h refl
+free_title front (Some d) h = is_free-append front (codes "2") h refl
+
+free_dropped : (d : Dropped) → HasDroppedRanges (Some d) → is_free (dropped_line d) ≡ true
+free_dropped Nowhere h = refl
+free_dropped Inactive h = refl
+free_dropped (Undefined j m) h =
+    let a : j < 2 ^ 32 = h.0 in
+    let b : m < 2 ^ 32 = h.1 in
+    is_free-append (codes "drop ") (printed (j ∷ m ∷ [])) refl (free_printed (j ∷ m ∷ []) (omega arith, (omega arith, tt)))
+
+-- numbers aren't the word
+not_inactive : (j m : ℕ) → j < 2 ^ 32 → m < 2 ^ 32 → bytes_eq (codes "drop " ++ printed (j ∷ m ∷ [])) (codes "drop inactive") ≡ false
+not_inactive j m a b = by_test (bytes_eq (printed (j ∷ m ∷ [])) (codes "inactive"))
+    (λ (e : bytes_eq (printed (j ∷ m ∷ [])) (codes "inactive") ≡ true).
+    nothing (j ∷ m ∷ []) (ap numbers_in (sym (same_bytes (printed (j ∷ m ∷ [])) (codes "inactive") e)) ∙ numbers_printed j (m ∷ []) (omega arith, (omega arith, tt))))
+    (λ (e : bytes_eq (printed (j ∷ m ∷ [])) (codes "inactive") ≡ false). e)
+
+undefined_reads : (j m : ℕ) → IsStep (j, m) → option_map (λ x. Undefined x.0 x.1) (option_and_then step_of (numbers_after (codes "drop ") (codes "drop " ++ printed (j ∷ m ∷ [])))) ≡ Some (Undefined j m)
+undefined_reads j m h = ap (option_map (λ (x : ℕ × ℕ). Undefined x.0 x.1)) (step_reads (j, m) h)
+
+dropped_reads : (claim : Claim) (d : Dropped) → MayBeDropped claim (Some d) → HasDroppedRanges (Some d) → dropped_of claim (dropped_line d) ≡ Some d
+dropped_reads claim Nowhere h r = rw h refl
+dropped_reads claim Inactive h r = rw h refl
+dropped_reads claim (Undefined j m) h r = rw (h.0, not_inactive j m r.0 r.1) (undefined_reads j m (h.1, h.2, r.0, r.1))
+
 abbrev with_steps : Shown → List (ℕ × ℕ) → Shown
-with_steps s xs = record s { steps = xs }
+with_steps s xs = record s { steps = xs; dropped = begun s.dropped }
 
 any_steps : (before xs : List (ℕ × ℕ)) → EachAdded AnyStep before xs
 any_steps before [] = tt
@@ -197,42 +238,50 @@ module _ {S C : Type 0} (form : Form S C) (at : Option ShownPlace → Shown → 
   all_steps : All IsStep s.steps
   all_steps = both_all (λ (x : ℕ × ℕ). (0 < x.0) × (0 < x.1)) (λ (x : ℕ × ℕ). (x.0 < 2 ^ 32) × (x.1 < 2 ^ 32)) IsStep (λ x p q. (p.0, p.1, q.0, q.1)) s.steps h.steps r.steps
 
-  step_list : Leads form (at (steps_left (length s.steps)) (with_steps s [])) (map pair_line s.steps) (at None s)
-  step_list = leads_items form at steps_left (λ n. Some (Step n)) (with_steps s) AnyStep IsStep pair_line
+  step_list : Leads form (at (steps_left (begun s.dropped) (length s.steps)) (with_steps s [])) (map pair_line s.steps) (at (steps_left (begun s.dropped) 0) (with_steps s s.steps))
+  step_list = leads_items form at (steps_left (begun s.dropped)) (λ n. Some (Step n)) (with_steps s) AnyStep IsStep pair_line
       (λ n. rw (one_more n) refl)
       (λ x i. let a : x.0 < 2 ^ 32 = i.2 in let b : x.1 < 2 ^ 32 = i.3 in free_pair x (omega arith) (omega arith))
-      (λ xs x n f i. takes (Step (n + 1)) (with_steps s xs) (with_steps s (xs ++ x ∷ [])) (pair_line x) (steps_left n) claim
-      (ap (λ o. option_map (λ (y : ℕ × ℕ). (steps_left (n + 1 - 1), with_steps s (xs ++ y ∷ []))) o) (step_reads x i)
-      ∙ ap (λ k. Some (steps_left k, with_steps s (xs ++ x ∷ []))) (back n)))
+      (λ xs x n f i. takes (Step (n + 1)) (with_steps s xs) (with_steps s (xs ++ x ∷ [])) (pair_line x) (steps_left (begun s.dropped) n) claim
+      (ap (λ o. option_map (λ (y : ℕ × ℕ). (steps_left (begun s.dropped) (n + 1 - 1), with_steps s (xs ++ y ∷ []))) o) (step_reads x i)
+      ∙ ap (λ k. Some (steps_left (begun s.dropped) k, with_steps s (xs ++ x ∷ []))) (back n)))
       [] s.steps (length s.steps) refl (any_steps [] s.steps) all_steps
 
-  pub shown_leads : Leads form (at (Some Terms) blank_shown) (shown_lines s) (at None s)
+  drop_list : (o : Option Dropped) → MayBeDropped s.claim o → HasDroppedRanges o → Leads form (at (steps_left (begun o) 0) (record s { dropped = begun o })) (dropped_lines o) (at None (record s { dropped = o }))
+  drop_list None may range = leads_none form (at None (record s { dropped = None }))
+  drop_list (Some d) may range =
+      leads_first form (at (Some DroppedAt) (record s { dropped = Some Nowhere })) (dropped_line d) (at None (record s { dropped = Some d })) (at None (record s { dropped = Some d })) [] (free_dropped d range)
+      (takes DroppedAt (record s { dropped = Some Nowhere }) (record s { dropped = Some d }) (dropped_line d) None claim
+      (ap (option_map (λ (e : Dropped). (None, record s { dropped = Some e }))) (dropped_reads s.claim d may range)))
+      (leads_none form (at None (record s { dropped = Some d })))
+
+  pub shown_leads : Leads form (at (Some Terms) (begun_shown s.dropped)) (shown_lines s) (at None s)
   shown_leads =
       let few : s.terms ≤ 5 = h.terms in
       let short : nat_le s.terms 5 ≡ true = grind (arith, nat_tests) in
       let terms_fit : s.terms < 2 ^ 64 = omega arith in
-      leads_first form (at (Some Terms) blank_shown) (count_line (codes "terms ") s.terms) (at (Some Answer) (record blank_shown { terms = s.terms })) _ _
+      leads_first form (at (Some Terms) (begun_shown s.dropped)) (count_line (codes "terms ") s.terms) (at (Some Answer) (record (begun_shown s.dropped) { terms = s.terms })) _ _
       (free_count (codes "terms ") s.terms refl terms_fit)
-      (takes Terms blank_shown (record blank_shown { terms = s.terms }) (count_line (codes "terms ") s.terms) (Some Answer) no
-      (ap (λ o. option_and_then (λ n. if nat_le n 5 then Some (Some Answer, record blank_shown { terms = n }) else None) o) (count_reads (codes "terms ") s.terms terms_fit) ∙ rw short refl))
-      (leads_first form (at (Some Answer) (record blank_shown { terms = s.terms })) (answer_line s.claim) (at (Some Weight) (record blank_shown { terms = s.terms; claim = s.claim })) _ _
+      (takes Terms (begun_shown s.dropped) (record (begun_shown s.dropped) { terms = s.terms }) (count_line (codes "terms ") s.terms) (Some Answer) no
+      (ap (λ o. option_and_then (λ n. if nat_le n 5 then Some (Some Answer, record (begun_shown s.dropped) { terms = n }) else None) o) (count_reads (codes "terms ") s.terms terms_fit) ∙ rw short refl))
+      (leads_first form (at (Some Answer) (record (begun_shown s.dropped) { terms = s.terms })) (answer_line s.claim) (at (Some Weight) (record (begun_shown s.dropped) { terms = s.terms; claim = s.claim })) _ _
       (free_answer s.claim)
-      (takes Answer (record blank_shown { terms = s.terms }) (record blank_shown { terms = s.terms; claim = s.claim }) (answer_line s.claim) (Some Weight) claim
-      (ap (λ o. option_map (λ w. (Some Weight, record blank_shown { terms = s.terms; claim = w })) o) (claim_reads s.claim)))
-      (leads_first form (at (Some Weight) (record blank_shown { terms = s.terms; claim = s.claim })) (weight_line s) (at (Some First) (record s { first = []; steps = [] })) _ _
+      (takes Answer (record (begun_shown s.dropped) { terms = s.terms }) (record (begun_shown s.dropped) { terms = s.terms; claim = s.claim }) (answer_line s.claim) (Some Weight) claim
+      (ap (λ o. option_map (λ w. (Some Weight, record (begun_shown s.dropped) { terms = s.terms; claim = w })) o) (claim_reads s.claim)))
+      (leads_first form (at (Some Weight) (record (begun_shown s.dropped) { terms = s.terms; claim = s.claim })) (weight_line s) (at (Some First) (record (with_steps s []) { first = [] })) _ _
       (free_weight (is_no s.claim) s.weight r.weight)
-      (takes Weight (record blank_shown { terms = s.terms; claim = s.claim }) (record s { first = []; steps = [] }) (weight_line s) (Some First) claim
-      (ap (λ o. option_map (λ w. (Some First, record blank_shown { terms = s.terms; claim = s.claim; weight = w })) o) (weight_reads (is_no s.claim) s.terms s.weight h.weight r.weight)))
-      (leads_first form (at (Some First) (record s { first = []; steps = [] })) (first_line s) (at (Some StepCount) (with_steps s [])) _ _
+      (takes Weight (record (begun_shown s.dropped) { terms = s.terms; claim = s.claim }) (record (with_steps s []) { first = [] }) (weight_line s) (Some First) claim
+      (ap (λ o. option_map (λ w. (Some First, record (begun_shown s.dropped) { terms = s.terms; claim = s.claim; weight = w })) o) (weight_reads (is_no s.claim) s.terms s.weight h.weight r.weight)))
+      (leads_first form (at (Some First) (record (with_steps s []) { first = [] })) (first_line s) (at (Some StepCount) (with_steps s [])) _ _
       (free_first (is_no s.claim) s.first r.first)
-      (takes First (record s { first = []; steps = [] }) (with_steps s []) (first_line s) (Some StepCount) claim
-      (ap (λ o. option_map (λ f. (Some StepCount, record s { first = f; steps = [] })) o) (first_reads (is_no s.claim) s.first h.first r.first)))
-      (leads_first form (at (Some StepCount) (with_steps s [])) (count_line (codes "steps ") (length s.steps)) (at (steps_left (length s.steps)) (with_steps s [])) _ _
+      (takes First (record (with_steps s []) { first = [] }) (with_steps s []) (first_line s) (Some StepCount) claim
+      (ap (λ o. option_map (λ f. (Some StepCount, record (with_steps s []) { first = f })) o) (first_reads (is_no s.claim) s.first h.first r.first)))
+      (leads_first form (at (Some StepCount) (with_steps s [])) (count_line (codes "steps ") (length s.steps)) (at (steps_left (begun s.dropped) (length s.steps)) (with_steps s [])) _ _
       (free_count (codes "steps ") (length s.steps) refl r.count)
-      (takes StepCount (with_steps s []) (with_steps s []) (count_line (codes "steps ") (length s.steps)) (steps_left (length s.steps)) claim
-      (ap (λ o. option_and_then (λ n. if is_no s.claim && nat_lt 0 n then None else Some (steps_left n, with_steps s [])) o) (count_reads (codes "steps ") (length s.steps) r.count)
+      (takes StepCount (with_steps s []) (with_steps s []) (count_line (codes "steps ") (length s.steps)) (steps_left (begun s.dropped) (length s.steps)) claim
+      (ap (λ o. option_and_then (λ n. if is_no s.claim && nat_lt 0 n then None else Some (steps_left (begun s.dropped) n, with_steps s [])) o) (count_reads (codes "steps ") (length s.steps) r.count)
       ∙ rw (none_first (is_no s.claim) s.steps h.no_steps) refl))
-      step_list))))
+      (leads_then form _ _ _ (map pair_line s.steps) (dropped_lines s.dropped) step_list (drop_list s.dropped h.dropped r.dropped))))))
 
 abbrev with_lists : List (ℕ × ℕ) → List (ℕ × ℕ) → List Row → Closed
 with_lists h p r = record { heads = h; pairs = p; rows = r }
@@ -289,7 +338,8 @@ module _ {S C : Type 0} (form : Form S C) (at : Option ClosedPlace → Closed �
 -- The lines of a certificate lead to it.
 pub all_lines : (c : Certificate) → IsWritable c → HasRanges c → Leads certificates blank (lines_of c) (sheet places.Done c)
 all_lines c w r =
-    leads_first certificates blank (codes "mpls-whatif-certificate 1") (sheet (places.Shown Terms) (record { shown = blank_shown; closed = blank_closed })) _ _ refl refl
+    leads_first certificates blank (title_line certificate_front c.shown.dropped) (sheet (places.Shown Terms) (record { shown = begun_shown c.shown.dropped; closed = blank_closed })) _ _ (free_title certificate_front c.shown.dropped refl)
+    (ap (option_map (λ (dropped : Option Dropped). sheet (places.Shown Terms) (record { shown = record blank_shown { dropped = dropped }; closed = blank_closed }))) (title_reads certificate_front c.shown.dropped))
     (leads_then certificates _ _ _ (shown_lines c.shown) _
     (shown_leads certificates (λ next s. sheet (option_map_or places.Shown next (places.Closed HeadCount)) (record { shown = s; closed = blank_closed })) (λ claim. Unit {0})
     (λ p x y line next ok e. ap (option_map (λ (s : Option ShownPlace × Shown). sheet (option_map_or places.Shown s.0 (places.Closed HeadCount)) (record { shown = s.1; closed = blank_closed }))) e)

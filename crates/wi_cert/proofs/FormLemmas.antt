@@ -1,5 +1,5 @@
 -- What a line of the form asked says.
-use Rattle.std.specs.Prelude.{◌≡◌, ℕ, ◌+◌, ◌^◌, ◌<◌, Bool, true, false, ◌&&◌, ◌==◌, if◌then◌else◌, List, [], ◌∷◌, ◌++◌, Some, None, length, refl, codes, nat_lt, option_and_then, MatchBool}
+use Rattle.std.specs.Prelude.{◌≡◌, ℕ, ◌+◌, ◌^◌, ◌<◌, Bool, true, false, ◌&&◌, ◌==◌, if◌then◌else◌, List, [], ◌∷◌, ◌++◌, Option, Some, None, length, refl, codes, nat_lt, option_and_then, option_map, MatchBool}
 use Rattle.std.specs.List.{list_all}
 use Rattle.std.specs.Str.{bytes_eq}
 use Rattle.std.specs.Fmt.{decimal}
@@ -11,12 +11,14 @@ use Rattle.wi_weight.specs.Weights.{EachBelow}
 use Rattle.wi_cert.specs.declared.row.Row.{Row}
 use Rattle.wi_cert.specs.declared.shown.Claim.{Claim}
 use Rattle.wi_cert.specs.declared.shown.Claim.TheVariants.{Yes, No, Inconclusive}
+use Rattle.wi_cert.specs.declared.shown.Dropped.{Dropped}
+use Rattle.wi_cert.specs.declared.shown.Dropped.TheVariants.{Nowhere, Inactive, Undefined}
 use Rattle.wi_cert.specs.declared.shown.Shown.{Shown}
 use Rattle.wi_cert.specs.Numbers.{numbers_in, after, printed, one_number, numbers_after, count_after, count_line}
 use Rattle.wi_cert.specs.Order.{is_next, pair_below, row_below}
-use Rattle.wi_cert.specs.Shown.{answer_line, pair_line, step_of, claim_of}
+use Rattle.wi_cert.specs.Shown.{is_no, answer_line, pair_line, dropped_line, title_line, MayBeDropped, HasDroppedRanges, step_of, claim_of, dropped_of, titled}
 use Rattle.wi_cert.specs.Closed.{row_line, head_of, pair_of, row_of, is_lighter, heads_after, pairs_after, rows_after, IsRow, HasRowRanges}
-use Rattle.wi_cert.proofs.Cases.{by_test, both, nothing, some_same, bind_some, if_some}
+use Rattle.wi_cert.proofs.Cases.{by_test, both, nothing, some_same, bind_some, map_some, if_some}
 use Rattle.wi_cert.proofs.LineLemmas.{after_some}
 use Rattle.wi_cert.proofs.NumberLemmas.{numbers_spell}
 use Rattle.wi_cert.proofs.MarkLemmas.{next_is}
@@ -193,3 +195,32 @@ pub first_is : (no : Bool) (line f : List ℕ)
     → (line ≡ (if no then codes "first none" else codes "first " ++ printed f)) × MatchBool no (f ≡ []) (1 < length f) × EachBelow (2 ^ 32) f
 first_is true line f h = let r = if_some (bytes_eq line (codes "first none")) [] f h in (same_bytes line (codes "first none") r.0, sym r.1, subst (EachBelow (2 ^ 32)) r.1 tt)
 first_is false line f h = first_some line f h
+
+-- the first line
+pub title_is : (front line : List ℕ) (dropped : Option Dropped) → titled front line ≡ Some dropped → line ≡ title_line front dropped
+title_is front line dropped h = by_test (bytes_eq line (front ++ codes "1"))
+    (λ (e : bytes_eq line (front ++ codes "1") ≡ true). same_bytes line (front ++ codes "1") e ∙ ap (title_line front) (some_same None dropped (rw e at h)))
+    (λ (e : bytes_eq line (front ++ codes "1") ≡ false). by_test (bytes_eq line (front ++ codes "2"))
+    (λ (k : bytes_eq line (front ++ codes "2") ≡ true). same_bytes line (front ++ codes "2") k ∙ ap (title_line front) (some_same (Some Nowhere) dropped (rw (e, k) at h)))
+    (λ (k : bytes_eq line (front ++ codes "2") ≡ false). nothing dropped (rw (e, k) at h)))
+
+-- the line that says how the packet is dropped
+abbrev pub SaysDropped : Claim → List ℕ → Dropped → Type 0
+SaysDropped claim line d = (line ≡ dropped_line d) × MayBeDropped claim (Some d) × HasDroppedRanges (Some d)
+
+undefined_is : (claim : Claim) (line : List ℕ) (d : Dropped) → is_no claim ≡ false → option_map (λ x. Undefined x.0 x.1) (option_and_then step_of (numbers_after (codes "drop ") line)) ≡ Some d → SaysDropped claim line d
+undefined_is claim line d answers h =
+    let r = map_some (λ (x : ℕ × ℕ). Undefined x.0 x.1) (option_and_then step_of (numbers_after (codes "drop ") line)) d h in
+    let n = bind_some step_of (numbers_after (codes "drop ") line) r.0 r.1 in
+    let s = after_spells (codes "drop ") line n.0 n.1 in
+    let i = step_is n.0 r.0 n.2 in
+    subst (SaysDropped claim line) r.2 (s.0 ∙ ap (λ ns. codes "drop " ++ printed ns) i.0, (answers, i.1.0, i.1.1), (i.1.2, i.1.3))
+
+pub dropped_is : (claim : Claim) (line : List ℕ) (d : Dropped) → dropped_of claim line ≡ Some d → SaysDropped claim line d
+dropped_is claim line d h = by_test (is_no claim)
+    (λ (no : is_no claim ≡ true).
+    let r = if_some (bytes_eq line (codes "drop none")) Nowhere d (rw no at h) in
+    subst (SaysDropped claim line) r.1 (same_bytes line (codes "drop none") r.0, no, tt))
+    (λ (answers : is_no claim ≡ false). by_test (bytes_eq line (codes "drop inactive"))
+    (λ (e : bytes_eq line (codes "drop inactive") ≡ true). subst (SaysDropped claim line) (some_same Inactive d (rw (answers, e) at h)) (same_bytes line (codes "drop inactive") e, answers, tt))
+    (λ (e : bytes_eq line (codes "drop inactive") ≡ false). undefined_is claim line d answers (rw (answers, e) at h)))

@@ -9,19 +9,20 @@ use Rattle.wi_cert.specs.declared.certificate.Place.{Place}
 use Rattle.wi_cert.specs.declared.certificate.Place.TheVariants as places
 use Rattle.wi_cert.specs.declared.draft.Mark.{Mark}
 use Rattle.wi_cert.specs.declared.row.Row.{Row}
+use Rattle.wi_cert.specs.declared.shown.Dropped.{Dropped}
 use Rattle.wi_cert.specs.declared.shown.Shown.{Shown}
 use Rattle.wi_cert.specs.declared.shown.ShownPlace.{ShownPlace}
-use Rattle.wi_cert.specs.declared.shown.ShownPlace.TheVariants.{Terms, Answer, Weight, First, StepCount, Step}
+use Rattle.wi_cert.specs.declared.shown.ShownPlace.TheVariants.{Terms, Answer, Weight, First, StepCount, Step, Dropped as DroppedAt}
 use Rattle.wi_cert.specs.declared.closed.Closed.{Closed}
 use Rattle.wi_cert.specs.declared.closed.ClosedPlace.{ClosedPlace}
 use Rattle.wi_cert.specs.declared.closed.ClosedPlace.TheVariants as closed_places
 use Rattle.wi_cert.specs.Numbers.{numbers_in, count_after}
 use Rattle.wi_cert.specs.Order.{pair_below, row_below, is_next}
-use Rattle.wi_cert.specs.Shown.{is_no, asked_shown, steps_left, step_of, claim_of, weight_of, first_of}
+use Rattle.wi_cert.specs.Shown.{is_no, certificate_front, titled, asked_shown, steps_left, step_of, claim_of, weight_of, first_of, dropped_of}
 use Rattle.wi_cert.specs.Closed.{asked_closed, heads_left, pairs_left, rows_left, heads_after, pairs_after, rows_after, head_of, pair_of, row_of, with_next, is_lighter}
 use Rattle.wi_cert.specs.Sheets.{Sheet, sheet, asked}
 use Rattle.wi_cert.specs.Reading.{Fed}
-use Rattle.wi_cert.specs.private.Marks.{shown_rank, closed_rank, rank, line_count, fed_so_far, mark_of, back, IsFront, FollowsShown, FollowsClosed, Follows, IsUnreadShown, IsUnread}
+use Rattle.wi_cert.specs.private.Marks.{shown_rank, closed_rank, dropped_count, rank, line_count, fed_so_far, mark_of, back, IsFront, FollowsShown, FollowsClosed, Follows, IsUnreadShown, IsUnread}
 use Rattle.wi_cert.proofs.Cases.{by_test, bind_some, map_some, if_some, unless_some, nothing}
 
 pub front_same : {A : Type 0} (xs : List A) → IsFront xs xs
@@ -59,7 +60,7 @@ follows_trans s t u a b = record {
 
 abbrev with_lists : Sheet → List ℕ → List ℕ → List (ℕ × ℕ) → List (ℕ × ℕ) → List (ℕ × ℕ) → List Row → Sheet
 with_lists s w f x h p r = sheet s.place (record {
-  shown = record { terms = s.certificate.shown.terms; claim = s.certificate.shown.claim; weight = w; first = f; steps = x };
+  shown = record { terms = s.certificate.shown.terms; claim = s.certificate.shown.claim; weight = w; first = f; steps = x; dropped = s.certificate.shown.dropped };
   closed = record { heads = h; pairs = p; rows = r };
 })
 
@@ -80,13 +81,15 @@ after_closed next = option_map_or places.Closed next places.End
 pub record ShownGoes (p : ShownPlace) (s : Shown) (x : Option ShownPlace × Shown) : Type 0 where
   pub unread : IsUnreadShown p s → IsUnread (after_shown x.0) x.1
   pub follows : IsUnreadShown p s → FollowsShown s x.1
-  pub count : rank (after_shown x.0) + length x.1.steps ≡ shown_rank p + length s.steps + 1
+  pub count : rank (after_shown x.0) x.1.dropped + length x.1.steps ≡ shown_rank p + length s.steps + 1
 
-steps_rank : (n : ℕ) → rank (after_shown (steps_left n)) ≡ 6
-steps_rank n = by_test (n == 0) (λ (e : (n == 0) ≡ true). rw e refl) (λ (e : (n == 0) ≡ false). rw e refl)
+steps_rank : (dropped : Option Dropped) (n : ℕ) → rank (after_shown (steps_left dropped n)) dropped ≡ 6
+steps_rank None n = by_test (n == 0) (λ (e : (n == 0) ≡ true). rw e refl) (λ (e : (n == 0) ≡ false). rw e refl)
+steps_rank (Some d) n = by_test (n == 0) (λ (e : (n == 0) ≡ true). rw e refl) (λ (e : (n == 0) ≡ false). rw e refl)
 
-steps_unread : (n : ℕ) (s : Shown) → IsUnread (after_shown (steps_left n)) s
-steps_unread n s = by_test (n == 0) (λ (e : (n == 0) ≡ true). rw e tt) (λ (e : (n == 0) ≡ false). rw e tt)
+steps_unread : (dropped : Option Dropped) (n : ℕ) (s : Shown) → IsUnread (after_shown (steps_left dropped n)) s
+steps_unread None n s = by_test (n == 0) (λ (e : (n == 0) ≡ true). rw e tt) (λ (e : (n == 0) ≡ false). rw e tt)
+steps_unread (Some d) n s = by_test (n == 0) (λ (e : (n == 0) ≡ true). rw e tt) (λ (e : (n == 0) ≡ false). rw e tt)
 
 pub shown_goes : (p : ShownPlace) (s : Shown) (line : List ℕ) (x : Option ShownPlace × Shown) → asked_shown p s line ≡ Some x → ShownGoes p s x
 shown_goes Terms s line x h =
@@ -103,29 +106,32 @@ shown_goes First s line x h =
     let r = map_some (λ ns. (Some StepCount, record s { first = ns })) (first_of s.claim line) x h in
     subst (ShownGoes First s) r.2 (record { unread = λ u. tt; follows = λ u. record { weight = front_same s.weight; first = front_none r.0 u; steps = front_same s.steps }; count = omega arith })
 shown_goes StepCount s line x h =
-    let r = bind_some (λ n. if is_no s.claim && nat_lt 0 n then None else Some (steps_left n, s)) (count_after (codes "steps ") line) x h in
-    let k = unless_some (is_no s.claim && nat_lt 0 r.0) (steps_left r.0, s) x r.2 in
-    subst (ShownGoes StepCount s) k.1 (record { unread = λ u. steps_unread r.0 s; follows = λ u. shown_same s; count = omega (arith, steps_rank r.0) })
+    let r = bind_some (λ n. if is_no s.claim && nat_lt 0 n then None else Some (steps_left s.dropped n, s)) (count_after (codes "steps ") line) x h in
+    let k = unless_some (is_no s.claim && nat_lt 0 r.0) (steps_left s.dropped r.0, s) x r.2 in
+    subst (ShownGoes StepCount s) k.1 (record { unread = λ u. steps_unread s.dropped r.0 s; follows = λ u. shown_same s; count = omega (arith, steps_rank s.dropped r.0) })
 shown_goes (Step n) s line x h =
-    let r = map_some (λ y. (steps_left (n - 1), record s { steps = s.steps ++ y ∷ [] })) (option_and_then step_of (numbers_in line)) x h in
+    let r = map_some (λ y. (steps_left s.dropped (n - 1), record s { steps = s.steps ++ y ∷ [] })) (option_and_then step_of (numbers_in line)) x h in
     subst (ShownGoes (Step n) s) r.2 (record {
-      unread = λ u. steps_unread (n - 1) (record s { steps = s.steps ++ r.0 ∷ [] });
+      unread = λ u. steps_unread s.dropped (n - 1) (record s { steps = s.steps ++ r.0 ∷ [] });
       follows = λ u. record { weight = front_same s.weight; first = front_same s.first; steps = front_more s.steps (r.0 ∷ []) };
-      count = omega (arith, steps_rank (n - 1), length-append s.steps (r.0 ∷ []));
+      count = omega (arith, steps_rank s.dropped (n - 1), length-append s.steps (r.0 ∷ []));
     })
+shown_goes DroppedAt s line x h =
+    let r = map_some (λ d. (None, record s { dropped = Some d })) (dropped_of s.claim line) x h in
+    subst (ShownGoes DroppedAt s) r.2 (record { unread = λ u. tt; follows = λ u. record { weight = front_same s.weight; first = front_same s.first; steps = front_same s.steps }; count = omega arith })
 
 pub record ClosedGoes (p : ClosedPlace) (c : Closed) (x : Option ClosedPlace × Closed) : Type 0 where
   pub follows : FollowsClosed c x.1
-  pub count : rank (after_closed x.0) + length x.1.heads + length x.1.pairs + length x.1.rows ≡ closed_rank p + length c.heads + length c.pairs + length c.rows + 1
+  pub count : (dropped : Option Dropped) → rank (after_closed x.0) dropped + length x.1.heads + length x.1.pairs + length x.1.rows ≡ closed_rank p + dropped_count dropped + length c.heads + length c.pairs + length c.rows + 1
 
-heads_rank : (n : ℕ) → rank (after_closed (Some (heads_left n))) ≡ 7
-heads_rank n = by_test (n == 0) (λ (e : (n == 0) ≡ true). rw e refl) (λ (e : (n == 0) ≡ false). rw e refl)
+heads_rank : (n : ℕ) (dropped : Option Dropped) → rank (after_closed (Some (heads_left n))) dropped ≡ 7 + dropped_count dropped
+heads_rank n dropped = by_test (n == 0) (λ (e : (n == 0) ≡ true). rw e refl) (λ (e : (n == 0) ≡ false). rw e refl)
 
-pairs_rank : (n : ℕ) → rank (after_closed (Some (pairs_left n))) ≡ 8
-pairs_rank n = by_test (n == 0) (λ (e : (n == 0) ≡ true). rw e refl) (λ (e : (n == 0) ≡ false). rw e refl)
+pairs_rank : (n : ℕ) (dropped : Option Dropped) → rank (after_closed (Some (pairs_left n))) dropped ≡ 8 + dropped_count dropped
+pairs_rank n dropped = by_test (n == 0) (λ (e : (n == 0) ≡ true). rw e refl) (λ (e : (n == 0) ≡ false). rw e refl)
 
-rows_rank : (n : ℕ) → rank (after_closed (rows_left n)) ≡ 9
-rows_rank n = by_test (n == 0) (λ (e : (n == 0) ≡ true). rw e refl) (λ (e : (n == 0) ≡ false). rw e refl)
+rows_rank : (n : ℕ) (dropped : Option Dropped) → rank (after_closed (rows_left n)) dropped ≡ 9 + dropped_count dropped
+rows_rank n dropped = by_test (n == 0) (λ (e : (n == 0) ≡ true). rw e refl) (λ (e : (n == 0) ≡ false). rw e refl)
 
 -- one more item, which may follow
 pub next_is : {A : Type 0} (may_follow : List A → A → Bool) (xs : List A) (o : Option A) (ys : List A) → with_next may_follow xs o ≡ Some ys → (x : A) × (o ≡ Some x) × (may_follow xs x ≡ true) × (xs ++ x ∷ [] ≡ ys)
@@ -135,28 +141,28 @@ next_is may_follow xs (Some x) ys h = let r = if_some (may_follow xs x) (xs ++ x
 pub closed_goes : (s : Shown) (p : ClosedPlace) (c : Closed) (line : List ℕ) (x : Option ClosedPlace × Closed) → asked_closed s p c line ≡ Some x → ClosedGoes p c x
 closed_goes s closed_places.HeadCount c line x h =
     let r = map_some (λ n. (Some (heads_left n), c)) (count_after (codes "heads ") line) x h in
-    subst (ClosedGoes closed_places.HeadCount c) r.2 (record { follows = closed_same c; count = omega (arith, heads_rank r.0) })
+    subst (ClosedGoes closed_places.HeadCount c) r.2 (record { follows = closed_same c; count = λ dropped. omega (arith, heads_rank r.0 dropped) })
 closed_goes s (closed_places.Head n) c line x h =
     let r = map_some (λ xs. (Some (heads_left (n - 1)), record c { heads = xs })) (heads_after c.heads line) x h in
     let k = next_is (is_next pair_below) c.heads (option_and_then head_of (numbers_in line)) r.0 r.1 in
     let e : length r.0 ≡ length c.heads + 1 = ap length (sym k.3) ∙ length-append c.heads (k.0 ∷ []) in
-    subst (ClosedGoes (closed_places.Head n) c) r.2 (record { follows = record { heads = record { rest = k.0 ∷ []; is = sym k.3 }; pairs = front_same c.pairs; rows = front_same c.rows }; count = omega (arith, heads_rank (n - 1), e) })
+    subst (ClosedGoes (closed_places.Head n) c) r.2 (record { follows = record { heads = record { rest = k.0 ∷ []; is = sym k.3 }; pairs = front_same c.pairs; rows = front_same c.rows }; count = λ dropped. omega (arith, heads_rank (n - 1) dropped, e) })
 closed_goes s closed_places.PairCount c line x h =
     let r = map_some (λ n. (Some (pairs_left n), c)) (count_after (codes "pairs ") line) x h in
-    subst (ClosedGoes closed_places.PairCount c) r.2 (record { follows = closed_same c; count = omega (arith, pairs_rank r.0) })
+    subst (ClosedGoes closed_places.PairCount c) r.2 (record { follows = closed_same c; count = λ dropped. omega (arith, pairs_rank r.0 dropped) })
 closed_goes s (closed_places.Pair n) c line x h =
     let r = map_some (λ xs. (Some (pairs_left (n - 1)), record c { pairs = xs })) (pairs_after c.pairs line) x h in
     let k = next_is (is_next pair_below) c.pairs (option_and_then pair_of (numbers_in line)) r.0 r.1 in
     let e : length r.0 ≡ length c.pairs + 1 = ap length (sym k.3) ∙ length-append c.pairs (k.0 ∷ []) in
-    subst (ClosedGoes (closed_places.Pair n) c) r.2 (record { follows = record { heads = front_same c.heads; pairs = record { rest = k.0 ∷ []; is = sym k.3 }; rows = front_same c.rows }; count = omega (arith, pairs_rank (n - 1), e) })
+    subst (ClosedGoes (closed_places.Pair n) c) r.2 (record { follows = record { heads = front_same c.heads; pairs = record { rest = k.0 ∷ []; is = sym k.3 }; rows = front_same c.rows }; count = λ dropped. omega (arith, pairs_rank (n - 1) dropped, e) })
 closed_goes s closed_places.RowCount c line x h =
     let r = map_some (λ n. (rows_left n, c)) (count_after (codes "rows ") line) x h in
-    subst (ClosedGoes closed_places.RowCount c) r.2 (record { follows = closed_same c; count = omega (arith, rows_rank r.0) })
+    subst (ClosedGoes closed_places.RowCount c) r.2 (record { follows = closed_same c; count = λ dropped. omega (arith, rows_rank r.0 dropped) })
 closed_goes s (closed_places.Row n) c line x h =
     let r = map_some (λ xs. (rows_left (n - 1), record c { rows = xs })) (rows_after s c.rows line) x h in
     let k = next_is (λ before x. is_next row_below before x && is_lighter s x) c.rows (option_and_then (λ ns. row_of s.terms ns) (numbers_in line)) r.0 r.1 in
     let e : length r.0 ≡ length c.rows + 1 = ap length (sym k.3) ∙ length-append c.rows (k.0 ∷ []) in
-    subst (ClosedGoes (closed_places.Row n) c) r.2 (record { follows = record { heads = front_same c.heads; pairs = front_same c.pairs; rows = record { rest = k.0 ∷ []; is = sym k.3 } }; count = omega (arith, rows_rank (n - 1), e) })
+    subst (ClosedGoes (closed_places.Row n) c) r.2 (record { follows = record { heads = front_same c.heads; pairs = front_same c.pairs; rows = record { rest = k.0 ∷ []; is = sym k.3 } }; count = λ dropped. omega (arith, rows_rank (n - 1) dropped, e) })
 
 -- what a line that is taken leaves
 pub record Goes (p : Place) (c : Certificate) (t : Sheet) : Type 0 where
@@ -170,8 +176,8 @@ closed_unread (Some p) s = tt
 
 pub goes : (p : Place) (c : Certificate) (line : List ℕ) (t : Sheet) → asked p c line ≡ Some t → Goes p c t
 goes places.Title c line t h =
-    let r = if_some (bytes_eq line (codes "mpls-whatif-certificate 1")) (sheet (places.Shown Terms) c) t h in
-    subst (Goes places.Title c) r.1 (record { unread = λ u. u; follows = λ u. record { shown = shown_same c.shown; closed = closed_same c.closed }; count = omega arith })
+    let r = map_some (λ dropped. sheet (places.Shown Terms) (record c { shown = record c.shown { dropped = dropped } })) (titled certificate_front line) t h in
+    subst (Goes places.Title c) r.2 (record { unread = λ u. u; follows = λ u. record { shown = record { weight = front_same c.shown.weight; first = front_same c.shown.first; steps = front_same c.shown.steps }; closed = closed_same c.closed }; count = omega arith })
 goes (places.Shown p) c line t h =
     let r = map_some (λ s. sheet (option_map_or places.Shown s.0 (places.Closed closed_places.HeadCount)) (record c { shown = s.1 })) (asked_shown p c.shown line) t h in
     let g = shown_goes p c.shown line r.0 r.1 in
@@ -179,7 +185,7 @@ goes (places.Shown p) c line t h =
 goes (places.Closed p) c line t h =
     let r = map_some (λ s. sheet (option_map_or places.Closed s.0 places.End) (record c { closed = s.1 })) (asked_closed c.shown p c.closed line) t h in
     let g = closed_goes c.shown p c.closed line r.0 r.1 in
-    subst (Goes (places.Closed p) c) r.2 (record { unread = λ u. closed_unread r.0.0 c.shown; follows = λ u. record { shown = shown_same c.shown; closed = g.follows }; count = omega (arith, g.count) })
+    subst (Goes (places.Closed p) c) r.2 (record { unread = λ u. closed_unread r.0.0 c.shown; follows = λ u. record { shown = shown_same c.shown; closed = g.follows }; count = omega (arith, g.count c.shown.dropped) })
 goes places.End c line t h =
     let r = if_some (bytes_eq line (codes "end")) (sheet places.Done c) t h in
     subst (Goes places.End c) r.1 (record { unread = λ u. u; follows = λ u. record { shown = shown_same c.shown; closed = closed_same c.closed }; count = omega arith })

@@ -13,19 +13,19 @@ use Rattle.wi_cert.specs.declared.shown.ShownPlace.TheVariants.{Terms}
 use Rattle.wi_cert.specs.declared.closed.Closed.{Closed}
 use Rattle.wi_cert.specs.declared.closed.ClosedPlace.{ClosedPlace}
 use Rattle.wi_cert.specs.declared.closed.ClosedPlace.TheVariants.{HeadCount}
-use Rattle.wi_cert.specs.Shown.{shown_lines, asked_shown}
+use Rattle.wi_cert.specs.Shown.{certificate_front, title_line, shown_lines, titled, asked_shown}
 use Rattle.wi_cert.specs.Closed.{closed_lines, asked_closed}
 use Rattle.wi_cert.specs.Sheets.{Sheet, sheet, blank, asked, is_done, certificates}
 use Rattle.wi_cert.specs.Reading.{decoded, filled}
 use Rattle.wi_cert.specs.Text.{ended, lines_of, IsText}
 use Rattle.wi_cert.proofs.Cases.{nothing, some_same, bind_some, map_some, if_some}
-use Rattle.wi_cert.proofs.FormLemmas.{same_bytes}
+use Rattle.wi_cert.proofs.FormLemmas.{same_bytes, title_is}
 use Rattle.wi_cert.proofs.ShownLemmas.{written_shown, IsGoodShown, IsWholeShown, StandsShown, shown_step}
 use Rattle.wi_cert.proofs.ClosedLemmas.{written_closed, IsGoodClosed, IsWholeClosed, StandsClosed, closed_step}
 use Rattle.wi_cert.proofs.TellingLemmas.{whole_lines}
 
-abbrev title : List ℕ
-title = codes "mpls-whatif-certificate 1"
+abbrev title : Shown → List ℕ
+title s = title_line certificate_front s.dropped
 
 abbrev IsEmpty : Closed → Type 0
 IsEmpty c = (c.heads ≡ []) × (c.pairs ≡ []) × (c.rows ≡ [])
@@ -33,38 +33,38 @@ IsEmpty c = (c.heads ≡ []) × (c.pairs ≡ []) × (c.rows ≡ [])
 -- the lines so far, and what they say
 abbrev Stands : List (List ℕ) → Place → Certificate → Type 0
 Stands lines places.Title c = (lines ≡ []) × (c.shown.steps ≡ []) × IsEmpty c.closed
-Stands lines (places.Shown p) c = (lines ≡ title ∷ written_shown p c.shown) × IsGoodShown p c.shown × IsEmpty c.closed
-Stands lines (places.Closed p) c = (lines ≡ title ∷ (shown_lines c.shown ++ written_closed p c.closed)) × IsWholeShown c.shown × IsGoodClosed c.shown p c.closed
-Stands lines places.End c = (lines ≡ title ∷ (shown_lines c.shown ++ closed_lines c.closed)) × IsWholeShown c.shown × IsWholeClosed c.shown c.closed
+Stands lines (places.Shown p) c = (lines ≡ written_shown certificate_front p c.shown) × IsGoodShown p c.shown × IsEmpty c.closed
+Stands lines (places.Closed p) c = (lines ≡ title c.shown ∷ (shown_lines c.shown ++ written_closed p c.closed)) × IsWholeShown c.shown × IsGoodClosed c.shown p c.closed
+Stands lines places.End c = (lines ≡ title c.shown ∷ (shown_lines c.shown ++ closed_lines c.closed)) × IsWholeShown c.shown × IsWholeClosed c.shown c.closed
 Stands lines places.Done c = (lines ≡ lines_of c) × IsWholeShown c.shown × IsWholeClosed c.shown c.closed
 
 abbrev StandsAt : List (List ℕ) → Sheet → Type 0
 StandsAt lines s = Stands lines s.place s.certificate
 
-after_shown : (lines before : List (List ℕ)) (line : List ℕ) (next : Option ShownPlace) (s : Shown) (c : Closed) → lines ≡ title ∷ before → IsEmpty c → StandsShown (before ++ line ∷ []) s next
+after_shown : (lines before : List (List ℕ)) (line : List ℕ) (next : Option ShownPlace) (s : Shown) (c : Closed) → lines ≡ before → IsEmpty c → StandsShown certificate_front (before ++ line ∷ []) s next
     → Stands (lines ++ line ∷ []) (option_map_or places.Shown next (places.Closed HeadCount)) (record { shown = s; closed = c })
-after_shown lines before line (Some p) s c e none h = (ap (λ x. x ++ line ∷ []) e ∙ ap (λ x. title ∷ x) h.0, h.1, none)
-after_shown lines before line None s c e none h = (ap (λ x. x ++ line ∷ []) e ∙ ap (λ x. title ∷ x) (h.0 ∙ sym (append-nil (shown_lines s))), h.1, none)
+after_shown lines before line (Some p) s c e none h = (ap (λ x. x ++ line ∷ []) e ∙ h.0, h.1, none)
+after_shown lines before line None s c e none h = (ap (λ x. x ++ line ∷ []) e ∙ h.0 ∙ ap (λ x. title s ∷ x) (sym (append-nil (shown_lines s))), h.1, none)
 
-after_closed : (lines before : List (List ℕ)) (line : List ℕ) (next : Option ClosedPlace) (s : Shown) (c : Closed) → lines ≡ title ∷ (shown_lines s ++ before) → IsWholeShown s → StandsClosed s (before ++ line ∷ []) c next
+after_closed : (lines before : List (List ℕ)) (line : List ℕ) (next : Option ClosedPlace) (s : Shown) (c : Closed) → lines ≡ title s ∷ (shown_lines s ++ before) → IsWholeShown s → StandsClosed s (before ++ line ∷ []) c next
     → Stands (lines ++ line ∷ []) (option_map_or places.Closed next places.End) (record { shown = s; closed = c })
-after_closed lines before line (Some p) s c e w h = (ap (λ x. x ++ line ∷ []) e ∙ ap (λ x. title ∷ x) (append_assoc (shown_lines s) before (line ∷ []) ∙ ap (λ x. shown_lines s ++ x) h.0), w, h.1)
-after_closed lines before line None s c e w h = (ap (λ x. x ++ line ∷ []) e ∙ ap (λ x. title ∷ x) (append_assoc (shown_lines s) before (line ∷ []) ∙ ap (λ x. shown_lines s ++ x) h.0), w, h.1)
+after_closed lines before line (Some p) s c e w h = (ap (λ x. x ++ line ∷ []) e ∙ ap (λ x. title s ∷ x) (append_assoc (shown_lines s) before (line ∷ []) ∙ ap (λ x. shown_lines s ++ x) h.0), w, h.1)
+after_closed lines before line None s c e w h = (ap (λ x. x ++ line ∷ []) e ∙ ap (λ x. title s ∷ x) (append_assoc (shown_lines s) before (line ∷ []) ∙ ap (λ x. shown_lines s ++ x) h.0), w, h.1)
 
 -- a line of the form asked carries on what the lines so far say
 stands_on : (lines : List (List ℕ)) (p : Place) (c : Certificate) (line : List ℕ) (t : Sheet) → Stands lines p c → asked p c line ≡ Some t → StandsAt (lines ++ line ∷ []) t
 stands_on lines places.Title c line t h e =
-    let r = if_some (bytes_eq line title) (sheet (places.Shown Terms) c) t e in
-    subst (StandsAt (lines ++ line ∷ [])) r.1 (ap (λ x. x ++ line ∷ []) h.0 ∙ ap (λ l. l ∷ []) (same_bytes line title r.0), h.1, h.2)
+    let r = map_some (λ dropped. sheet (places.Shown Terms) (record c { shown = record c.shown { dropped = dropped } })) (titled certificate_front line) t e in
+    subst (StandsAt (lines ++ line ∷ [])) r.2 (ap (λ x. x ++ line ∷ []) h.0 ∙ ap (λ l. l ∷ []) (title_is certificate_front line r.0 r.1), h.1, h.2)
 stands_on lines (places.Shown p) c line t h e =
     let r = map_some (λ s. sheet (option_map_or places.Shown s.0 (places.Closed HeadCount)) (record c { shown = s.1 })) (asked_shown p c.shown line) t e in
-    subst (StandsAt (lines ++ line ∷ [])) r.2 (after_shown lines (written_shown p c.shown) line r.0.0 r.0.1 c.closed h.0 h.2 (shown_step (written_shown p c.shown) c.shown line p refl h.1 r.0 r.1))
+    subst (StandsAt (lines ++ line ∷ [])) r.2 (after_shown lines (written_shown certificate_front p c.shown) line r.0.0 r.0.1 c.closed h.0 h.2 (shown_step certificate_front (written_shown certificate_front p c.shown) c.shown line p refl h.1 r.0 r.1))
 stands_on lines (places.Closed p) c line t h e =
     let r = map_some (λ s. sheet (option_map_or places.Closed s.0 places.End) (record c { closed = s.1 })) (asked_closed c.shown p c.closed line) t e in
     subst (StandsAt (lines ++ line ∷ [])) r.2 (after_closed lines (written_closed p c.closed) line r.0.0 c.shown r.0.1 h.0 h.1 (closed_step c.shown (written_closed p c.closed) c.closed line p refl h.2 r.0 r.1))
 stands_on lines places.End c line t h e =
     let r = if_some (bytes_eq line (codes "end")) (sheet places.Done c) t e in
-    subst (StandsAt (lines ++ line ∷ [])) r.1 (ap (λ x. x ++ line ∷ []) h.0 ∙ ap (λ l. title ∷ (shown_lines c.shown ++ closed_lines c.closed) ++ l ∷ []) (same_bytes line (codes "end") r.0) ∙ ap (λ x. title ∷ x) (append_assoc (shown_lines c.shown) (closed_lines c.closed) (codes "end" ∷ [])), h.1, h.2)
+    subst (StandsAt (lines ++ line ∷ [])) r.1 (ap (λ x. x ++ line ∷ []) h.0 ∙ ap (λ l. title c.shown ∷ (shown_lines c.shown ++ closed_lines c.closed) ++ l ∷ []) (same_bytes line (codes "end") r.0) ∙ ap (λ x. title c.shown ∷ x) (append_assoc (shown_lines c.shown) (closed_lines c.closed) (codes "end" ∷ [])), h.1, h.2)
 stands_on lines places.Done c line t h e = nothing t e
 
 stands_filled : (more before : List (List ℕ)) (s t : Sheet) → StandsAt before s → filled certificates s more ≡ Some t → StandsAt (before ++ more) t

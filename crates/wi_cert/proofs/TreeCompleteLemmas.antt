@@ -4,6 +4,7 @@ use Rattle.std.specs.List.{All, flat_map}
 use Rattle.std.proofs.Common.{sym, ap, ◌∙◌, subst, arith, append_assoc, append-nil}
 use Rattle.std.proofs.lemmas.Bool.Decides.{nat_tests}
 use Rattle.std.proofs.lemmas.List.Elements.{All-head, All-tail}
+use Rattle.wi_cert.specs.declared.shown.Dropped.{Dropped}
 use Rattle.wi_cert.specs.declared.shown.Shown.{Shown}
 use Rattle.wi_cert.specs.declared.shown.ShownPlace.{ShownPlace}
 use Rattle.wi_cert.specs.declared.shown.ShownPlace.TheVariants.{Terms}
@@ -16,13 +17,13 @@ use Rattle.wi_cert.specs.declared.tree.TreeCertificate.{TreeCertificate}
 use Rattle.wi_cert.specs.declared.tree.TreePlace.{TreePlace}
 use Rattle.wi_cert.specs.declared.tree.TreePlace.TheVariants as places
 use Rattle.wi_cert.specs.Numbers.{count_line}
-use Rattle.wi_cert.specs.Shown.{shown_lines, blank_shown}
+use Rattle.wi_cert.specs.Shown.{tree_front, title_line, shown_lines, blank_shown}
 use Rattle.wi_cert.specs.Closed.{closed_lines, blank_closed}
 use Rattle.wi_cert.specs.Reading.{decoded}
 use Rattle.wi_cert.specs.Trees.{is_inconclusive, can_make, makes_trees, node_lines, tree_lines, IsLeafOf, HasNodeRanges, IsTreeWritable, HasTreeRanges, IsTreeText, TreeSheet, tree_sheet, blank_tree, nodes_left, leaf_left, trees}
 use Rattle.wi_cert.proofs.Cases.{both, same_ok}
 use Rattle.wi_cert.proofs.TellingLemmas.{lines_read}
-use Rattle.wi_cert.proofs.CompleteLemmas.{Leads, leads_none, leads_then, leads_first, free_count, count_reads, shown_leads, closed_leads}
+use Rattle.wi_cert.proofs.CompleteLemmas.{Leads, leads_none, leads_then, leads_first, free_count, count_reads, begun_shown, title_reads, free_title, shown_leads, closed_leads}
 use Rattle.wi_cert.proofs.TreeMarkLemmas.{after_decided, trees_fit}
 use Rattle.wi_cert.proofs.TreeLemmas.{can_when}
 
@@ -88,7 +89,8 @@ tree_leads t w r =
     let short : nat_lt (length t.nodes) 10000 ≡ true = grind (arith, nat_tests) in
     let can : can_make (length t.nodes) 1 ≡ true = can_when t.nodes 1 w.whole in
     let fit = trees_fit (length t.nodes) 1 can in
-    leads_first trees blank_tree (codes "mpls-whatif-tree 1") (tree_sheet (places.Shown Terms) (with_nodes blank_shown []) blank_closed) _ _ refl refl
+    leads_first trees blank_tree (title_line tree_front t.shown.dropped) (tree_sheet (places.Shown Terms) (with_nodes (begun_shown t.shown.dropped) []) blank_closed) _ _ (free_title tree_front t.shown.dropped refl)
+    (ap (option_map (λ (dropped : Option Dropped). tree_sheet (places.Shown Terms) (with_nodes (record blank_shown { dropped = dropped }) []) blank_closed)) (title_reads tree_front t.shown.dropped))
     (leads_then trees _ _ _ (shown_lines t.shown) _
     (shown_leads trees (λ next s. tree_sheet (after_decided next) (with_nodes s []) blank_closed) (λ claim. is_inconclusive claim ≡ false)
     (λ p x y line next ok e.

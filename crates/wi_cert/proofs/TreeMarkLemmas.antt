@@ -7,9 +7,10 @@ use Rattle.std.proofs.lemmas.Bool.Decides.{nat_tests}
 use Rattle.std.proofs.lemmas.List.Sums.{sum_by_push}
 use Rattle.wi_cert.specs.declared.shown.Claim.{Claim}
 use Rattle.wi_cert.specs.declared.shown.Claim.TheVariants.{Yes, No}
+use Rattle.wi_cert.specs.declared.shown.Dropped.{Dropped}
 use Rattle.wi_cert.specs.declared.shown.Shown.{Shown}
 use Rattle.wi_cert.specs.declared.shown.ShownPlace.{ShownPlace}
-use Rattle.wi_cert.specs.declared.shown.ShownPlace.TheVariants.{Terms, Answer, Weight, First, StepCount, Step}
+use Rattle.wi_cert.specs.declared.shown.ShownPlace.TheVariants.{Terms, Answer, Weight, First, StepCount, Step, Dropped as DroppedAt}
 use Rattle.wi_cert.specs.declared.closed.Closed.{Closed}
 use Rattle.wi_cert.specs.declared.closed.ClosedPlace.{ClosedPlace}
 use Rattle.wi_cert.specs.declared.closed.ClosedPlace.TheVariants.{HeadCount}
@@ -19,10 +20,10 @@ use Rattle.wi_cert.specs.declared.tree.TreeCertificate.{TreeCertificate}
 use Rattle.wi_cert.specs.declared.tree.TreePlace.{TreePlace}
 use Rattle.wi_cert.specs.declared.tree.TreePlace.TheVariants as places
 use Rattle.wi_cert.specs.Numbers.{numbers_in, count_after}
-use Rattle.wi_cert.specs.Shown.{is_no, asked_shown, steps_left, step_of, claim_of, weight_of, first_of}
+use Rattle.wi_cert.specs.Shown.{is_no, tree_front, titled, asked_shown, steps_left, step_of, claim_of, weight_of, first_of, dropped_of}
 use Rattle.wi_cert.specs.Closed.{asked_closed}
 use Rattle.wi_cert.specs.Trees.{is_inconclusive, can_make, TreeSheet, tree_sheet, nodes_left, asked_decided, asked_node, leaf_left, asked_tree}
-use Rattle.wi_cert.specs.private.Marks.{rank}
+use Rattle.wi_cert.specs.private.Marks.{dropped_count, rank}
 use Rattle.wi_cert.specs.private.TreeMarks.{tree_rank, node_line_count, tree_line_count, HasRoom, is_undecided}
 use Rattle.wi_cert.proofs.Cases.{by_test, both, bind_some, map_some, if_some, unless_some, nothing, some_same}
 use Rattle.wi_cert.proofs.MarkLemmas.{after_shown, ClosedGoes, shown_goes, closed_goes}
@@ -51,9 +52,10 @@ stays_decided Answer s line x h u d =
 stays_decided Weight s line x h u d = subst IsDecided (map_some (λ w. (Some First, record s { weight = w })) (weight_of s.claim s.terms line) x h).2 d
 stays_decided First s line x h u d = subst IsDecided (map_some (λ ns. (Some StepCount, record s { first = ns })) (first_of s.claim line) x h).2 d
 stays_decided StepCount s line x h u d =
-    let r = bind_some (λ n. if is_no s.claim && nat_lt 0 n then None else Some (steps_left n, s)) (count_after (codes "steps ") line) x h in
-    subst IsDecided (unless_some (is_no s.claim && nat_lt 0 r.0) (steps_left r.0, s) x r.2).1 d
-stays_decided (Step n) s line x h u d = subst IsDecided (map_some (λ y. (steps_left (n - 1), record s { steps = s.steps ++ y ∷ [] })) (option_and_then step_of (numbers_in line)) x h).2 d
+    let r = bind_some (λ n. if is_no s.claim && nat_lt 0 n then None else Some (steps_left s.dropped n, s)) (count_after (codes "steps ") line) x h in
+    subst IsDecided (unless_some (is_no s.claim && nat_lt 0 r.0) (steps_left s.dropped r.0, s) x r.2).1 d
+stays_decided (Step n) s line x h u d = subst IsDecided (map_some (λ y. (steps_left s.dropped (n - 1), record s { steps = s.steps ++ y ∷ [] })) (option_and_then step_of (numbers_in line)) x h).2 d
+stays_decided DroppedAt s line x h u d = subst IsDecided (map_some (λ d. (None, record s { dropped = Some d })) (dropped_of s.claim line) x h).2 d
 
 abbrev pub after_decided : Option ShownPlace → TreePlace
 after_decided next = option_map_or places.Shown next places.NodeCount
@@ -85,16 +87,16 @@ pub record TreeGoes (p : TreePlace) (t : TreeCertificate) (leaf : Closed) (u : T
   pub decided : is_inconclusive t.shown.claim ≡ false → is_inconclusive u.tree.shown.claim ≡ false
   pub count : tree_line_count u ≡ tree_line_count (tree_sheet p t leaf) + 1
 
-same_rank : (next : Option ShownPlace) → tree_rank (after_decided next) ≡ rank (after_shown next)
-same_rank (Some p) = refl
-same_rank None = refl
+same_rank : (next : Option ShownPlace) (dropped : Option Dropped) → tree_rank (after_decided next) dropped ≡ rank (after_shown next) dropped
+same_rank (Some p) dropped = refl
+same_rank None dropped = refl
 
 shown_room : (next : Option ShownPlace) (n : ℕ) → n ≡ 0 → HasRoom (after_decided next) n
 shown_room (Some p) n h = h
 shown_room None n h = h
 
-left_rank : (left due : ℕ) → tree_rank (nodes_left left due) ≡ 7
-left_rank left due = by_test (left == 0) (λ (e : (left == 0) ≡ true). rw e refl) (λ (e : (left == 0) ≡ false). rw e refl)
+left_rank : (left due : ℕ) (dropped : Option Dropped) → tree_rank (nodes_left left due) dropped ≡ 7 + dropped_count dropped
+left_rank left due dropped = by_test (left == 0) (λ (e : (left == 0) ≡ true). rw e refl) (λ (e : (left == 0) ≡ false). rw e refl)
 
 left_room : (left due n : ℕ) → due ≤ left → n + left < 10000 → HasRoom (nodes_left left due) n
 left_room left due n fit few = by_test (left == 0)
@@ -105,11 +107,11 @@ one_more_node : (nodes : List Node) (x : Node) → length (nodes ++ x ∷ []) �
 one_more_node nodes x = length-append nodes (x ∷ [])
 
 leaf_goes : (left due : ℕ) (p : ClosedPlace) (t : TreeCertificate) (leaf c : Closed) (next : Option ClosedPlace) → ClosedGoes p leaf (next, c) → TreeGoes (places.Leaf left due p) t leaf (leaf_left left due t next c)
-leaf_goes left due p t leaf c (Some q) g = record { room = λ r. r; decided = λ d. d; count = omega (arith, g.count) }
+leaf_goes left due p t leaf c (Some q) g = record { room = λ r. r; decided = λ d. d; count = omega (arith, g.count t.shown.dropped) }
 leaf_goes left due p t leaf c None g = record {
   room = λ r. left_room left due (length (t.nodes ++ kinds.Closed c ∷ [])) r.0 (omega (arith, r.1, one_more_node t.nodes (kinds.Closed c)));
   decided = λ d. d;
-  count = omega (arith, g.count, left_rank left due, sum_by_push node_line_count t.nodes (kinds.Closed c));
+  count = omega (arith, g.count t.shown.dropped, left_rank left due t.shown.dropped, sum_by_push node_line_count t.nodes (kinds.Closed c));
 }
 
 node_goes : (left due : ℕ) (t : TreeCertificate) (leaf : Closed) (line : List ℕ) (x : TreePlace × List Node) → asked_node left due t.nodes line ≡ Some x → TreeGoes (places.Node left due) t leaf (tree_sheet x.0 (record t { nodes = x.1 }) leaf)
@@ -129,14 +131,14 @@ node_goes left due t leaf line x h = by_test (bytes_eq line (codes "closed"))
 
 pub tree_goes : (p : TreePlace) (t : TreeCertificate) (leaf : Closed) (line : List ℕ) (u : TreeSheet) → asked_tree p t leaf line ≡ Some u → TreeGoes p t leaf u
 tree_goes places.Title t leaf line u h =
-    let r = if_some (bytes_eq line (codes "mpls-whatif-tree 1")) (tree_sheet (places.Shown Terms) t leaf) u h in
-    subst (TreeGoes places.Title t leaf) r.1 (record { room = λ n. n; decided = λ d. d; count = omega arith })
+    let r = map_some (λ dropped. tree_sheet (places.Shown Terms) (record t { shown = record t.shown { dropped = dropped } }) leaf) (titled tree_front line) u h in
+    subst (TreeGoes places.Title t leaf) r.2 (record { room = λ n. n; decided = λ d. d; count = omega arith })
 tree_goes (places.Shown p) t leaf line u h =
     let r = map_some (λ (s : TreePlace × Shown). tree_sheet s.0 (record t { shown = s.1 }) leaf) (asked_decided p t.shown line) u h in
     let k = decided_is p t.shown line r.0 r.1 in
     let g = shown_goes p t.shown line k.0 k.1 in
     subst (TreeGoes (places.Shown p) t leaf) r.2 (subst (λ (s : TreePlace × Shown). TreeGoes (places.Shown p) t leaf (tree_sheet s.0 (record t { shown = s.1 }) leaf)) k.3
-    (record { room = λ n. shown_room k.0.0 (length t.nodes) n; decided = λ d. k.2; count = omega (arith, g.count, same_rank k.0.0) }))
+    (record { room = λ n. shown_room k.0.0 (length t.nodes) n; decided = λ d. k.2; count = omega (arith, g.count, same_rank k.0.0 k.0.1.dropped) }))
 tree_goes places.NodeCount t leaf line u h =
     let r = bind_some (λ n. if can_make n 1 && nat_lt n 10000 then Some (tree_sheet (places.Node n 1) t leaf) else None) (count_after (codes "nodes ") line) u h in
     let k = if_some (can_make r.0 1 && nat_lt r.0 10000) (tree_sheet (places.Node r.0 1) t leaf) u r.2 in

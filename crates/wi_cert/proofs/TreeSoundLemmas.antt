@@ -18,28 +18,28 @@ use Rattle.wi_cert.specs.declared.tree.TreeCertificate.{TreeCertificate}
 use Rattle.wi_cert.specs.declared.tree.TreePlace.{TreePlace}
 use Rattle.wi_cert.specs.declared.tree.TreePlace.TheVariants as places
 use Rattle.wi_cert.specs.Numbers.{count_after, count_line}
-use Rattle.wi_cert.specs.Shown.{shown_lines}
+use Rattle.wi_cert.specs.Shown.{tree_front, title_line, shown_lines, titled}
 use Rattle.wi_cert.specs.Closed.{asked_closed}
 use Rattle.wi_cert.specs.Reading.{decoded, filled}
 use Rattle.wi_cert.specs.Text.{ended}
 use Rattle.wi_cert.specs.Trees.{is_inconclusive, can_make, makes_trees, node_lines, tree_lines, IsLeafOf, HasNodeRanges, IsTreeText, TreeSheet, tree_sheet, blank_tree, nodes_left, asked_decided, asked_node, leaf_left, asked_tree, is_whole_tree, trees}
 use Rattle.wi_cert.proofs.Cases.{by_test, both, nothing, some_same, bind_some, map_some, if_some}
-use Rattle.wi_cert.proofs.FormLemmas.{same_bytes, count_spells}
+use Rattle.wi_cert.proofs.FormLemmas.{same_bytes, count_spells, title_is}
 use Rattle.wi_cert.proofs.ShownLemmas.{written_shown, IsGoodShown, IsWholeShown, StandsShown, shown_step}
 use Rattle.wi_cert.proofs.ClosedLemmas.{written_closed, IsGoodClosed, StandsClosed, closed_step}
 use Rattle.wi_cert.proofs.TellingLemmas.{whole_lines}
 use Rattle.wi_cert.proofs.TreeMarkLemmas.{after_decided, decided_is, trees_fit}
 use Rattle.wi_cert.proofs.TreeLemmas.{nothing_due, some_due}
 
-abbrev title : List ℕ
-title = codes "mpls-whatif-tree 1"
+abbrev title : Shown → List ℕ
+title s = title_line tree_front s.dropped
 
 abbrev IsEmpty : Closed → Type 0
 IsEmpty c = (c.heads ≡ []) × (c.pairs ≡ []) × (c.rows ≡ [])
 
 -- the lines up to the nodes so far, where so many are to come
 abbrev counted : TreeCertificate → ℕ → List (List ℕ)
-counted t more = title ∷ (shown_lines t.shown ++ (count_line (codes "nodes ") (length t.nodes + more) ∷ flat_map node_lines t.nodes))
+counted t more = title t.shown ∷ (shown_lines t.shown ++ (count_line (codes "nodes ") (length t.nodes + more) ∷ flat_map node_lines t.nodes))
 
 record IsGoodTree (t : TreeCertificate) : Type 0 where
   shown : IsWholeShown t.shown
@@ -66,8 +66,8 @@ record IsOneTree (t : TreeCertificate) : Type 0 where
 -- the lines so far, and what they say
 abbrev Stands : List (List ℕ) → TreePlace → TreeCertificate → Closed → Type 0
 Stands lines places.Title t leaf = (lines ≡ []) × (t.shown.steps ≡ []) × (t.nodes ≡ []) × IsEmpty leaf
-Stands lines (places.Shown p) t leaf = (lines ≡ title ∷ written_shown p t.shown) × IsGoodShown p t.shown × (t.nodes ≡ []) × IsEmpty leaf
-Stands lines places.NodeCount t leaf = (lines ≡ title ∷ shown_lines t.shown) × IsWholeShown t.shown × (t.nodes ≡ []) × IsEmpty leaf × (is_inconclusive t.shown.claim ≡ false)
+Stands lines (places.Shown p) t leaf = (lines ≡ written_shown tree_front p t.shown) × IsGoodShown p t.shown × (t.nodes ≡ []) × IsEmpty leaf
+Stands lines places.NodeCount t leaf = (lines ≡ title t.shown ∷ shown_lines t.shown) × IsWholeShown t.shown × (t.nodes ≡ []) × IsEmpty leaf × (is_inconclusive t.shown.claim ≡ false)
 Stands lines (places.Node left due) t leaf = (lines ≡ counted t left) × IsGoodTree t × IsDue t left due × IsEmpty leaf × (0 < left)
 Stands lines (places.Leaf left due p) t leaf = (lines ≡ counted t (left + 1) ++ (codes "closed" ∷ written_closed p leaf)) × IsGoodTree t × IsDueBehind t left due × IsGoodClosed t.shown p leaf
 Stands lines places.End t leaf = (lines ≡ counted t 0) × IsGoodTree t × IsOneTree t
@@ -76,10 +76,10 @@ Stands lines places.Done t leaf = (lines ≡ tree_lines t) × IsGoodTree t × Is
 abbrev StandsAt : List (List ℕ) → TreeSheet → Type 0
 StandsAt lines s = Stands lines s.place s.tree s.leaf
 
-after_shown : (lines before : List (List ℕ)) (line : List ℕ) (next : Option ShownPlace) (s : Shown) (nodes : List Node) (leaf : Closed) → lines ≡ title ∷ before → nodes ≡ [] → IsEmpty leaf → is_inconclusive s.claim ≡ false → StandsShown (before ++ line ∷ []) s next
+after_shown : (lines before : List (List ℕ)) (line : List ℕ) (next : Option ShownPlace) (s : Shown) (nodes : List Node) (leaf : Closed) → lines ≡ before → nodes ≡ [] → IsEmpty leaf → is_inconclusive s.claim ≡ false → StandsShown tree_front (before ++ line ∷ []) s next
     → Stands (lines ++ line ∷ []) (after_decided next) (record { shown = s; nodes = nodes }) leaf
-after_shown lines before line (Some p) s nodes leaf e none empty d h = (ap (λ x. x ++ line ∷ []) e ∙ ap (λ x. title ∷ x) h.0, h.1, none, empty)
-after_shown lines before line None s nodes leaf e none empty d h = (ap (λ x. x ++ line ∷ []) e ∙ ap (λ x. title ∷ x) h.0, h.1, none, empty, d)
+after_shown lines before line (Some p) s nodes leaf e none empty d h = (ap (λ x. x ++ line ∷ []) e ∙ h.0, h.1, none, empty)
+after_shown lines before line None s nodes leaf e none empty d h = (ap (λ x. x ++ line ∷ []) e ∙ h.0, h.1, none, empty, d)
 
 push_lines : (nodes : List Node) (x : Node) → flat_map node_lines (nodes ++ x ∷ []) ≡ flat_map node_lines nodes ++ node_lines x
 push_lines nodes x = flat_map-append node_lines nodes (x ∷ []) ∙ ap (λ ls. flat_map node_lines nodes ++ ls) (append-nil (node_lines x))
@@ -91,9 +91,9 @@ within first shown count a b = ap (λ ls. first ∷ ls) (append_assoc shown (cou
 counted_more : (t : TreeCertificate) (x : Node) (more : ℕ) → counted t (more + 1) ++ node_lines x ≡ counted (record t { nodes = t.nodes ++ x ∷ [] }) more
 counted_more t x more =
     let count : length t.nodes + (more + 1) ≡ length (t.nodes ++ x ∷ []) + more = omega (arith, length-append t.nodes (x ∷ [])) in
-    within title (shown_lines t.shown) (count_line (codes "nodes ") (length t.nodes + (more + 1))) (flat_map node_lines t.nodes) (node_lines x)
-    ∙ ap (λ k. title ∷ (shown_lines t.shown ++ (count_line (codes "nodes ") k ∷ (flat_map node_lines t.nodes ++ node_lines x)))) count
-    ∙ ap (λ ls. title ∷ (shown_lines t.shown ++ (count_line (codes "nodes ") (length (t.nodes ++ x ∷ []) + more) ∷ ls))) (sym (push_lines t.nodes x))
+    within (title t.shown) (shown_lines t.shown) (count_line (codes "nodes ") (length t.nodes + (more + 1))) (flat_map node_lines t.nodes) (node_lines x)
+    ∙ ap (λ k. title t.shown ∷ (shown_lines t.shown ++ (count_line (codes "nodes ") k ∷ (flat_map node_lines t.nodes ++ node_lines x)))) count
+    ∙ ap (λ ls. title t.shown ∷ (shown_lines t.shown ++ (count_line (codes "nodes ") (length (t.nodes ++ x ∷ []) + more) ∷ ls))) (sym (push_lines t.nodes x))
 
 good_more : (t : TreeCertificate) (x : Node) → IsGoodTree t → IsLeafOf t.shown x → HasNodeRanges x → IsGoodTree (record t { nodes = t.nodes ++ x ∷ [] })
 good_more t x g leaf range = record {
@@ -175,13 +175,13 @@ node_on lines t left due leaf line x h a = by_test (bytes_eq line (codes "closed
 -- a line of the form asked carries on what the lines so far say
 stands_on : (lines : List (List ℕ)) (p : TreePlace) (t : TreeCertificate) (leaf : Closed) (line : List ℕ) (u : TreeSheet) → Stands lines p t leaf → asked_tree p t leaf line ≡ Some u → StandsAt (lines ++ line ∷ []) u
 stands_on lines places.Title t leaf line u h e =
-    let r = if_some (bytes_eq line title) (tree_sheet (places.Shown Terms) t leaf) u e in
-    subst (StandsAt (lines ++ line ∷ [])) r.1 (ap (λ x. x ++ line ∷ []) h.0 ∙ ap (λ l. l ∷ []) (same_bytes line title r.0), h.1, h.2, h.3)
+    let r = map_some (λ dropped. tree_sheet (places.Shown Terms) (record t { shown = record t.shown { dropped = dropped } }) leaf) (titled tree_front line) u e in
+    subst (StandsAt (lines ++ line ∷ [])) r.2 (ap (λ x. x ++ line ∷ []) h.0 ∙ ap (λ l. l ∷ []) (title_is tree_front line r.0 r.1), h.1, h.2, h.3)
 stands_on lines (places.Shown p) t leaf line u h e =
     let r = map_some (λ (s : TreePlace × Shown). tree_sheet s.0 (record t { shown = s.1 }) leaf) (asked_decided p t.shown line) u e in
     let k = decided_is p t.shown line r.0 r.1 in
     subst (StandsAt (lines ++ line ∷ [])) r.2 (subst (λ (s : TreePlace × Shown). Stands (lines ++ line ∷ []) s.0 (record t { shown = s.1 }) leaf) k.3
-    (after_shown lines (written_shown p t.shown) line k.0.0 k.0.1 t.nodes leaf h.0 h.2 h.3 k.2 (shown_step (written_shown p t.shown) t.shown line p refl h.1 k.0 k.1)))
+    (after_shown lines (written_shown tree_front p t.shown) line k.0.0 k.0.1 t.nodes leaf h.0 h.2 h.3 k.2 (shown_step tree_front (written_shown tree_front p t.shown) t.shown line p refl h.1 k.0 k.1)))
 stands_on lines places.NodeCount t leaf line u h e =
     let r = bind_some (λ n. if can_make n 1 && nat_lt n 10000 then Some (tree_sheet (places.Node n 1) t leaf) else None) (count_after (codes "nodes ") line) u e in
     let k = if_some (can_make r.0 1 && nat_lt r.0 10000) (tree_sheet (places.Node r.0 1) t leaf) u r.2 in
@@ -189,7 +189,7 @@ stands_on lines places.NodeCount t leaf line u h e =
     let few : r.0 < 10000 = grind (arith, nat_tests, b.1) in
     let zero : r.0 ≡ 0 + r.0 = omega arith in
     subst (StandsAt (lines ++ line ∷ [])) k.1 (
-      ap (λ x. x ++ line ∷ []) h.0 ∙ ap (λ l. title ∷ (shown_lines t.shown ++ l ∷ [])) ((count_spells (codes "nodes ") line r.0 r.1).0 ∙ ap (count_line (codes "nodes ")) zero) ∙ ap (λ (ns : List Node). title ∷ (shown_lines t.shown ++ (count_line (codes "nodes ") (length ns + r.0) ∷ flat_map node_lines ns))) (sym h.2),
+      ap (λ x. x ++ line ∷ []) h.0 ∙ ap (λ l. title t.shown ∷ (shown_lines t.shown ++ l ∷ [])) ((count_spells (codes "nodes ") line r.0 r.1).0 ∙ ap (count_line (codes "nodes ")) zero) ∙ ap (λ (ns : List Node). title t.shown ∷ (shown_lines t.shown ++ (count_line (codes "nodes ") (length ns + r.0) ∷ flat_map node_lines ns))) (sym h.2),
       record { shown = h.1; decided = h.4; leaves = subst (All (IsLeafOf t.shown)) (sym h.2) (All-nil (IsLeafOf t.shown)); ranges = subst (All HasNodeRanges) (sym h.2) (All-nil HasNodeRanges) },
       record { few = omega (arith, few, ap length h.2); can = b.0; rest = λ rest. ap (λ (ns : List Node). makes_trees 1 (ns ++ rest)) h.2 },
       h.3,
@@ -205,8 +205,8 @@ stands_on lines places.End t leaf line u h e =
     let r = if_some (bytes_eq line (codes "end")) (tree_sheet places.Done t leaf) u e in
     let zero : length t.nodes + 0 ≡ length t.nodes = omega arith in
     subst (StandsAt (lines ++ line ∷ [])) r.1 (
-      ap (λ x. x ++ line ∷ []) h.0 ∙ ap (λ l. counted t 0 ++ l ∷ []) (same_bytes line (codes "end") r.0) ∙ within title (shown_lines t.shown) (count_line (codes "nodes ") (length t.nodes + 0)) (flat_map node_lines t.nodes) (codes "end" ∷ [])
-          ∙ ap (λ k. title ∷ (shown_lines t.shown ++ (count_line (codes "nodes ") k ∷ (flat_map node_lines t.nodes ++ codes "end" ∷ [])))) zero,
+      ap (λ x. x ++ line ∷ []) h.0 ∙ ap (λ l. counted t 0 ++ l ∷ []) (same_bytes line (codes "end") r.0) ∙ within (title t.shown) (shown_lines t.shown) (count_line (codes "nodes ") (length t.nodes + 0)) (flat_map node_lines t.nodes) (codes "end" ∷ [])
+          ∙ ap (λ k. title t.shown ∷ (shown_lines t.shown ++ (count_line (codes "nodes ") k ∷ (flat_map node_lines t.nodes ++ codes "end" ∷ [])))) zero,
       h.1,
       h.2,
     )

@@ -9,7 +9,8 @@ use Rattle.wi_cert.specs.declared.certificate.Certificate.{Certificate}
 use Rattle.wi_cert.specs.declared.closed.Closed.{Closed}
 use Rattle.wi_cert.specs.declared.row.Row.{Row}
 use Rattle.wi_cert.specs.Numbers.{count_line}
-use Rattle.wi_cert.specs.Shown.{pair_line, shown_lines}
+use Rattle.wi_cert.specs.declared.shown.Shown.{Shown}
+use Rattle.wi_cert.specs.Shown.{certificate_front, title_line, answer_line, weight_line, first_line, pair_line, dropped_lines, shown_lines}
 use Rattle.wi_cert.specs.Closed.{row_line, closed_lines}
 use Rattle.wi_cert.specs.Text.{ended, text, closed_text}
 use Rattle.wi_cert.specs.private.Fronts.{front_text}
@@ -59,12 +60,12 @@ lists_put c heads pairs rows out a b d e f new (Ok done) h p r i j k l m n =
 lists_put c heads pairs rows out a b d e f new (Err why) h p r i j k l m n = tt
 
 -- the lines before `heads`
-pub front_put : (c : Certificate) (start a b : List ℕ) → start ≡ [] → a ≡ start ++ codes "mpls-whatif-certificate 1\n" → b ≡ a ++ flat_map ended (shown_lines c.shown) → b ≡ front_text c
+pub front_put : (c : Certificate) (start a b : List ℕ) → start ≡ [] → a ≡ start ++ ended (title_line certificate_front c.shown.dropped) → b ≡ a ++ flat_map ended (shown_lines c.shown) → b ≡ front_text c
 front_put c start a b h i j = rw (j, i, h) refl
 
 -- a text has these two parts
 pub text_parts : (c : Certificate) → text c ≡ front_text c ++ closed_text c
-text_parts c = flat_map-append ended (codes "mpls-whatif-certificate 1" ∷ shown_lines c.shown) (closed_lines c.closed ++ codes "end" ∷ [])
+text_parts c = flat_map-append ended (title_line certificate_front c.shown.dropped ∷ shown_lines c.shown) (closed_lines c.closed ++ codes "end" ∷ [])
 
 -- the whole text
 pub text_put : (c : Certificate) (b d e : List ℕ) → b ≡ front_text c → d ≡ b ++ flat_map ended (closed_lines c.closed) → e ≡ d ++ codes "end\n" → e ≡ text c
@@ -72,3 +73,21 @@ text_put c b d e j k l = rw (l, k, j) (sym (text_parts c ∙ parts (front_text c
   where
     parts : (f : List ℕ) (l : List (List ℕ)) → f ++ flat_map ended (l ++ codes "end" ∷ []) ≡ (f ++ flat_map ended l) ++ codes "end\n"
     parts f l = simp (flat_map-append, append_assoc, append-nil) refl
+
+shown_parts : (a b d e f : List ℕ) (xs ys : List (List ℕ)) → flat_map ended (a ∷ b ∷ d ∷ e ∷ f ∷ (xs ++ ys)) ≡ ended a ++ (ended b ++ (ended d ++ (ended e ++ (ended f ++ (flat_map ended xs ++ flat_map ended ys)))))
+shown_parts a b d e f xs ys = simp (flat_map-append, append_assoc) refl
+
+seven_pieces : (out a b d e f g new p q r s t u v : List ℕ) → a ≡ out ++ p → b ≡ a ++ q → d ≡ b ++ r → e ≡ d ++ s → f ≡ e ++ t → g ≡ f ++ u → new ≡ g ++ v → new ≡ out ++ (p ++ (q ++ (r ++ (s ++ (t ++ (u ++ v))))))
+seven_pieces out a b d e f g new p q r s t u v i j k l m n o = rw (o, n, m, l, k, j, i) (simp append_assoc refl)
+
+-- the lines that show the answer
+pub shown_put : {E : Type 0} (s : Shown) (terms : ℕ) (steps : List (ℕ × ℕ)) (out a b d e f g new : List ℕ) (answer : Result (Unit {0}) E) → terms ≡ s.terms → steps ≡ s.steps
+    → a ≡ out ++ ended (count_line (codes "terms ") terms) → b ≡ a ++ ended (answer_line s.claim) → d ≡ b ++ ended (weight_line s) → e ≡ d ++ ended (first_line s)
+    → f ≡ e ++ ended (count_line (codes "steps ") (length steps)) → g ≡ f ++ flat_map ended (map pair_line steps) → OnOk answer (new ≡ g ++ flat_map ended (dropped_lines s.dropped))
+    → OnOk answer (new ≡ out ++ flat_map ended (shown_lines s))
+shown_put s terms steps out a b d e f g new (Ok done) t h i j k l m n o =
+    seven_pieces out a b d e f g new (ended (count_line (codes "terms ") terms)) (ended (answer_line s.claim)) (ended (weight_line s)) (ended (first_line s)) (ended (count_line (codes "steps ") (length steps))) (flat_map ended (map pair_line steps)) (flat_map ended (dropped_lines s.dropped)) i j k l m n o
+    ∙ ap (λ x. out ++ x) (sym (shown_parts (count_line (codes "terms ") terms) (answer_line s.claim) (weight_line s) (first_line s) (count_line (codes "steps ") (length steps)) (map pair_line steps) (dropped_lines s.dropped)))
+    ∙ ap (λ n. out ++ flat_map ended (shown_lines (record s { terms = n; steps = steps }))) t
+    ∙ ap (λ xs. out ++ flat_map ended (shown_lines (record s { steps = xs }))) h
+shown_put s terms steps out a b d e f g new (Err why) t h i j k l m n o = tt

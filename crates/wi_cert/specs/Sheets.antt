@@ -7,7 +7,7 @@ use Rattle.wi_cert.specs.declared.certificate.Place.{Place}
 use Rattle.wi_cert.specs.declared.certificate.Place.TheVariants as places
 use Rattle.wi_cert.specs.declared.shown.ShownPlace.TheVariants.{Terms}
 use Rattle.wi_cert.specs.declared.closed.ClosedPlace.TheVariants.{HeadCount}
-use Rattle.wi_cert.specs.Shown.{asked_shown, blank_shown}
+use Rattle.wi_cert.specs.Shown.{certificate_front, titled, asked_shown, blank_shown}
 use Rattle.wi_cert.specs.Closed.{asked_closed, blank_closed}
 use Rattle.wi_cert.specs.Reading.{Form}
 
@@ -25,7 +25,7 @@ blank = sheet places.Title (record { shown = blank_shown; closed = blank_closed 
 
 -- The sheet after a line of the form asked in its place. None: the line isn't of that form.
 abbrev pub asked : Place → Certificate → List ℕ → Option Sheet
-asked places.Title c line = if bytes_eq line (codes "mpls-whatif-certificate 1") then Some (sheet (places.Shown Terms) c) else None
+asked places.Title c line = option_map (λ dropped. sheet (places.Shown Terms) (record c { shown = record c.shown { dropped = dropped } })) (titled certificate_front line)
 asked (places.Shown place) c line = option_map (λ s. sheet (option_map_or places.Shown s.0 (places.Closed HeadCount)) (record c { shown = s.1 })) (asked_shown place c.shown line)
 asked (places.Closed place) c line = option_map (λ s. sheet (option_map_or places.Closed s.0 places.End) (record c { closed = s.1 })) (asked_closed c.shown place c.closed line)
 asked places.End c line = if bytes_eq line (codes "end") then Some (sheet places.Done c) else None

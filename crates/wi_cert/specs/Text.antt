@@ -2,7 +2,7 @@
 use Rattle.std.specs.Prelude.{◌≡◌, ℕ, ◌+◌, List, [], ◌∷◌, ◌++◌, length, codes, Some, None, Contains}
 use Rattle.std.specs.List.{flat_map}
 use Rattle.wi_cert.specs.declared.certificate.Certificate.{Certificate}
-use Rattle.wi_cert.specs.Shown.{shown_lines, IsShown, HasShownRanges}
+use Rattle.wi_cert.specs.Shown.{certificate_front, title_line, shown_lines, IsShown, HasShownRanges}
 use Rattle.wi_cert.specs.Closed.{closed_lines, IsClosed, HasClosedRanges}
 use Rattle.wi_cert.specs.Reading.{Form, filled}
 
@@ -10,7 +10,7 @@ abbrev pub ended : List ℕ → List ℕ
 ended line = line ++ 10 ∷ []
 
 abbrev pub lines_of : Certificate → List (List ℕ)
-lines_of c = codes "mpls-whatif-certificate 1" ∷ (shown_lines c.shown ++ (closed_lines c.closed ++ codes "end" ∷ []))
+lines_of c = title_line certificate_front c.shown.dropped ∷ (shown_lines c.shown ++ (closed_lines c.closed ++ codes "end" ∷ []))
 
 -- the lines, each with its end
 abbrev pub text : Certificate → List ℕ

@@ -17,7 +17,7 @@ use Rattle.wi_cert.specs.declared.tree.TreeCertificate.{TreeCertificate}
 use Rattle.wi_cert.specs.declared.tree.TreePlace.{TreePlace}
 use Rattle.wi_cert.specs.declared.tree.TreePlace.TheVariants as places
 use Rattle.wi_cert.specs.Numbers.{count_after, count_line}
-use Rattle.wi_cert.specs.Shown.{shown_lines, IsShown, HasShownRanges, asked_shown, blank_shown}
+use Rattle.wi_cert.specs.Shown.{tree_front, title_line, shown_lines, IsShown, HasShownRanges, titled, asked_shown, blank_shown}
 use Rattle.wi_cert.specs.Closed.{closed_lines, IsClosed, HasClosedRanges, asked_closed, blank_closed}
 use Rattle.wi_cert.specs.Reading.{Form}
 use Rattle.wi_cert.specs.Text.{ended}
@@ -42,7 +42,7 @@ node_lines (kinds.Split link) = count_line (codes "split ") link ∷ []
 node_lines (kinds.Closed leaf) = codes "closed" ∷ closed_lines leaf
 
 abbrev pub tree_lines : TreeCertificate → List (List ℕ)
-tree_lines t = codes "mpls-whatif-tree 1" ∷ (shown_lines t.shown ++ (count_line (codes "nodes ") (length t.nodes) ∷ (flat_map node_lines t.nodes ++ codes "end" ∷ [])))
+tree_lines t = title_line tree_front t.shown.dropped ∷ (shown_lines t.shown ++ (count_line (codes "nodes ") (length t.nodes) ∷ (flat_map node_lines t.nodes ++ codes "end" ∷ [])))
 
 -- the lines, each with its end
 abbrev pub tree_text : TreeCertificate → List ℕ
@@ -110,7 +110,7 @@ leaf_left left due t None leaf = tree_sheet (nodes_left left due) (record t { no
 
 -- The sheet after a line of the form asked in its place. None: the line isn't of that form.
 abbrev pub asked_tree : TreePlace → TreeCertificate → Closed → List ℕ → Option TreeSheet
-asked_tree places.Title t leaf line = if bytes_eq line (codes "mpls-whatif-tree 1") then Some (tree_sheet (places.Shown Terms) t leaf) else None
+asked_tree places.Title t leaf line = option_map (λ dropped. tree_sheet (places.Shown Terms) (record t { shown = record t.shown { dropped = dropped } }) leaf) (titled tree_front line)
 asked_tree (places.Shown place) t leaf line = option_map (λ s. tree_sheet s.0 (record t { shown = s.1 }) leaf) (asked_decided place t.shown line)
 asked_tree places.NodeCount t leaf line = option_and_then (λ n. if can_make n 1 && nat_lt n 10000 then Some (tree_sheet (places.Node n 1) t leaf) else None) (count_after (codes "nodes ") line)
 asked_tree (places.Node left due) t leaf line = option_map (λ s. tree_sheet s.0 (record t { nodes = s.1 }) leaf) (asked_node left due t.nodes line)

@@ -41,6 +41,8 @@ pub enum ClosedRefused {
 /// is told, those of a tree's nodes node by node.
 #[derive(Clone, Copy, Debug, PartialEq, Eq)]
 pub enum CheckRefused {
+    /// The certificate is about packets that are dropped, and the query asks whether one arrives, or the other way round.
+    OfAnotherQuestion,
     /// The certificate has so many terms, and so many were asked for.
     TermsDiffer { shown: u32, asked: u32 },
     /// The first step, from 1, that can't be taken as it is written, at the query's number of failures; 0 is the start.

@@ -3,12 +3,12 @@
 ghost use Rattle.std.specs.Prelude.{◌≡◌, ◌+◌, ◌^◌, ◌<◌, ◌≤◌, false, Some, None, IfOk, option_map, if◌then◌else◌};
 ghost use Rattle.std.specs.Option.{option_map_or};
 ghost use Rattle.wi_cert.specs.Sheets.{Sheet, sheet, blank, asked, is_done, certificates};
-ghost use Rattle.wi_cert.specs.private.Marks.{rank, shown_rank, closed_rank, line_count, mark_of, back, IsUnread, Follows, Keeps};
+ghost use Rattle.wi_cert.specs.private.Marks.{rank, shown_rank, closed_rank, dropped_count, line_count, mark_of, back, IsUnread, Follows, Keeps};
 
 use crate::certificate::{Certificate, Place};
 use crate::closed::{ClosedDraft, ClosedMark, ClosedPlace};
 use crate::line::is_line;
-use crate::shown::{ShownDraft, ShownMark, ShownPlace};
+use crate::shown::{Dropped, ShownDraft, ShownMark, ShownPlace};
 use crate::take_lines::TakeLines;
 use std::alloc::Global;
 use std::marker::Model;
@@ -118,7 +118,7 @@ impl TakeLines for Draft {
         let heads = self.closed.head_count() as u128;
         let pairs = self.closed.pair_count() as u128;
         let rows = self.closed.row_count() as u128;
-        u128::from(rank(self.place)) + steps + heads + pairs + rows
+        u128::from(rank(self.place, self.shown.dropped())) + steps + heads + pairs + rows
     }
 
     fn take_line(&mut self, line: &[u8]) -> Result<bool, NoMemory> {
@@ -138,16 +138,27 @@ impl TakeLines for Draft {
 }
 
 // How many lines stand before the lists' own, at least.
-fn rank(place: Place) -> u64
-    ensures rank { result ≡ rank place }
-    ensures small { result ≤ 10 }
+fn rank(place: Place, dropped: Option<Dropped>) -> u64
+    ensures rank { result ≡ rank place dropped }
+    ensures small { result ≤ 11 }
 {
     match place {
         Place::Title => 0,
         Place::Shown(place) => shown_rank(place),
-        Place::Closed(place) => closed_rank(place),
-        Place::End => 9,
-        Place::Done => 10,
+        Place::Closed(place) => closed_rank(place) + dropped_count(dropped),
+        Place::End => 9 + dropped_count(dropped),
+        Place::Done => 10 + dropped_count(dropped),
+    }
+}
+
+// How many lines say how the packet is dropped.
+pub(crate) fn dropped_count(dropped: Option<Dropped>) -> u64
+    ensures count { result ≡ dropped_count dropped }
+    ensures small { result ≤ 1 }
+{
+    match dropped {
+        Some(_) => 1,
+        None => 0,
     }
 }
 
@@ -162,6 +173,7 @@ pub(crate) fn shown_rank(place: ShownPlace) -> u64
         ShownPlace::First => 4,
         ShownPlace::StepCount => 5,
         ShownPlace::Step(_) => 6,
+        ShownPlace::Dropped => 6,
     }
 }
 
@@ -192,7 +204,7 @@ fn next_place(
     ensures closed { Keeps result closed.old closed.new }
 {
     match place {
-        Place::Title => Ok(if is_line(line, b"mpls-whatif-certificate 1") {
+        Place::Title => Ok(if shown.take_title(b"mpls-whatif-certificate ", line) {
             Some(Place::Shown(ShownPlace::Terms))
         } else {
             None

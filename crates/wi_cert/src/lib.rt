@@ -31,7 +31,7 @@ pub use laws::{
     pieces_are_bytes, texts_are_read, trees_are_read,
 };
 pub use row::{Numbers, Row};
-pub use shown::{Claim, Shown};
+pub use shown::{Claim, Dropped, Shown};
 pub use tree::{Node, TreeCertificate};
 pub use tree_feeder::{TreeFeeder, decode_tree};
 pub use tree_writer::{encode_tree, encode_tree_within};

@@ -80,7 +80,7 @@ pub fn numbers_in(line: &[u8], numbers: &mut Vec<u64>) -> Result<bool, NoMemory>
 }
 
 /// What follows the front, where the line begins with it.
-fn after<'a>(front: &[u8], line: &'a [u8]) -> Option<&'a [u8]>
+pub fn after<'a>(front: &[u8], line: &'a [u8]) -> Option<&'a [u8]>
     ensures { option_map (λ rest. rest.now) result ≡ after front.now line.now }
 {
     line.strip_prefix(front)

@@ -1,15 +1,16 @@
-//! The lines from `terms` to the last step, which show an answer. They are read apart from the others, so that another text can
-//! begin with them. What is read is overwritten or only grows, and can be taken back without memory.
-ghost use Rattle.std.specs.Prelude.{◌≡◌, ◌≤◌, ◌<◌, ◌^◌, ◌++◌, ◌∷◌, [], true, Some, None, IfOk, IfNone, length, codes, nat_lt, option_map, option_and_then, if◌then◌else◌};
+//! The lines from `terms` to the last step, and behind it that of how the packet is dropped, which show an answer. They are read
+//! apart from the others, so that another text can begin with them. What is read is overwritten or only grows, and can be taken
+//! back without memory.
+ghost use Rattle.std.specs.Prelude.{◌≡◌, ◌≤◌, ◌<◌, ◌^◌, ◌++◌, ◌∷◌, [], true, false, Some, None, IfOk, IfNone, length, codes, nat_lt, option_map, option_and_then, if◌then◌else◌};
 ghost use Rattle.std.specs.List.{list_all};
 ghost use Rattle.std.specs.Cmp.Lexicographic.{slice_cmp};
 ghost use Rattle.std.specs.Ordering.{nat_cmp};
 ghost use Rattle.wi_cert.specs.Numbers.{numbers_in, numbers_after};
-ghost use Rattle.wi_cert.specs.Shown.{is_no, claim_of, weight_of, first_of, step_of, steps_left, asked_shown, blank_shown};
+ghost use Rattle.wi_cert.specs.Shown.{is_no, claim_of, weight_of, first_of, step_of, steps_left, dropped_of, titled, asked_shown, blank_shown};
 ghost use Rattle.wi_cert.specs.Closed.{is_less, is_lighter};
 ghost use Rattle.wi_cert.specs.private.Marks.{Keeps, shown_mark, shown_back};
 
-use crate::line::{count_after, is_line, numbers_after, numbers_in};
+use crate::line::{after, count_after, is_line, numbers_after, numbers_in};
 use crate::row::Row;
 use std::alloc::Global;
 use std::cmp::Ordering;
@@ -24,6 +25,17 @@ pub enum Claim {
     Inconclusive,
 }
 
+/// How a packet that is dropped ends, as a text of version 2 says it.
+#[derive(Clone, Copy, Debug, PartialEq, Eq)]
+pub enum Dropped {
+    /// The answer is no, so that none is shown.
+    Nowhere,
+    /// No group is active.
+    Inactive,
+    /// An operation of this member isn't defined: the number of its group and its own, from 1.
+    Undefined(u32, u32),
+}
+
 /// The answer, and the run that shows it where it isn't no.
 #[derive(Drop)]
 pub struct Shown {
@@ -36,6 +48,8 @@ pub struct Shown {
     pub first: Listed<u32>,
     /// For each hop the group and the member taken, from 1.
     pub steps: Listed<(u32, u32)>,
+    /// Where packets that are dropped were asked for, how this one ends: the text is then of version 2.
+    pub dropped: Option<Dropped>,
 }
 
 /// What line is asked among those that show the answer.
@@ -48,6 +62,8 @@ pub enum ShownPlace {
     StepCount,
     /// So many steps are to come, of which this line is one.
     Step(u64),
+    /// How the packet is dropped, in a text of version 2.
+    Dropped,
 }
 
 impl Claim {
@@ -70,6 +86,8 @@ pub(crate) struct ShownDraft {
     weight: Vec<u64>,
     first: Vec<u32>,
     steps: Vec<(u32, u32)>,
+    // In a text of version 2 how the packet is dropped: `Nowhere` before its line.
+    dropped: Option<Dropped>,
 }
 
 impl Model for ShownDraft {
@@ -78,7 +96,7 @@ impl Model for ShownDraft {
 
     ghost Value = { Shown };
 
-    ghost view = { λ s. record { terms = s.terms; claim = s.claim; weight = s.weight.items; first = s.first.items; steps = s.steps.items } };
+    ghost view = { λ s. record { terms = s.terms; claim = s.claim; weight = s.weight.items; first = s.first.items; steps = s.steps.items; dropped = s.dropped } };
 
     ghost invariant = { λ s. s.terms ≤ 5 };
 }
@@ -91,6 +109,7 @@ pub(crate) struct ShownMark {
     weight: usize,
     first: usize,
     steps: usize,
+    dropped: Option<Dropped>,
 }
 
 impl ShownDraft {
@@ -104,6 +123,7 @@ impl ShownDraft {
             weight: Vec::new(alloc),
             first: Vec::new(alloc),
             steps: Vec::new(alloc),
+            dropped: None,
         }
     }
 
@@ -118,6 +138,12 @@ impl ShownDraft {
         ensures { result ≡ length self.now.steps }
     {
         self.steps.len()
+    }
+
+    pub(crate) fn dropped(&self) -> Option<Dropped>
+        ensures { result ≡ self.now.dropped }
+    {
+        self.dropped
     }
 
     // Whether a row may stand under what is shown.
@@ -137,6 +163,7 @@ impl ShownDraft {
             weight: self.weight.len(),
             first: self.first.len(),
             steps: self.steps.len(),
+            dropped: self.dropped,
         }
     }
 
@@ -150,6 +177,7 @@ impl ShownDraft {
         self.weight.truncate(mark.weight);
         self.first.truncate(mark.first);
         self.steps.truncate(mark.steps);
+        self.dropped = mark.dropped;
     }
 
     // What is shown. It takes no memory.
@@ -162,6 +190,7 @@ impl ShownDraft {
             weight,
             first,
             steps,
+            dropped,
         } = self;
         Shown {
             terms,
@@ -169,6 +198,21 @@ impl ShownDraft {
             weight: Listed::of(weight),
             first: Listed::of(first),
             steps: Listed::of(steps),
+            dropped,
+        }
+    }
+
+    // Takes the first line, which begins with the front and ends with the version. It tells whether the line is of that form.
+    pub(crate) fn take_title(&mut self, front: &[u8], line: &[u8]) -> bool
+        ensures taken { (if result then Some self.new else None) ≡ option_map (λ dropped. record self.old { dropped = dropped }) (titled front.now line.now) }
+        ensures kept { result ≡ false → self.new ≡ self.old }
+    {
+        match titled(front, line) {
+            Some(dropped) => {
+                self.dropped = dropped;
+                true
+            }
+            None => false,
         }
     }
 
@@ -190,6 +234,7 @@ impl ShownDraft {
             ShownPlace::First => self.take_first(line, numbers),
             ShownPlace::StepCount => self.take_step_count(line, numbers),
             ShownPlace::Step(left) => self.take_step(left, line, numbers),
+            ShownPlace::Dropped => self.take_dropped(line, numbers),
         }
     }
 
@@ -267,7 +312,7 @@ impl ShownDraft {
         if self.claim.is_no() && 0 < count {
             Ok(None)
         } else {
-            Ok(Some(steps_left(count)))
+            Ok(Some(steps_left(self.dropped, count)))
         }
     }
 
@@ -287,7 +332,22 @@ impl ShownDraft {
             return Ok(None);
         };
         self.steps.push(step)?;
-        Ok(Some(steps_left(left.saturating_sub(1))))
+        Ok(Some(steps_left(self.dropped, left.saturating_sub(1))))
+    }
+
+    fn take_dropped(
+        &mut self,
+        line: &[u8],
+        numbers: &mut Vec<u64>,
+    ) -> Result<Option<Option<ShownPlace>>, NoMemory>
+        ensures ok { IfOk result (λ found. option_map (λ next. (next, self.new)) found ≡ asked_shown ShownPlace.Dropped self.old line.now) }
+        ensures kept { Keeps result self.old self.new }
+    {
+        let Some(dropped) = dropped_of(self.claim, line, numbers)? else {
+            return Ok(None);
+        };
+        self.dropped = Some(dropped);
+        Ok(Some(None))
     }
 }
 
@@ -302,12 +362,31 @@ fn is_below(first: &[u64], second: &[u64]) -> bool
     }
 }
 
-// Where steps are read: the place of the next one, if one is to come.
-fn steps_left(count: u64) -> Option<ShownPlace>
-    ensures { result ≡ steps_left count }
+// The version that the first line names behind the front: in version 2 it is said later how the packet is dropped.
+fn titled(front: &[u8], line: &[u8]) -> Option<Option<Dropped>>
+    ensures { result ≡ titled front.now line.now }
+{
+    let Some(rest) = after(front, line) else {
+        return None;
+    };
+    if is_line(rest, b"1") {
+        Some(None)
+    } else if is_line(rest, b"2") {
+        Some(Some(Dropped::Nowhere))
+    } else {
+        None
+    }
+}
+
+// Where steps are read: the place of the next one, if one is to come, and behind them that of how the packet is dropped.
+fn steps_left(dropped: Option<Dropped>, count: u64) -> Option<ShownPlace>
+    ensures { result ≡ steps_left dropped count }
 {
     if count == 0 {
-        None
+        match dropped {
+            Some(_) => Some(ShownPlace::Dropped),
+            None => None,
+        }
     } else {
         Some(ShownPlace::Step(count))
     }
@@ -392,5 +471,32 @@ fn step_of(numbers: &[u64]) -> Option<(u32, u32)>
             }
         }
         _ => None,
+    }
+}
+
+// How the packet is dropped, where the line is of that form. The buffer is used.
+fn dropped_of(
+    claim: Claim,
+    line: &[u8],
+    numbers: &mut Vec<u64>,
+) -> Result<Option<Dropped>, NoMemory>
+    ensures { IfOk result (λ found. found ≡ dropped_of claim line.now) }
+{
+    if claim.is_no() {
+        return Ok(if is_line(line, b"drop none") {
+            Some(Dropped::Nowhere)
+        } else {
+            None
+        });
+    }
+    if is_line(line, b"drop inactive") {
+        return Ok(Some(Dropped::Inactive));
+    }
+    if !numbers_after(b"drop ", line, numbers)? {
+        return Ok(None);
+    }
+    match step_of(numbers) {
+        Some((group, member)) => Ok(Some(Dropped::Undefined(group, member))),
+        None => Ok(None),
     }
 }

@@ -10,9 +10,9 @@ ghost use Rattle.wi_cert.specs.private.Marks.{Keeps};
 ghost use Rattle.wi_cert.specs.private.TreeMarks.{tree_rank, node_line_count, nodes_line_count, tree_line_count, HasRoom, is_undecided};
 
 use crate::closed::{ClosedDraft, ClosedPlace};
-use crate::draft::{closed_rank, shown_rank};
+use crate::draft::{closed_rank, dropped_count, shown_rank};
 use crate::line::{count_after, is_line};
-use crate::shown::{ShownDraft, ShownPlace};
+use crate::shown::{Dropped, ShownDraft, ShownPlace};
 use crate::take_lines::TakeLines;
 use crate::tree::{Node, TreeCertificate, TreePlace};
 use std::alloc::Global;
@@ -99,7 +99,7 @@ impl TakeLines for TreeDraft {
         let pairs = self.leaf.pair_count() as u128;
         let rows = self.leaf.row_count() as u128;
         let nodes = nodes_line_count(&self.nodes);
-        u128::from(rank(self.place)) + steps + nodes + heads + pairs + rows
+        u128::from(rank(self.place, self.shown.dropped())) + steps + nodes + heads + pairs + rows
     }
 
     fn take_line(&mut self, line: &[u8]) -> Result<bool, NoMemory> {
@@ -120,18 +120,18 @@ impl TakeLines for TreeDraft {
 }
 
 // How many lines stand before a place, but for those of the lists and of the nodes.
-fn rank(place: TreePlace) -> u64
-    ensures rank { result ≡ tree_rank place }
+fn rank(place: TreePlace, dropped: Option<Dropped>) -> u64
+    ensures rank { result ≡ tree_rank place dropped }
     ensures small { result ≤ 20 }
 {
     match place {
         TreePlace::Title => 0,
         TreePlace::Shown(place) => shown_rank(place),
-        TreePlace::NodeCount => 6,
-        TreePlace::Node(_, _) => 7,
-        TreePlace::Leaf(_, _, place) => closed_rank(place) + 2,
-        TreePlace::End => 7,
-        TreePlace::Done => 8,
+        TreePlace::NodeCount => 6 + dropped_count(dropped),
+        TreePlace::Node(_, _) => 7 + dropped_count(dropped),
+        TreePlace::Leaf(_, _, place) => closed_rank(place) + 2 + dropped_count(dropped),
+        TreePlace::End => 7 + dropped_count(dropped),
+        TreePlace::Done => 8 + dropped_count(dropped),
     }
 }
 
@@ -182,7 +182,7 @@ fn next_place(
     ensures leaf { IfOk result (λ found. found ≡ None → leaf.new ≡ leaf.old) }
 {
     match place {
-        TreePlace::Title => Ok(if is_line(line, b"mpls-whatif-tree 1") {
+        TreePlace::Title => Ok(if shown.take_title(b"mpls-whatif-tree ", line) {
             Some(TreePlace::Shown(ShownPlace::Terms))
         } else {
             None

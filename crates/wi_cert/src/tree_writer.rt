@@ -6,11 +6,11 @@ ghost use Rattle.wi_cert.specs.Text.{ended};
 ghost use Rattle.wi_cert.specs.Numbers.{count_line};
 ghost use Rattle.wi_cert.specs.Shown.{IsShown, HasShownRanges};
 ghost use Rattle.wi_cert.specs.Trees.{node_lines, tree_text, HasNodeRanges, IsTreeWritable, IsTreeText};
-ghost use Rattle.wi_cert.specs.private.Fronts.{tree_front};
+ghost use Rattle.wi_cert.specs.private.Fronts.{tree_front_text};
 
 use crate::encode_refused::EncodeRefused;
 use crate::tree::{Node, TreeCertificate};
-use crate::writer::{put, put_closed, put_count, put_shown};
+use crate::writer::{put, put_closed, put_count, put_shown, put_title};
 use std::alloc::Global;
 use wi_base::NoMemory;
 
@@ -52,10 +52,10 @@ pub fn encode_tree_within(
 // Writes the lines before the nodes.
 fn put_front(out: &mut Vec<u8>, tree: &TreeCertificate) -> Result<(), NoMemory>
     requires { IsShown tree.now.shown }
-    ensures text { OnOk result (out.new.items ≡ out.old.items ++ tree_front tree.now) }
+    ensures text { OnOk result (out.new.items ≡ out.old.items ++ tree_front_text tree.now) }
     ensures ranges { OnOk result (HasShownRanges tree.now.shown) }
 {
-    put(out, b"mpls-whatif-tree 1\n")?;
+    put_title(out, b"mpls-whatif-tree ", tree.shown.dropped)?;
     put_shown(out, &tree.shown)?;
     put_count(out, b"nodes ", tree.nodes.as_slice().len() as u64)
 }

@@ -6,7 +6,7 @@ ghost use Rattle.std.specs.Fmt.{decimal};
 ghost use Rattle.std.specs.List.{All, flat_map};
 ghost use Rattle.wi_weight.specs.Weights.{EachBelow};
 ghost use Rattle.wi_cert.specs.Numbers.{spaced, printed, count_line};
-ghost use Rattle.wi_cert.specs.Shown.{IsShown, answer_line, weight_line, first_line, pair_line, shown_lines, HasShownRanges};
+ghost use Rattle.wi_cert.specs.Shown.{IsShown, answer_line, weight_line, first_line, pair_line, dropped_lines, title_line, shown_lines, HasDroppedRanges, HasShownRanges};
 ghost use Rattle.wi_cert.specs.Closed.{row_line, closed_lines, HasRowRanges, HasClosedRanges};
 ghost use Rattle.wi_cert.specs.Text.{ended, closed_text, IsWritable, IsText};
 ghost use Rattle.wi_cert.specs.private.Fronts.{front_text};
@@ -15,7 +15,7 @@ use crate::certificate::Certificate;
 use crate::closed::Closed;
 use crate::encode_refused::EncodeRefused;
 use crate::row::Row;
-use crate::shown::{Claim, Shown};
+use crate::shown::{Claim, Dropped, Shown};
 use std::alloc::Global;
 use wi_base::{NoMemory, write_decimal};
 
@@ -56,7 +56,11 @@ fn encode_front(alloc: Global, certificate: &Certificate) -> Result<Vec<u8>, NoM
     ensures ranges { IfOk result (λ _. HasShownRanges certificate.now.shown) }
 {
     let mut out = Vec::new(alloc);
-    put(&mut out, b"mpls-whatif-certificate 1\n")?;
+    put_title(
+        &mut out,
+        b"mpls-whatif-certificate ",
+        certificate.shown.dropped,
+    )?;
     put_shown(&mut out, &certificate.shown)?;
     Ok(out)
 }
@@ -74,6 +78,21 @@ fn put_number(out: &mut Vec<u8>, number: u64) -> Result<(), NoMemory>
     ensures { OnOk result (out.new.items ≡ out.old.items ++ decimal number) }
 {
     write_decimal(u128::from(number), out)
+}
+
+// Writes the first line, which begins with the front and ends with the version.
+pub(crate) fn put_title(
+    out: &mut Vec<u8>,
+    front: &[u8],
+    dropped: Option<Dropped>,
+) -> Result<(), NoMemory>
+    ensures { OnOk result (out.new.items ≡ out.old.items ++ ended (title_line front.now dropped)) }
+{
+    put(out, front)?;
+    match dropped {
+        None => put(out, b"1\n"),
+        Some(_) => put(out, b"2\n"),
+    }
 }
 
 // Writes the numbers at the end, a space before each.
@@ -220,6 +239,22 @@ fn put_first(out: &mut Vec<u8>, shown: &Shown) -> Result<(), NoMemory>
     put(out, b"\n")
 }
 
+// Writes the line that says how the packet is dropped, in a text of version 2.
+fn put_dropped(out: &mut Vec<u8>, dropped: Option<Dropped>) -> Result<(), NoMemory>
+    ensures text { OnOk result (out.new.items ≡ out.old.items ++ flat_map ended (dropped_lines dropped)) }
+    ensures ranges { OnOk result (HasDroppedRanges dropped) }
+{
+    match dropped {
+        None => Ok(()),
+        Some(Dropped::Nowhere) => put(out, b"drop none\n"),
+        Some(Dropped::Inactive) => put(out, b"drop inactive\n"),
+        Some(Dropped::Undefined(group, member)) => {
+            put(out, b"drop ")?;
+            put_pair(out, (group, member))
+        }
+    }
+}
+
 // Writes the lines that show the answer.
 pub(crate) fn put_shown(out: &mut Vec<u8>, shown: &Shown) -> Result<(), NoMemory>
     requires { IsShown shown.now }
@@ -232,7 +267,8 @@ pub(crate) fn put_shown(out: &mut Vec<u8>, shown: &Shown) -> Result<(), NoMemory
     put_first(out, shown)?;
     let steps = shown.steps.as_slice();
     put_count(out, b"steps ", steps.len() as u64)?;
-    put_pairs(out, steps)
+    put_pairs(out, steps)?;
+    put_dropped(out, shown.dropped)
 }
 
 // Writes the lines that bound every run.

@@ -1,5 +1,6 @@
 pub mod WalkLemmas
 pub mod MatchLemmas
+pub mod EndLemmas
 pub mod WeightLemmas
 pub mod StartLemmas
 pub mod Rising

@@ -15,7 +15,7 @@ use Rattle.wi_accept.specs.Answers.{run_of}
 use Rattle.wi_accept.specs.Causes.{ShowsRun}
 use Rattle.wi_check.specs.private.Stages.{NoneShown}
 
-pub begins : (problem : Problem) (s : Shown) (n : ℕ) → 1 < n → NoneShown problem s n → ShowsRun s → (run_of problem.net s).first.0 < length problem.net.links
+pub begins : (problem : Problem) (s : Shown) (n : ℕ) → 2 < n → NoneShown problem s n → ShowsRun s → (run_of problem.net s).first.0 < length problem.net.links
 begins problem s n past none shows = go (is_start problem.net problem.bounds.down run.first run.header) refl
   where
     run : Run

@@ -16,7 +16,7 @@ use Rattle.wi_cert.specs.declared.tree.Node.{Node}
 use Rattle.wi_cert.specs.declared.tree.Node.TheVariants as node
 use Rattle.wi_cert.specs.declared.tree.TreeCertificate.{TreeCertificate}
 use Rattle.wi_cert.specs.declared.check_refused.CheckRefused.{CheckRefused}
-use Rattle.wi_cert.specs.declared.check_refused.CheckRefused.TheVariants.{TermsDiffer, StepNotInTable, NoMatch, WeightDiffers, WrongAnswer, Unbounded, BadSplit, Leaf, Memory}
+use Rattle.wi_cert.specs.declared.check_refused.CheckRefused.TheVariants.{OfAnotherQuestion, TermsDiffer, StepNotInTable, NoMatch, WeightDiffers, WrongAnswer, Unbounded, BadSplit, Leaf, Memory}
 use Rattle.wi_cert.specs.declared.check_refused.ClosedRefused.{ClosedRefused}
 use Rattle.wi_cert.specs.Trees.{makes_trees, IsTreeWritable}
 use Rattle.wi_trees.specs.Branches.{IsBranch, CanSplit, with_down, with_up}
@@ -41,16 +41,17 @@ stands xs ys i x same within is = slice_get_read xs (length xs) i x refl within 
 
 module _ (problem : Problem) (t : TreeCertificate) where
   -- a cause against a tree is one against what is shown, or against a node
-  cause_shown : (r : CheckRefused) → place r < 8 → IsTreeCause problem t r → IsShownCause problem t.shown r
+  cause_shown : (r : CheckRefused) → place r < 9 → IsTreeCause problem t r → IsShownCause problem t.shown r
   cause_shown (BadSplit n) low h = absurd (omega (arith, low, h.2.0))
   cause_shown (Leaf n r) low h = absurd (omega (arith, low, h.2.0))
   cause_shown r low h = h
 
-  pub none_shown : NoneShown problem t.shown 5 → NoneInTree problem t 8
+  pub none_shown : NoneShown problem t.shown 6 → NoneInTree problem t 9
   none_shown none r low h = let k = cause_shown r low h in none r (shown_first problem t.shown r k) k
 
   pub shown_refused : (r : CheckRefused) → IsShownRefused problem t.shown r → IsTreeRefused problem t r
   shown_refused Memory h = tt
+  shown_refused OfAnotherQuestion h = record { cause = h.cause; first = λ s low k. absurd (omega (arith, low)) }
   shown_refused (TermsDiffer shown asked) h = record { cause = h.cause; first = λ s low k. h.first s low (cause_shown s (omega (arith, low)) k) }
   shown_refused (StepNotInTable n) h = record { cause = h.cause; first = λ s low k. h.first s low (cause_shown s (omega (arith, low)) k) }
   shown_refused (NoMatch part) h = record { cause = h.cause; first = λ s low k. h.first s low (cause_shown s (omega (arith, low)) k) }
@@ -61,7 +62,7 @@ module _ (problem : Problem) (t : TreeCertificate) where
   shown_refused (Leaf n r) h = absurd h.cause
 
   -- before the first node the whole is left
-  begun : IsProblem problem → IsTreeWritable t → NoneInTree problem t 8 → AreChecked problem t 0 (problem.bounds ∷ [])
+  begun : IsProblem problem → IsTreeWritable t → NoneInTree problem t 9 → AreChecked problem t 0 (problem.bounds ∷ [])
   begun k writable none = record {
     rest = refl;
     whole = writable.whole;
@@ -69,7 +70,7 @@ module _ (problem : Problem) (t : TreeCertificate) where
     none = none;
   }
 
-  pub begun_with : IsProblem problem → IsTreeWritable t → NoneInTree problem t 8 → (left : List Bounds) → left ≡ problem.bounds ∷ [] → AreChecked problem t 0 (reverse left)
+  pub begun_with : IsProblem problem → IsTreeWritable t → NoneInTree problem t 9 → (left : List Bounds) → left ≡ problem.bounds ∷ [] → AreChecked problem t 0 (reverse left)
   begun_with k writable none left same = subst (λ (bs : List Bounds). AreChecked problem t 0 (reverse bs)) (sym same) (begun k writable none)
 
   -- while nodes are left, so is a branch
@@ -112,14 +113,14 @@ module _ (problem : Problem) (t : TreeCertificate) where
     this m b y same k = one_node problem t m (n + 1) b branch y x same k is_node
 
     -- a cause told no later than those of this node is one before, or of this node
-    pub before_or_here : {G : Type 0} (m : ℕ) (r : CheckRefused) → 5 + 3 * m ≤ place r → place r < 8 + 3 * m → place r < 8 + 3 * (n + 1) → IsTreeCause problem t r → (m ≡ n + 1 → G) → G
-    before_or_here m r from upto low k at_this = elim (cases_lt (place r) (8 + 3 * n)) [
+    pub before_or_here : {G : Type 0} (m : ℕ) (r : CheckRefused) → 6 + 3 * m ≤ place r → place r < 9 + 3 * m → place r < 9 + 3 * (n + 1) → IsTreeCause problem t r → (m ≡ n + 1 → G) → G
+    before_or_here m r from upto low k at_this = elim (cases_lt (place r) (9 + 3 * n)) [
       | inl less ↦ absurd (h.none r less k)
       | inr more ↦ at_this (omega (arith, from, upto, low, more))
     ]
 
     -- the node was checked
-    pub checked : (next : List Bounds) → next ≡ next_of x → All (IsBranch problem.net problem.bounds) (next_of x) → NoneInTree problem t (8 + 3 * (n + 1)) → AreChecked problem t (n + 1) next
+    pub checked : (next : List Bounds) → next ≡ next_of x → All (IsBranch problem.net problem.bounds) (next_of x) → NoneInTree problem t (9 + 3 * (n + 1)) → AreChecked problem t (n + 1) next
     checked next same parts none =
         let whole : makes_trees (length (branch ∷ left)) (x ∷ drop (n + 1) t.nodes) ≡ true = rw (drop_at t.nodes n x at) at h.whole in
         let rest : drop (n + 1) (branches_of problem t) ≡ branched problem.net (next_of x) (drop (n + 1) t.nodes) = ap (λ i. drop i (branches_of problem t)) (add-one n) ∙ there.1 in
@@ -145,7 +146,7 @@ module _ (problem : Problem) (t : TreeCertificate) where
 
   -- a split that is one
   module _ (n e : ℕ) (branch : Bounds) (left : List Bounds) (at : slice_get t.nodes n ≡ Some (node.Split e)) (h : AreChecked problem t n (branch ∷ left)) where
-    split_none : CanSplit problem.net branch (link_of e) → NoneInTree problem t (8 + 3 * (n + 1))
+    split_none : CanSplit problem.net branch (link_of e) → NoneInTree problem t (9 + 3 * (n + 1))
     split_none can (BadSplit m) low k =
         before_or_here n (node.Split e) branch left at h m (BadSplit m) (omega arith) (omega arith) low k
         (λ same. k.3 (same_can k.0 branch k.1 e (this n (node.Split e) branch left at h m k.0 (node.Split k.1) same k.2) can))
@@ -172,7 +173,7 @@ module _ (problem : Problem) (t : TreeCertificate) where
 
   -- a leaf that bounds its branch
   module _ (n : ℕ) (c : Closed) (branch : Bounds) (left : List Bounds) (at : slice_get t.nodes n ≡ Some (node.Closed c)) (h : AreChecked problem t n (branch ∷ left)) where
-    leaf_none : NoneClosed (within problem branch) t.shown c 3 → NoneInTree problem t (8 + 3 * (n + 1))
+    leaf_none : NoneClosed (within problem branch) t.shown c 3 → NoneInTree problem t (9 + 3 * (n + 1))
     leaf_none none (BadSplit m) low k =
         before_or_here n (node.Closed c) branch left at h m (BadSplit m) (omega arith) (omega arith) low k
         (λ same. not_both_kinds problem t k.0 branch k.1 c (this n (node.Closed c) branch left at h m k.0 (node.Split k.1) same k.2))

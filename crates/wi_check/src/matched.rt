@@ -11,7 +11,7 @@ use wi_labels::Header;
 use wi_net::{LinkId, Network};
 use wi_query::Expression;
 use wi_regex::Symbol;
-use wi_trace::{Location, Run, Step, follow};
+use wi_trace::{Location, Run, Step, follow, twin_of};
 
 /// Whether an expression matches a word.
 pub(crate) fn matches(
@@ -52,11 +52,8 @@ pub(crate) fn travelled(
     ensures links { IfOk result (λ found. symbols found.0.items ≡ map (λ e. e.0) (links_of net.now run.now)) }
     ensures header { IfOk result (λ found. found.1 ≡ last_header net.now (run.now.first, run.now.header) run.now.steps) }
 {
-    let header = match run.header.twin() {
-        Ok(header) => header,
-        Err(_) => return Err(NoMemory::Memory),
-    };
-    travel(alloc, net, (run.first, header), run.steps.as_slice())
+    let at = (run.first, twin_of(&run.header)?);
+    travel(alloc, net, at, run.steps.as_slice())
 }
 
 // The links of a packet, by number, and its last header, from a place on.

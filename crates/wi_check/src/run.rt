@@ -1,16 +1,16 @@
 //! The numbers of a certificate as a run. They may be any: what isn't in the network is found when the run is judged.
-ghost use Rattle.std.specs.Prelude.{◌≡◌, IfOk, unwrap_or, slice_get};
+ghost use Rattle.std.specs.Prelude.{◌≡◌, ◌-◌, IfOk, unwrap_or, slice_get};
 ghost use Rattle.wi_labels.specs.declared.label.Class.TheVariants.{Ip};
 ghost use Rattle.wi_cert.specs.Shown.{IsShown};
-ghost use Rattle.wi_accept.specs.Answers.{run_of, labels_of, steps_of};
+ghost use Rattle.wi_accept.specs.Answers.{run_of, labels_of, steps_of, end_of};
 ghost use Rattle.wi_accept.specs.Causes.{ShowsRun};
 
 use std::alloc::Global;
 use wi_base::{Listed, NoMemory};
-use wi_cert::Shown;
+use wi_cert::{Dropped, Shown};
 use wi_labels::{Class, Header, Label};
 use wi_net::{LinkId, Network};
-use wi_trace::{Run, Step};
+use wi_trace::{End, Run, Step};
 
 /// The run that is shown.
 pub(crate) fn run_of(alloc: Global, net: &Network, shown: &Shown) -> Result<Run, NoMemory>
@@ -28,6 +28,7 @@ pub(crate) fn run_of(alloc: Global, net: &Network, shown: &Shown) -> Result<Run,
         first: LinkId(numbers[0]),
         header,
         steps: Listed::of(steps_of(alloc, shown.steps.as_slice())?),
+        end: end_of(shown.dropped),
     })
 }
 
@@ -61,10 +62,28 @@ fn steps_of(alloc: Global, numbers: &[(u32, u32)]) -> Result<Vec<Step>, NoMemory
 {
     let mut steps = Vec::new(alloc);
     for (group, member) in numbers {
-        steps.push(Step {
-            group: group.saturating_sub(1),
-            member: member.saturating_sub(1),
-        })?;
+        steps.push(step_of(*group, *member))?;
     }
     Ok(steps)
+}
+
+// A step by the numbers of its group and its member, from 1.
+fn step_of(group: u32, member: u32) -> Step
+    ensures { result ≡ record { group = group - 1; member = member - 1 } }
+{
+    Step {
+        group: group.saturating_sub(1),
+        member: member.saturating_sub(1),
+    }
+}
+
+// How the packet ends: it arrives where it isn't said how it is dropped.
+fn end_of(dropped: Option<Dropped>) -> End
+    ensures { result ≡ end_of dropped }
+{
+    match dropped {
+        Some(Dropped::Inactive) => End::Inactive,
+        Some(Dropped::Undefined(group, member)) => End::Undefined(step_of(group, member)),
+        Some(Dropped::Nowhere) | None => End::Arrives,
+    }
 }

@@ -15,16 +15,17 @@ use wi_build::Problem;
 use wi_cert::{CheckRefused, Claim, Part, Shown};
 use wi_trace::{Run, Verdict, moving_fault, verdict};
 
-/// Checks what is shown: the number of terms, and the run if there is one.
+/// Checks what is shown: the question that it is about, the number of terms, and the run if there is one.
 pub(crate) fn check_shown(
     alloc: Global,
     problem: &Problem<'_>,
     shown: &Shown,
 ) -> Result<(), CheckRefused>
     requires text { IsShown shown.now }
-    ensures passed { OnOk result (NoneShown problem.now shown.now 5) }
+    ensures passed { OnOk result (NoneShown problem.now shown.now 6) }
     ensures refused { IfErr result (IsShownRefused problem.now shown.now) }
 {
+    check_question(problem, shown)?;
     check_terms(problem, shown)?;
     if shown.claim == Claim::No {
         return Ok(());
@@ -36,9 +37,22 @@ pub(crate) fn check_shown(
     check_verdict(alloc, problem, shown, &run)
 }
 
+// Checks that it is about packets that are dropped, if these are asked for, and else about those that arrive.
+fn check_question(problem: &Problem<'_>, shown: &Shown) -> Result<(), CheckRefused>
+    ensures passed { OnOk result (NoneShown problem.now shown.now 1) }
+    ensures refused { IfErr result (IsShownRefused problem.now shown.now) }
+{
+    if shown.dropped.is_some() == problem.query().drops {
+        Ok(())
+    } else {
+        Err(CheckRefused::OfAnotherQuestion)
+    }
+}
+
 // Checks that there are as many terms as are asked for.
 fn check_terms(problem: &Problem<'_>, shown: &Shown) -> Result<(), CheckRefused>
-    ensures passed { OnOk result (NoneShown problem.now shown.now 1) }
+    requires before { NoneShown problem.now shown.now 1 }
+    ensures passed { OnOk result (NoneShown problem.now shown.now 2) }
     ensures refused { IfErr result (IsShownRefused problem.now shown.now) }
 {
     problem.keeps();
@@ -62,8 +76,8 @@ fn check_steps(
 ) -> Result<(), CheckRefused>
     requires run { run.now ≡ run_of problem.now.net shown.now }
     requires shows { ShowsRun shown.now }
-    requires before { NoneShown problem.now shown.now 1 }
-    ensures passed { OnOk result (NoneShown problem.now shown.now 2) }
+    requires before { NoneShown problem.now shown.now 2 }
+    ensures passed { OnOk result (NoneShown problem.now shown.now 3) }
     ensures refused { IfErr result (IsShownRefused problem.now shown.now) }
 {
     match moving_fault(alloc, problem.net(), problem.bounds(), run)? {
@@ -81,8 +95,8 @@ fn check_match(
 ) -> Result<(), CheckRefused>
     requires run { run.now ≡ run_of problem.now.net shown.now }
     requires shows { ShowsRun shown.now }
-    requires before { NoneShown problem.now shown.now 2 }
-    ensures passed { OnOk result (NoneShown problem.now shown.now 3) }
+    requires before { NoneShown problem.now shown.now 3 }
+    ensures passed { OnOk result (NoneShown problem.now shown.now 4) }
     ensures refused { IfErr result (IsShownRefused problem.now shown.now) }
 {
     let first = labels_of(alloc, &run.header)?;
@@ -110,8 +124,8 @@ fn check_weight(
     requires text { IsShown shown.now }
     requires run { run.now ≡ run_of problem.now.net shown.now }
     requires shows { ShowsRun shown.now }
-    requires before { NoneShown problem.now shown.now 3 }
-    ensures passed { OnOk result (NoneShown problem.now shown.now 4) }
+    requires before { NoneShown problem.now shown.now 4 }
+    ensures passed { OnOk result (NoneShown problem.now shown.now 5) }
     ensures refused { IfErr result (IsShownRefused problem.now shown.now) }
 {
     let said = weight_of(shown.terms, shown.weight.as_slice());
@@ -134,8 +148,8 @@ fn check_verdict(
     run: &Run,
 ) -> Result<(), CheckRefused>
     requires run { run.now ≡ run_of problem.now.net shown.now }
-    requires before { NoneShown problem.now shown.now 4 }
-    ensures passed { OnOk result (NoneShown problem.now shown.now 5) }
+    requires before { NoneShown problem.now shown.now 5 }
+    ensures passed { OnOk result (NoneShown problem.now shown.now 6) }
     ensures refused { IfErr result (IsShownRefused problem.now shown.now) }
 {
     problem.keeps();

@@ -74,7 +74,7 @@ fn check_nodes(
     left: &mut Vec<Bounds>,
 ) -> Result<(), CheckRefused>
     requires text { IsTreeWritable tree.now }
-    requires shown { NoneInTree problem.now tree.now 8 }
+    requires shown { NoneInTree problem.now tree.now 9 }
     requires none { left.old.items ≡ [] }
     ensures accepted { OnOk result (IsTreeAccepted problem.now tree.now) }
     ensures refused { IfErr result (IsTreeRefused problem.now tree.now) }

@@ -1,6 +1,6 @@
 //! A query of a network, what runs are weighed by, and certificates for it as texts.
 ghost use Rattle.std.specs.Prelude.{IfOk};
-ghost use Rattle.wi_world.specs.Moves.{AreBounds};
+ghost use Rattle.wi_query.specs.Meaning.{IsQueryOf};
 ghost use Rattle.wi_cert.specs.Text.{IsWritable};
 
 use std::alloc::{AllocError, Global};
@@ -12,7 +12,7 @@ use wi_query::{Query, read_query};
 
 /// The query that a text is.
 pub fn query_of(alloc: Global, net: &Network, text: &str) -> Result<Query, Fail>
-    ensures { IfOk result (λ query. AreBounds net.now query.bounds) }
+    ensures { IfOk result (IsQueryOf net.now) }
 {
     match read_query(alloc, net, text) {
         Ok(query) => Ok(query),

@@ -1,5 +1,5 @@
 //! Certificates for queries of small networks, changed here and there, and why each is refused.
-ghost use Rattle.wi_world.specs.Moves.{AreBounds};
+ghost use Rattle.wi_query.specs.Meaning.{IsQueryOf};
 ghost use Rattle.wi_cert.specs.Text.{IsWritable};
 
 use crate::asked::{Change, certificate_of, query_of, text_of, vector_of};
@@ -307,7 +307,7 @@ fn checks(
     weights: Option<&str>,
     certificate: &Certificate,
 ) -> Result<Result<Word, CheckRefused>, Fail>
-    requires bounds { AreBounds net.now query.now.bounds }
+    requires bounds { IsQueryOf net.now query.now }
     requires text { IsWritable certificate.now }
 {
     let vector = vector_of(alloc, weights)?;
@@ -328,7 +328,7 @@ fn said(
     lines: &[&str],
     changes: &[Change],
 ) -> Result<Result<Word, CheckRefused>, Fail>
-    requires { AreBounds net.now query.now.bounds }
+    requires { IsQueryOf net.now query.now }
 {
     let text = text_of(alloc, lines, changes)?;
     let certificate = certificate_of(alloc, text.as_slice())?;
@@ -345,7 +345,7 @@ fn all_said(
     query: &Query,
     sheet: &Sheet,
 ) -> Result<(), Fail>
-    requires { AreBounds net.now query.now.bounds }
+    requires { IsQueryOf net.now query.now }
 {
     for (changes, expected) in sheet.3 {
         let found = said(alloc, net, query, None, sheet.2, changes)?;

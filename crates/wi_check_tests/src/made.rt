@@ -1,6 +1,6 @@
 //! Certificates that the search writes, and changed ones of larger networks.
 ghost use Rattle.std.specs.Prelude.{IfOk};
-ghost use Rattle.wi_world.specs.Moves.{AreBounds};
+ghost use Rattle.wi_query.specs.Meaning.{IsQueryOf};
 ghost use Rattle.wi_cert.specs.Text.{IsWritable};
 
 use crate::asked::{query_of, text_of, vector_of};
@@ -99,7 +99,7 @@ fn accepts_weighed(
     query: &Query,
     case: &Case,
 ) -> Result<(), Fail>
-    requires { AreBounds net.now query.now.bounds }
+    requires { IsQueryOf net.now query.now }
 {
     let vector = vector_of(alloc, case.1)?;
     let outcome = accepts(rt, alloc, &Problem::of(net, query, &vector), case.2);
@@ -168,7 +168,7 @@ fn text_is(
     query: &Query,
     lines: &[&str],
 ) -> Result<(), Fail>
-    requires { AreBounds net.now query.now.bounds }
+    requires { IsQueryOf net.now query.now }
 {
     let vector = Vector::new(alloc);
     let found = made(alloc, &Problem::of(net, query, &vector));

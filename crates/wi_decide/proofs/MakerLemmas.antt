@@ -35,7 +35,7 @@ use Rattle.wi_decide.specs.private.Tables.{IsTable}
 use Rattle.wi_decide.proofs.AnswerLemmas.{goal_fits}
 use Rattle.wi_decide.proofs.RisingLemmas.{added, all_filter, filter_rises, pairs_rise, rows_rise}
 use Rattle.wi_decide.proofs.RowLemmas.{each_row, row_bound, row_terms, rows_distinct, rows_listed}
-use Rattle.wi_decide.proofs.ShowingLemmas.{Shows, shows}
+use Rattle.wi_decide.proofs.ShowingLemmas.{Shows, about_asked, shows}
 use Rattle.wi_decide.proofs.WrittenLemmas.{HasTerms, written_length, written_less}
 
 pub few_terms : (vector : List (List Part)) → is_vector vector ≡ true → length vector ≤ 5
@@ -149,25 +149,26 @@ written_by problem heads pairs cut table found closed terms k v terms_are least 
 
 -- what was written down is the certificate of an answer that shows its bound
 made : (problem : Problem) (a : Answer) (closed : Closed) → IsProblem problem → length problem.vector ≤ 5 → IsWrittenDown problem (option_map components a.weight) closed → IsDecided problem a
-    → IsMaker problem a (record { shown = shown_by (length problem.vector) a; closed = closed })
+    → IsMaker problem a (record { shown = shown_by problem a; closed = closed })
 made problem a closed k few w decided = record {
-  writable = record { shown = seen.shown; closed = w.writable (shown_by (length problem.vector) a) seen.shown refl seen.bound };
+  writable = record { shown = seen.shown; closed = w.writable (shown_by problem a) seen.shown refl seen.bound };
+  about = about_asked problem a;
   terms = refl;
   shows = seen.back;
   least = subst (λ (bound : Option (List ℕ)). AreLeast problem (length problem.vector) bound closed) (sym seen.bound) w.least;
 }
   where
-    seen : Shows problem (length problem.vector) a
+    seen : Shows problem a
     seen = shows problem k few a decided
 
 weight_bound : (found : Option LeastRun) → bound_with None found ≡ option_map components (option_map (λ f. f.weight) found)
 weight_bound None = refl
 weight_bound (Some f) = refl
 
-pub made_by : (problem : Problem) (a : Answer) (found : Option LeastRun) (shown : Shown) (closed : Closed) (terms : ℕ) → IsProblem problem → is_vector problem.vector ≡ true → terms ≡ length problem.vector
-    → IsWrittenDown problem (bound_with None found) closed → IsDecided problem a → a.weight ≡ option_map (λ f. f.weight) found → shown ≡ shown_by terms a → IsMaker problem a (record { shown = shown; closed = closed })
-made_by problem a found shown closed terms k v terms_are w decided same shown_is =
+pub made_by : (problem : Problem) (a : Answer) (found : Option LeastRun) (shown : Shown) (closed : Closed) → IsProblem problem → is_vector problem.vector ≡ true
+    → IsWrittenDown problem (bound_with None found) closed → IsDecided problem a → a.weight ≡ option_map (λ f. f.weight) found → shown ≡ shown_by problem a → IsMaker problem a (record { shown = shown; closed = closed })
+made_by problem a found shown closed k v w decided same shown_is =
     let P : Shown → Type 0 = λ s. IsMaker problem a (record { shown = s; closed = closed }) in
-    subst P (sym (shown_is ∙ ap (λ m. shown_by m a) terms_are))
+    subst P (sym shown_is)
     (made problem a closed k (few_terms problem.vector v)
     (subst (λ (bound : Option (List ℕ)). IsWrittenDown problem bound closed) (weight_bound found ∙ ap (option_map components) (sym same)) w) decided)

@@ -1,8 +1,7 @@
 -- An answer as a certificate shows it is the answer again, and has a text.
-use Rattle.std.proofs.Common.{◌≡◌, ℕ, ◌+◌, ◌-◌, ◌<◌, ◌≤◌, ◌^◌, true, false, ◌&&◌, not, List, [], ◌∷◌, ◌++◌, map, take, drop, length, slice_get, Option, Some, None, refl, sym, ap, ◌∙◌, arith, subst, append_assoc, ◌⊎◌, inl, inr}
-use Rattle.std.specs.Prelude.{option_map, IfSome, slice_index}
+use Rattle.std.proofs.Common.{◌≡◌, ℕ, ◌+◌, ◌-◌, ◌<◌, ◌≤◌, ◌^◌, Bool, true, false, ◌&&◌, not, List, [], ◌∷◌, ◌++◌, map, take, drop, length, slice_get, Option, Some, None, refl, sym, ap, ◌∙◌, arith, subst, append_assoc, ◌⊎◌, inl, inr}
+use Rattle.std.specs.Prelude.{option_map, IfSome, is_some, slice_index}
 use Rattle.std.specs.List.{All}
-use Rattle.std.specs.Option.{option_map_or}
 use Rattle.std.proofs.lemmas.Bool.{and_parts, ltb-true}
 use Rattle.std.proofs.lemmas.List.{length-map}
 use Rattle.std.proofs.lemmas.List.Elements.{All-nil, All-cons, All-map, All-weaker}
@@ -16,28 +15,33 @@ use Rattle.wi_net.specs.Network.{IsNetwork}
 use Rattle.wi_net.specs.Tables.{group_members, members_before}
 use Rattle.wi_world.specs.declared.run.Step.{Step}
 use Rattle.wi_world.specs.declared.run.Run.{Run}
+use Rattle.wi_world.specs.declared.run.End.{End}
+use Rattle.wi_world.specs.declared.run.End.TheVariants.{Arrives, Inactive, Undefined}
 use Rattle.wi_world.specs.declared.answer.Word.{Word}
 use Rattle.wi_world.specs.declared.answer.Word.TheVariants as words
 use Rattle.wi_world.specs.declared.answer.Verdict.{Verdict}
 use Rattle.wi_world.specs.declared.answer.Verdict.TheVariants.{Fits, Exceeds, UsesFailed}
-use Rattle.wi_world.specs.Holds.{Holds, IsInconclusive}
-use Rattle.wi_world.specs.Moves.{Location, moved, follows, is_possible, is_start}
+use Rattle.wi_world.specs.Holds.{Holds, IsInconclusive, is_dropped}
+use Rattle.wi_world.specs.Moves.{Location, is_possible, is_undefined, can_end, is_start}
 use Rattle.wi_world.specs.Moving.{IsMovingRun}
 use Rattle.wi_world.specs.Runs.{verdict_of}
 use Rattle.wi_world.proofs.Allowed.{Names, possible_parts}
 use Rattle.wi_world.proofs.HoldsLaws.{yes_moves}
 use Rattle.wi_world.proofs.MovingLaws.{moving_possible}
+use Rattle.wi_world.proofs.Steps.{goes, goes_on}
 use Rattle.wi_quantity.specs.Weighing.{components}
 use Rattle.wi_trace.specs.declared.answer.Answer.{Answer}
 use Rattle.wi_rules.proofs.Lists.{get_below}
 use Rattle.wi_build.specs.Problems.{Problem, IsProblem, asks, weighs}
 use Rattle.wi_build.specs.Systems.{weight}
 use Rattle.wi_build.proofs.HopLemmas.{group_room, cons_same}
-use Rattle.wi_cert.specs.Shown.{is_no, IsShown}
-use Rattle.wi_accept.specs.Answers.{IsDecided, word_of, padded, labels_of, steps_of, run_of, answer_of}
+use Rattle.wi_cert.specs.declared.shown.Claim.{Claim}
+use Rattle.wi_cert.specs.declared.shown.Claim.TheVariants as claims
+use Rattle.wi_cert.specs.Shown.{is_no, IsShown, MayBeDropped}
+use Rattle.wi_accept.specs.Answers.{IsDecided, word_of, padded, labels_of, steps_of, end_of, run_of, answer_of}
 use Rattle.wi_accept.specs.Causes.{bound_of}
 use Rattle.wi_accept.proofs.UnusedTerms.{run_weighs, take_at}
-use Rattle.wi_decide.specs.Showing.{Weight, claim_for, written, first_numbers, step_numbers, shown_by, IsSmallStep}
+use Rattle.wi_decide.specs.Showing.{Weight, claim_for, written, first_numbers, step_numbers, dropped_at, dropped_by, shown_by, IsSmallStep, IsSmallEnd, IsSmallRun}
 use Rattle.wi_decide.proofs.SpellingLemmas.{classed_is, known_there}
 use Rattle.wi_decide.proofs.WrittenLemmas.{HasTerms, padded_written, written_length}
 
@@ -48,7 +52,7 @@ label_more h i l ns new whole is all put =
     let here : ns ++ map (λ (e : Entry). e.0.0) (l ∷ drop (i + 1) h) ≡ whole = rw (drop_at h i l is) at all in
     rw (put, append_assoc ns (l.0.0 ∷ []) (map (λ (e : Entry). e.0.0) (drop (i + 1) h))) here
 
--- the steps of a moving run are in the tables, so that their numbers are small
+-- the steps of a moving run, and the member that it ends at, are in the tables, so that their numbers are small
 module _ (problem : Problem) (k : IsProblem problem) where
   step_at : (e : LinkId) (header : List Entry) (step : Step) → Names problem.net (e, header) step → IsSmallStep step
   step_at e [] step n = let none : None ≡ Some n.group = n.group_is in cc
@@ -58,22 +62,24 @@ module _ (problem : Problem) (k : IsProblem problem) where
       let low = get_below n.group step.member n.member n.member_is in
       (omega (arith, room.few_groups), omega (arith, room.few_members, low))
 
-  small_steps : (at : Location) (steps : List Step) → follows problem.net (is_possible problem.net problem.bounds) at steps ≡ true → All IsSmallStep steps
-  small_steps at [] h = All-nil IsSmallStep
-  small_steps at (step ∷ steps) h = go (moved problem.net at step) refl p.1 (λ next. small_steps next steps)
-    where
-      p : (is_possible problem.net problem.bounds at step ≡ true) × (option_map_or (λ next. follows problem.net (is_possible problem.net problem.bounds) next steps) (moved problem.net at step) false ≡ true)
-      p = and_parts (is_possible problem.net problem.bounds at step) (option_map_or (λ next. follows problem.net (is_possible problem.net problem.bounds) next steps) (moved problem.net at step) false) h
+  small_end : (at : Location) (end : End) → can_end problem.net problem.bounds at end ≡ true → IsSmallEnd end
+  small_end at Arrives h = tt
+  small_end at Inactive h = tt
+  small_end at (Undefined step) h =
+      let p = and_parts (is_possible problem.net problem.bounds at step) (is_undefined problem.net at step) h in
+      step_at at.0 at.1 step (possible_parts problem.net problem.bounds at step p.0).named
 
-      go : (o : Option Location) → moved problem.net at step ≡ o → option_map_or (λ next. follows problem.net (is_possible problem.net problem.bounds) next steps) (moved problem.net at step) false ≡ true
-          → ((next : Location) → follows problem.net (is_possible problem.net problem.bounds) next steps ≡ true → All IsSmallStep steps) → All IsSmallStep (step ∷ steps)
-      go None e more ih = let none : false ≡ true = rw e at more in cc
-      go (Some next) e more ih = All-cons IsSmallStep step steps (step_at at.0 at.1 step (possible_parts problem.net problem.bounds at step p.0).named) (ih next (rw e at more))
+  small_steps : (end : End) (at : Location) (steps : List Step) → goes problem.net problem.bounds end at steps ≡ true → All IsSmallStep steps × IsSmallEnd end
+  small_steps end at [] h = (All-nil IsSmallStep, small_end at end h)
+  small_steps end at (step ∷ steps) h =
+      let o = goes_on problem.net problem.bounds end at step steps h in
+      let rest = small_steps end o.next steps o.rest in
+      (All-cons IsSmallStep step steps (step_at at.0 at.1 step (possible_parts problem.net problem.bounds at step o.passes).named) rest.0, rest.1)
 
-  pub small_run : (run : Run) → IsMovingRun problem.net problem.bounds run → All IsSmallStep run.steps
+  pub small_run : (run : Run) → IsMovingRun problem.net problem.bounds run → IsSmallRun run
   small_run run moving =
-      small_steps (run.first, run.header) run.steps
-      (and_parts (is_start problem.net problem.bounds.down run.first run.header) (follows problem.net (is_possible problem.net problem.bounds) (run.first, run.header) run.steps)
+      small_steps run.end (run.first, run.header) run.steps
+      (and_parts (is_start problem.net problem.bounds.down run.first run.header) (goes problem.net problem.bounds run.end (run.first, run.header) run.steps)
       (moving_possible problem.net problem.bounds run k.network k.bounds_of moving)).1
 
 -- an answer that shows nothing, and one that shows a run
@@ -90,6 +96,7 @@ pub record ShowsRun (problem : Problem) (a : Answer) : Type 0 where
   pub shows : is_no (claim_for word) ≡ false
   pub is : shown_run problem word w r ≡ a
   pub moving : IsMovingRun problem.net problem.bounds r
+  pub drops : is_dropped r.end ≡ (asks problem).drops
   pub weight : weighs problem r ≡ components w
 
 -- an answer that holds is one of them
@@ -103,6 +110,7 @@ module _ (problem : Problem) (k : IsProblem problem) where
     shows = refl;
     is = ap (λ (x : Verdict). record { word = words.Inconclusive; weight = Some w; run = Some r; verdict = Some x }) h.verdict;
     moving = h.moving;
+    drops = h.matches.end;
     weight = h.weight;
   }
 
@@ -122,6 +130,7 @@ module _ (problem : Problem) (k : IsProblem problem) where
     shows = refl;
     is = ap (λ (x : Verdict). record { word = words.Yes; weight = Some w; run = Some r; verdict = Some x }) h.verdict;
     moving = yes_moves problem.net (asks problem) k.network k.bounds_of (weighs problem) (components w) r fails h;
+    drops = h.matches.end;
     weight = h.weight;
   })
   by_word words.Yes (Some w) (Some r) (Some (Exceeds n)) h = absurd h
@@ -136,14 +145,14 @@ module _ (problem : Problem) (k : IsProblem problem) where
   pub either : (a : Answer) → IsDecided problem a → (nothing ≡ a) ⊎ ShowsRun problem a
   either a h = by_word a.word a.weight a.run a.verdict h
 
-  -- and the steps of its run are small
-  pub small_either : (a : Answer) → (nothing ≡ a) ⊎ ShowsRun problem a → IfSome a.run (λ r. All IsSmallStep r.steps)
+  -- and the numbers of its run are small
+  pub small_either : (a : Answer) → (nothing ≡ a) ⊎ ShowsRun problem a → IfSome a.run IsSmallRun
   small_either a h = elim h [
-    | inl e ↦ subst (λ (x : Answer). IfSome x.run (λ r. All IsSmallStep r.steps)) e tt
-    | inr f ↦ subst (λ (x : Answer). IfSome x.run (λ r. All IsSmallStep r.steps)) f.is (small_run problem k f.r f.moving)
+    | inl e ↦ subst (λ (x : Answer). IfSome x.run IsSmallRun) e tt
+    | inr f ↦ subst (λ (x : Answer). IfSome x.run IsSmallRun) f.is (small_run problem k f.r f.moving)
   ]
 
-  pub small_answer : (a : Answer) → IsDecided problem a → IfSome a.run (λ r. All IsSmallStep r.steps)
+  pub small_answer : (a : Answer) → IsDecided problem a → IfSome a.run IsSmallRun
   small_answer a h = small_either a (either a h)
 
 -- numbers are read back as what they were written for
@@ -162,6 +171,43 @@ one_back s =
 steps_back : (steps : List Step) → steps_of (step_numbers steps) ≡ steps
 steps_back [] = refl
 steps_back (s ∷ steps) = cons_same (one_back s) (steps_back steps)
+
+-- so is the end of a run, where its packet is dropped just if that is asked for
+dropped_back : (end : End) → is_dropped end ≡ true → end_of (Some (dropped_at end)) ≡ end
+dropped_back Arrives h = let none : false ≡ true = h in cc
+dropped_back Inactive h = refl
+dropped_back (Undefined s) h = ap Undefined (one_back s)
+
+arrives_back : (end : End) → is_dropped end ≡ false → Arrives ≡ end
+arrives_back Arrives h = refl
+arrives_back Inactive h = let none : true ≡ false = h in cc
+arrives_back (Undefined s) h = let none : true ≡ false = h in cc
+
+end_back : (drops : Bool) (r : Run) → is_dropped r.end ≡ drops → end_of (dropped_by drops (Some r)) ≡ r.end
+end_back true r h = dropped_back r.end h
+end_back false r h = arrives_back r.end h
+
+-- how a packet is dropped may be shown so: of a run that is shown its end, of a no none
+may_be_dropped : (claim : Claim) (end : End) → is_no claim ≡ false → is_dropped end ≡ true → MayBeDropped claim (Some (dropped_at end))
+may_be_dropped claim Arrives shows h = let none : false ≡ true = h in cc
+may_be_dropped claim Inactive shows h = shows
+may_be_dropped claim (Undefined s) shows h = (shows, omega arith, omega arith)
+
+run_may_be_dropped : (claim : Claim) (drops : Bool) (r : Run) → is_no claim ≡ false → is_dropped r.end ≡ drops → MayBeDropped claim (dropped_by drops (Some r))
+run_may_be_dropped claim true r shows h = may_be_dropped claim r.end shows h
+run_may_be_dropped claim false r shows h = tt
+
+no_may_be_dropped : (drops : Bool) → MayBeDropped claims.No (dropped_by drops None)
+no_may_be_dropped true = refl
+no_may_be_dropped false = tt
+
+-- a certificate says how packets are dropped exactly where this is asked for
+about_drops : (drops : Bool) (run : Option Run) → is_some (dropped_by drops run) ≡ drops
+about_drops true run = refl
+about_drops false run = refl
+
+pub about_asked : (problem : Problem) (a : Answer) → is_some (shown_by problem a).dropped ≡ (asks problem).drops
+about_asked problem a = about_drops (asks problem).drops a.run
 
 word_back : (word : Word) → word_of (claim_for word) ≡ word
 word_back words.Yes = refl
@@ -192,32 +238,41 @@ kept_run problem r moving =
     let p3 = and_parts (is_link problem.net r.first) (not (has problem.bounds.down r.first)) p2.0 in
     record { link = ltb-true r.first.0 (length problem.net.links) p3.0; some = some_label r.header p2.1; known = p1.1 }
 
--- what holds of an answer as a certificate shows it, with so many terms
-pub record Shows (problem : Problem) (n : ℕ) (a : Answer) : Type 0 where
-  pub back : answer_of problem (shown_by n a) ≡ a
-  pub shown : IsShown (shown_by n a)
-  pub bound : bound_of (shown_by n a) ≡ option_map components a.weight
-
-shows_nothing : (problem : Problem) (n : ℕ) → n ≤ 5 → Shows problem n nothing
-shows_nothing problem n few = record {
-  back = refl;
-  shown = record { terms = few; weight = refl; first = refl; no_steps = λ e. refl; steps = All-nil (λ x. (0 < x.0) × (0 < x.1)) };
-  bound = refl;
-}
+-- what holds of an answer as a certificate shows it
+pub record Shows (problem : Problem) (a : Answer) : Type 0 where
+  pub back : answer_of problem (shown_by problem a) ≡ a
+  pub shown : IsShown (shown_by problem a)
+  pub bound : bound_of (shown_by problem a) ≡ option_map components a.weight
 
 module _ (problem : Problem) (k : IsProblem problem) (few : length problem.vector ≤ 5) where
+  shows_nothing : Shows problem nothing
+  shows_nothing = record {
+    back = refl;
+    shown = record {
+      terms = few;
+      weight = refl;
+      first = refl;
+      no_steps = λ e. refl;
+      steps = All-nil (λ x. (0 < x.0) × (0 < x.1));
+      dropped = no_may_be_dropped (asks problem).drops;
+    };
+    bound = refl;
+  }
+
   -- the terms that the vector hasn't are 0
   run_terms : (w : Weight) (r : Run) → weighs problem r ≡ components w → HasTerms (length problem.vector) w
   run_terms w r e i past low = take_at 5 (components w) i (ap (λ xs. slice_index xs i) (sym e) ∙ run_weighs problem r i past low)
 
-  run_back : (word : Word) (w : Weight) (r : Run) → IsKept problem.net r → run_of problem.net (shown_by (length problem.vector) (shown_run problem word w r)) ≡ r
-  run_back word w r kept =
-      ap (λ (h : List Entry). record { first = r.first; header = h; steps = steps_of (step_numbers r.steps) }) (labels_back problem.net r.header kept.known)
-      ∙ ap (λ (xs : List Step). record { first = r.first; header = r.header; steps = xs }) (steps_back r.steps)
+  run_back : (word : Word) (w : Weight) (r : Run) → IsKept problem.net r → is_dropped r.end ≡ (asks problem).drops → run_of problem.net (shown_by problem (shown_run problem word w r)) ≡ r
+  run_back word w r kept drops =
+      let end = end_of (dropped_by (asks problem).drops (Some r)) in
+      ap (λ (h : List Entry). record { first = r.first; header = h; steps = steps_of (step_numbers r.steps); end = end }) (labels_back problem.net r.header kept.known)
+      ∙ ap (λ (xs : List Step). record { first = r.first; header = r.header; steps = xs; end = end }) (steps_back r.steps)
+      ∙ ap (λ (x : End). record { first = r.first; header = r.header; steps = r.steps; end = x }) (end_back (asks problem).drops r drops)
 
-  shows_run : (word : Word) (w : Weight) (r : Run) → is_no (claim_for word) ≡ false → IsMovingRun problem.net problem.bounds r → weighs problem r ≡ components w
-      → Shows problem (length problem.vector) (shown_run problem word w r)
-  shows_run word w r shows moving e = record {
+  shows_run : (word : Word) (w : Weight) (r : Run) → is_no (claim_for word) ≡ false → IsMovingRun problem.net problem.bounds r → is_dropped r.end ≡ (asks problem).drops → weighs problem r ≡ components w
+      → Shows problem (shown_run problem word w r)
+  shows_run word w r shows moving drops e = record {
     back = rw shows back;
     shown = record {
       terms = few;
@@ -225,6 +280,7 @@ module _ (problem : Problem) (k : IsProblem problem) (few : length problem.vecto
       first = rw shows long;
       no_steps = λ no. let none : false ≡ true = sym shows ∙ no in cc;
       steps = All-map (λ x. (0 < x.0) × (0 < x.1)) (λ s. (s.group + 1, s.member + 1)) r.steps (All-weaker IsSmallStep (λ (s : Step). (0 < s.group + 1) × (0 < s.member + 1)) (λ s h. (omega arith, omega arith)) r.steps small);
+      dropped = run_may_be_dropped (claim_for word) (asks problem).drops r shows drops;
     };
     bound = rw shows (ap (λ x. Some x) (padded_written (length problem.vector) w few terms));
   }
@@ -236,7 +292,7 @@ module _ (problem : Problem) (k : IsProblem problem) (few : length problem.vecto
       terms = run_terms w r e
 
       small : All IsSmallStep r.steps
-      small = small_run problem k r moving
+      small = (small_run problem k r moving).0
 
       long : 1 < length (first_numbers r.first r.header)
       long = omega (arith, kept.some, length-map r.header (λ (l : Entry). l.0.0))
@@ -244,23 +300,23 @@ module _ (problem : Problem) (k : IsProblem problem) (few : length problem.vecto
       back : record {
         word = word_of (claim_for word);
         weight = Some (weight (padded (length problem.vector) (written (length problem.vector) w)));
-        run = Some (run_of problem.net (shown_by (length problem.vector) (shown_run problem word w r)));
-        verdict = Some (verdict_of problem.net problem.bounds (run_of problem.net (shown_by (length problem.vector) (shown_run problem word w r))));
+        run = Some (run_of problem.net (shown_by problem (shown_run problem word w r)));
+        verdict = Some (verdict_of problem.net problem.bounds (run_of problem.net (shown_by problem (shown_run problem word w r))));
       } ≡ shown_run problem word w r
       back =
           let make : Word → List ℕ → Run → Answer = λ v x y. record { word = v; weight = Some (weight x); run = Some y; verdict = Some (verdict_of problem.net problem.bounds y) } in
-          let written_run = run_of problem.net (shown_by (length problem.vector) (shown_run problem word w r)) in
+          let written_run = run_of problem.net (shown_by problem (shown_run problem word w r)) in
           ap (λ v. make v (padded (length problem.vector) (written (length problem.vector) w)) written_run) (word_back word)
           ∙ ap (λ x. make word x written_run) (padded_written (length problem.vector) w few terms)
-          ∙ ap (λ y. make word (components w) y) (run_back word w r kept)
+          ∙ ap (λ y. make word (components w) y) (run_back word w r kept drops)
 
   -- an answer that shows nothing is shown, and one that shows a run
-  pub shows_either : (a : Answer) → (nothing ≡ a) ⊎ ShowsRun problem a → Shows problem (length problem.vector) a
+  pub shows_either : (a : Answer) → (nothing ≡ a) ⊎ ShowsRun problem a → Shows problem a
   shows_either a h = elim h [
-    | inl e ↦ subst (λ (x : Answer). Shows problem (length problem.vector) x) e (shows_nothing problem (length problem.vector) few)
-    | inr f ↦ subst (λ (x : Answer). Shows problem (length problem.vector) x) f.is (shows_run f.word f.w f.r f.shows f.moving f.weight)
+    | inl e ↦ subst (λ (x : Answer). Shows problem x) e shows_nothing
+    | inr f ↦ subst (λ (x : Answer). Shows problem x) f.is (shows_run f.word f.w f.r f.shows f.moving f.drops f.weight)
   ]
 
   -- so one that holds is
-  pub shows : (a : Answer) → IsDecided problem a → Shows problem (length problem.vector) a
+  pub shows : (a : Answer) → IsDecided problem a → Shows problem a
   shows a h = shows_either a (either problem k a h)

@@ -16,13 +16,15 @@ use Rattle.wi_net.specs.LinkSet.{has}
 use Rattle.wi_net.specs.Net.{Net, is_link, label_known, labels_known}
 use Rattle.wi_net.specs.Network.{IsNetwork}
 use Rattle.wi_world.specs.declared.run.Step.{Step}
+use Rattle.wi_world.specs.declared.run.End.{End}
+use Rattle.wi_world.specs.declared.run.End.TheVariants.{Arrives}
 use Rattle.wi_world.specs.declared.run.Run.{Run}
 use Rattle.wi_quantity.specs.Weighing.{components}
 use Rattle.wi_pds.specs.declared.rule.Rule.{Rule}
 use Rattle.wi_pds.specs.declared.rule.RuleId.{RuleId}
 use Rattle.wi_witness.specs.GoalRuns.{IsNamedRun, Names}
 use Rattle.wi_rules.specs.declared.spot.Origin.{Origin}
-use Rattle.wi_rules.specs.declared.spot.Origin.TheVariants.{Pushed, SetOut, Hop, Operation, Nothing}
+use Rattle.wi_rules.specs.declared.spot.Origin.TheVariants.{Pushed, SetOut, Hop, Operation, Ending, Nothing}
 use Rattle.wi_rules.specs.Goals.{main_origin, origins_for, hops_of}
 use Rattle.wi_rules.specs.Numbers.{Layout, origins_by}
 use Rattle.wi_rules.proofs.Ops.{class_known}
@@ -36,7 +38,7 @@ use Rattle.wi_accept.proofs.RuleLemmas.{rules_tell}
 
 -- what is told of a whole run
 abbrev pub whole : Run → Spelled
-whole run = record { from_bottom = reverse run.header; first = Some run.first; steps = run.steps }
+whole run = record { from_bottom = reverse run.header; first = Some run.first; steps = run.steps; end = run.end }
 
 -- what is told once all this was read
 abbrev with_all : Net → Spelled → List Origin → Spelled
@@ -71,16 +73,16 @@ module _ (net : Net) where
       ∙ ap (λ (x : List Entry). with_all net (record s { from_bottom = x }) os) (append_assoc s.from_bottom (classed net l.0 ∷ []) ls)
       ∙ ap (λ (e : Entry). with_all net (record s { from_bottom = s.from_bottom ++ e ∷ ls }) os) (classed_is net l p.0)
 
-  hopped_all : (s : Spelled) (steps : List Step) → with_all net s (hops_of steps) ≡ record s { steps = s.steps ++ steps }
-  hopped_all s [] = ap (λ (x : List Step). record s { steps = x }) (sym (append-nil s.steps))
-  hopped_all s (step ∷ steps) =
-      hopped_all (with_origin net s (Hop step)) steps
-      ∙ ap (λ (x : List Step). record s { steps = x }) (append_assoc s.steps (step ∷ []) steps)
+  hopped_all : (s : Spelled) (steps : List Step) (os : List Origin) → with_all net s (hops_of steps ++ os) ≡ with_all net (record s { steps = s.steps ++ steps }) os
+  hopped_all s [] os = ap (λ (x : List Step). with_all net (record s { steps = x }) os) (sym (append-nil s.steps))
+  hopped_all s (step ∷ steps) os =
+      hopped_all (with_origin net s (Hop step)) steps os
+      ∙ ap (λ (x : List Step). with_all net (record s { steps = x }) os) (append_assoc s.steps (step ∷ []) steps)
 
   told_whole : (run : Run) → labels_known net run.header ≡ true → with_all net unspelled (origins_for run) ≡ whole run
   told_whole run k =
-      pushed_all unspelled (reverse run.header) (SetOut run.first ∷ hops_of run.steps) (known_reversed run.header k)
-      ∙ hopped_all (record { from_bottom = reverse run.header; first = Some run.first; steps = [] }) run.steps
+      pushed_all unspelled (reverse run.header) (SetOut run.first ∷ (hops_of run.steps ++ Ending run.end ∷ [])) (known_reversed run.header k)
+      ∙ hopped_all (record { from_bottom = reverse run.header; first = Some run.first; steps = []; end = Arrives }) run.steps (Ending run.end ∷ [])
 
   -- the labels of a header are the network's
   pushes_known : (ls : List Entry) (os : List Origin) → IsNetwork net → labels_known net ls ≡ true → list_all (is_origin_of net) os ≡ true
@@ -91,12 +93,13 @@ module _ (net : Net) where
       and_from (nat_lt l.0.0 (length net.labels)) (list_all (is_origin_of net) (map (λ (l : Entry). Pushed l.0) ls ++ os))
       (lt-ltb l.0.0 (length net.labels) (known_there net l k p.0)) (pushes_known ls os k p.1 rest)
 
-  hops_known : (steps : List Step) → list_all (is_origin_of net) (hops_of steps) ≡ true
-  hops_known [] = refl
-  hops_known (step ∷ steps) = hops_known steps
+  hops_known : (steps : List Step) (end : End) → list_all (is_origin_of net) (hops_of steps ++ Ending end ∷ []) ≡ true
+  hops_known [] end = refl
+  hops_known (step ∷ steps) end = hops_known steps end
 
   told_known : (run : Run) → IsNetwork net → labels_known net run.header ≡ true → list_all (is_origin_of net) (origins_for run) ≡ true
-  told_known run k known = pushes_known (reverse run.header) (SetOut run.first ∷ hops_of run.steps) k (known_reversed run.header known) (hops_known run.steps)
+  told_known run k known =
+      pushes_known (reverse run.header) (SetOut run.first ∷ (hops_of run.steps ++ Ending run.end ∷ [])) k (known_reversed run.header known) (hops_known run.steps run.end)
 
   module _ (rules : ℕ → ℕ → List (Rule (Pair Terms Effort))) where
     -- the rule that the first of some ids names
@@ -109,6 +112,7 @@ module _ (net : Net) where
     told_one s (SetOut e) os = refl
     told_one s (Hop step) os = refl
     told_one s (Operation m i) os = refl
+    told_one s (Ending end) os = refl
     told_one s Nothing os = refl
 
     names_tell : (s : Spelled) (p : ℕ) (stack : List ℕ) (ids : List RuleId) (rs : List (Rule (Pair Terms Effort))) → Names rules p stack ids rs
@@ -130,6 +134,7 @@ module _ (net : Net) where
     known_one (SetOut e) os h = (refl, h)
     known_one (Hop step) os h = (refl, h)
     known_one (Operation m i) os h = (refl, h)
+    known_one (Ending end) os h = (refl, h)
     known_one Nothing os h = (refl, h)
 
     names_known : (p : ℕ) (stack : List ℕ) (ids : List RuleId) (rs : List (Rule (Pair Terms Effort))) → Names rules p stack ids rs
@@ -192,6 +197,8 @@ spelled_same s run told is e =
     let same_first : run.first ≡ told.first = cc in
     let same_header : run.header ≡ told.header = is.header ∙ ap (λ (x : Spelled). reverse x.from_bottom) e ∙ reverse-reverse told.header in
     let same_steps : run.steps ≡ told.steps = is.steps ∙ ap (λ (x : Spelled). x.steps) e in
-    ap (λ (x : LinkId). record { first = x; header = run.header; steps = run.steps }) same_first
-    ∙ ap (λ (x : List Entry). record { first = told.first; header = x; steps = run.steps }) same_header
-    ∙ ap (λ (x : List Step). record { first = told.first; header = told.header; steps = x }) same_steps
+    let same_end : run.end ≡ told.end = is.end ∙ ap (λ (x : Spelled). x.end) e in
+    ap (λ (x : LinkId). record { first = x; header = run.header; steps = run.steps; end = run.end }) same_first
+    ∙ ap (λ (x : List Entry). record { first = told.first; header = x; steps = run.steps; end = run.end }) same_header
+    ∙ ap (λ (x : List Step). record { first = told.first; header = told.header; steps = x; end = run.end }) same_steps
+    ∙ ap (λ (x : End). record { first = told.first; header = told.header; steps = told.steps; end = x }) same_end

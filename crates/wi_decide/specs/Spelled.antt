@@ -1,4 +1,5 @@
--- The run that the rules of a goal run spell: the labels of its first header from the bottom, its first link, its steps.
+-- The run that the rules of a goal run spell: the labels of its first header from the bottom, its first link, its
+-- steps, its end.
 use Rattle.std.specs.Prelude.{◌≡◌, ℕ, List}
 use Rattle.wi_weight.specs.declared.kinds.Pair.{Pair}
 use Rattle.wi_weight.specs.declared.kinds.Terms.{Terms}

@@ -8,12 +8,13 @@ ghost use Rattle.wi_weight.specs.Weights.{EachBelow};
 ghost use Rattle.wi_quantity.specs.Weighing.{components};
 ghost use Rattle.wi_pds.specs.Pairs.{pair_cmp};
 ghost use Rattle.wi_cert.specs.Order.{row_below};
-ghost use Rattle.wi_decide.specs.Showing.{written, claim_for, first_numbers, step_numbers, shown_by, IsSmallStep};
+ghost use Rattle.wi_decide.specs.Showing.{written, claim_for, first_numbers, step_numbers, dropped_at, dropped_by, shown_by, IsSmallStep, IsSmallEnd, IsSmallRun};
 ghost use Rattle.wi_decide.specs.private.Certificates.{row_by, is_below, rows_below, IsFitting};
 
 use std::alloc::Global;
 use wi_base::{Listed, NoMemory};
-use wi_cert::{Claim, Closed, Numbers, Row, Shown};
+use wi_build::Problem;
+use wi_cert::{Claim, Closed, Dropped, Numbers, Row, Shown};
 use wi_labels::Header;
 use wi_net::LinkId;
 use wi_pds::Heads;
@@ -21,15 +22,16 @@ use wi_quantity::Weight;
 use wi_saturate::Table;
 use wi_trace::Answer;
 use wi_weight::Domain;
-use wi_world::{Run, Step, Word};
+use wi_world::{End, Run, Step, Word};
 
-/// The answer as a certificate shows it, with so many terms in its weight, whose components are at most 2^64 - 1.
-pub fn shown_of(alloc: Global, terms: u32, answer: &Answer) -> Result<Shown, NoMemory>
-    requires few { terms ≤ 5 }
+/// The answer to a problem as a certificate shows it; the components of its weight are at most 2^64 - 1.
+pub fn shown_of(alloc: Global, problem: &Problem<'_>, answer: &Answer) -> Result<Shown, NoMemory>
     requires fits { IfSome answer.now.weight (λ w. EachBelow (2 ^ 64) (components w)) }
-    requires steps { IfSome answer.now.run (λ run. All IsSmallStep run.steps) }
-    ensures { IfOk result (λ shown. shown ≡ shown_by terms answer.now) }
+    requires numbers { IfSome answer.now.run IsSmallRun }
+    ensures { IfOk result (λ shown. shown ≡ shown_by problem.now answer.now) }
 {
+    problem.keeps();
+    let terms = problem.terms() as u32;
     let weight = weight_of(alloc, terms, &answer.weight)?;
     let first = first_of(alloc, &answer.run)?;
     let steps = steps_of(alloc, &answer.run)?;
@@ -39,6 +41,7 @@ pub fn shown_of(alloc: Global, terms: u32, answer: &Answer) -> Result<Shown, NoM
         weight: Listed::of(weight),
         first: Listed::of(first),
         steps: Listed::of(steps),
+        dropped: dropped_by(problem.query().drops, &answer.run),
     })
 }
 
@@ -135,7 +138,7 @@ fn first_numbers(alloc: Global, first: LinkId, header: &Header) -> Result<Vec<u3
 }
 
 fn steps_of(alloc: Global, run: &Option<Run>) -> Result<Vec<(u32, u32)>, NoMemory>
-    requires { IfSome run.now (λ r. All IsSmallStep r.steps) }
+    requires { IfSome run.now IsSmallRun }
     ensures { IfOk result (λ pairs. pairs.items ≡ option_map_or (λ r. step_numbers r.steps) run.now []) }
 {
     match run {
@@ -154,6 +157,31 @@ fn step_numbers(alloc: Global, steps: &[Step]) -> Result<Vec<(u32, u32)>, NoMemo
         pairs.push((step.group + 1, step.member + 1))?;
     }
     Ok(pairs)
+}
+
+// How the packet of a run is dropped, where this is asked for.
+fn dropped_by(drops: bool, run: &Option<Run>) -> Option<Dropped>
+    requires { IfSome run.now IsSmallRun }
+    ensures { result ≡ dropped_by drops run.now }
+{
+    if !drops {
+        return None;
+    }
+    match run {
+        Some(run) => Some(dropped_at(run.end)),
+        None => Some(Dropped::Nowhere),
+    }
+}
+
+fn dropped_at(end: End) -> Dropped
+    requires { IsSmallEnd end }
+    ensures { result ≡ dropped_at end }
+{
+    match end {
+        End::Arrives => Dropped::Nowhere,
+        End::Inactive => Dropped::Inactive,
+        End::Undefined(step) => Dropped::Undefined(step.group + 1, step.member + 1),
+    }
 }
 
 // The rows of a table that weigh less than its goal, by spot, symbol and target.

@@ -31,7 +31,7 @@ pub fn decide(alloc: Global, problem: &Problem<'_>) -> Result<(Answer, Certifica
     let searched = search(alloc, problem, None)?;
     let Searched { found, closed } = searched;
     let answer = answer_of(alloc, problem, found)?;
-    let shown = shown_of(alloc, problem.terms() as u32, &answer)?;
+    let shown = shown_of(alloc, problem, &answer)?;
     Ok((answer, Certificate { shown, closed }))
 }
 

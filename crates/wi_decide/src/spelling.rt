@@ -1,7 +1,7 @@
 //! The run is read off what the rules stand for, one after the other: the labels of the first header from the bottom up, the
-//! first link, and the steps. A goal run has its rules by name, so that for each of them the rules of its head are made once
-//! more.
-ghost use Rattle.std.specs.Prelude.{◌≡◌, ◌∷◌, [], ℕ, List, true, Some, IsSome, IfOk, OnOk};
+//! first link, the steps, and the end. A goal run has its rules by name, so that for each of them the rules of its head are made
+//! once more.
+ghost use Rattle.std.specs.Prelude.{◌≡◌, ℕ, List, true, Some, IsSome, IfOk, OnOk};
 ghost use Rattle.std.specs.List.{list_all, All};
 ghost use Rattle.wi_witness.specs.GoalRuns.{IsNamedRun};
 ghost use Rattle.wi_quantity.specs.Weighing.{components};
@@ -21,7 +21,7 @@ use wi_net::{LinkId, Network};
 use wi_pds::{Rule, RuleId, System};
 use wi_quantity::Weight;
 use wi_rules::Origin;
-use wi_world::{Run, Step};
+use wi_world::{End, Run, Step};
 
 // A run as far as rules have told of it.
 #[derive(Drop)]
@@ -30,6 +30,7 @@ struct Spelling {
     from_bottom: Vec<(Label, Class)>,
     first: Option<LinkId>,
     steps: Vec<Step>,
+    end: End,
 }
 
 impl Model for Spelling {
@@ -37,7 +38,7 @@ impl Model for Spelling {
 
     ghost Value = { Spelled };
 
-    ghost view = { λ s. record { from_bottom = s.from_bottom.items; first = s.first; steps = s.steps.items } };
+    ghost view = { λ s. record { from_bottom = s.from_bottom.items; first = s.first; steps = s.steps.items; end = s.end } };
 }
 
 impl Spelling {
@@ -48,6 +49,7 @@ impl Spelling {
             from_bottom: Vec::new(alloc),
             first: None,
             steps: Vec::new(alloc),
+            end: End::Arrives,
         }
     }
 
@@ -60,6 +62,7 @@ impl Spelling {
             Origin::Pushed(label) => self.from_bottom.push((label, net.class(label)))?,
             Origin::SetOut(link) => self.first = Some(link),
             Origin::Hop(step) => self.steps.push(step)?,
+            Origin::Ending(end) => self.end = end,
             Origin::Operation(_, _) | Origin::Nothing => {}
         }
         Ok(())
@@ -74,12 +77,14 @@ impl Spelling {
             mut from_bottom,
             first,
             steps,
+            end,
         } = self;
         from_bottom.reverse();
         Ok(Run {
             first: first.unwrap(),
             header: header_of(alloc, from_bottom.as_slice())?,
             steps: Listed::of(steps),
+            end,
         })
     }
 }

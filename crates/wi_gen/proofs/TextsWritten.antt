@@ -14,6 +14,7 @@ use Rattle.wi_syntax.specs.declared.token.Token.TheVariants as token
 use Rattle.wi_syntax.specs.Tokens.{IsTokens}
 use Rattle.wi_syntax.specs.declared.written.LabelAtom.TheVariants as label
 use Rattle.wi_syntax.specs.declared.written.End.TheVariants as end
+use Rattle.wi_syntax.specs.declared.written.Last.TheVariants.{Header}
 use Rattle.wi_syntax.specs.declared.written.LinkAtom.{LinkAtom}
 use Rattle.wi_syntax.specs.declared.written.LinkAtom.TheVariants as link
 use Rattle.wi_syntax.specs.declared.written.Sign.TheVariants as sign
@@ -49,7 +50,7 @@ written digits = record {
   path =
       sign.Atom first_link ∷ sign.Atom link.Any ∷ sign.Star ∷ sign.Atom back_link ∷ sign.Atom link.Any ∷ sign.Star
       ∷ sign.Atom (last_link digits) ∷ [];
-  last = sign.Atom (label.Name (plain (34 + length digits) (codes "ip0"))) ∷ [];
+  last = Header (sign.Atom (label.Name (plain (34 + length digits) (codes "ip0"))) ∷ []);
   number = plain (39 + length digits) (codes "2");
   down = None;
   up = None;

@@ -39,11 +39,11 @@ goes_only net fails e header last links start leads = go (goes net fails (e, hea
     go : Goes net fails (e, header) leads.later → GoesOnly net fails e header (e ∷ links) last
     go g = record {
       steps = g.steps;
-      trace = and_from (is_start net fails e header) (follows net (is_usable net fails) (e, header) g.steps) start g.follow;
+      trace = and_from (is_start net fails e header) (follows net (is_usable net fails) (λ place. true) (e, header) g.steps) start g.follow;
       along = ap (λ ps. map (λ (p : Location). p.0) ps) g.along ∙ ap (λ es. e ∷ es) leads.along;
       ends = g.ends ∙ leads.ends;
       stays = λ step. rw start (g.stays step);
-      begun = λ others trace. g.begun others ((and_parts (is_start net fails e header) (follows net (is_usable net fails) (e, header) others) trace).1);
+      begun = λ others trace. g.begun others ((and_parts (is_start net fails e header) (follows net (is_usable net fails) (λ place. true) (e, header) others) trace).1);
     }
 
 -- where no link failed

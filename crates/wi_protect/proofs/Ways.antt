@@ -30,15 +30,15 @@ last_at at (next ∷ later) = last_at next later
 -- what such a way comes to
 pub record Goes (net : Net) (fails : List LinkId) (at : Location) (later : List Location) : Type 0 where
   pub steps : List Step
-  pub follow : follows net (is_usable net fails) at steps ≡ true
+  pub follow : follows net (is_usable net fails) (λ place. true) at steps ≡ true
   pub along : locations net at steps ≡ at ∷ later
   pub ends : last_header net at steps ≡ (last_at at later).1
-  pub stays : (s : Step) → follows net (is_usable net fails) at (steps ++ s ∷ []) ≡ false
-  pub begun : (others : List Step) → follows net (is_usable net fails) at others ≡ true → IsPrefix others steps
+  pub stays : (s : Step) → follows net (is_usable net fails) (λ place. true) at (steps ++ s ∷ []) ≡ false
+  pub begun : (others : List Step) → follows net (is_usable net fails) (λ place. true) at others ≡ true → IsPrefix others steps
 
-follow_parts : (net : Net) (fails : List LinkId) (at : Location) (s : Step) (steps : List Step) → follows net (is_usable net fails) at (s ∷ steps) ≡ true
-    → (is_usable net fails at s ≡ true) × (option_map_or (λ (next : Location). follows net (is_usable net fails) next steps) (moved net at s) false ≡ true)
-follow_parts net fails at s steps h = and_parts (is_usable net fails at s) (option_map_or (λ (next : Location). follows net (is_usable net fails) next steps) (moved net at s) false) h
+follow_parts : (net : Net) (fails : List LinkId) (at : Location) (s : Step) (steps : List Step) → follows net (is_usable net fails) (λ place. true) at (s ∷ steps) ≡ true
+    → (is_usable net fails at s ≡ true) × (option_map_or (λ (next : Location). follows net (is_usable net fails) (λ place. true) next steps) (moved net at s) false ≡ true)
+follow_parts net fails at s steps h = and_parts (is_usable net fails at s) (option_map_or (λ (next : Location). follows net (is_usable net fails) (λ place. true) next steps) (moved net at s) false) h
 
 pub goes : (net : Net) (fails : List LinkId) (at : Location) (later : List Location) → Way net fails at later → Goes net fails at later
 goes net fails at [] way = record {
@@ -50,7 +50,7 @@ goes net fails at [] way = record {
   begun = begun;
 }
   where
-    begun : (others : List Step) → follows net (is_usable net fails) at others ≡ true → IsPrefix others []
+    begun : (others : List Step) → follows net (is_usable net fails) (λ place. true) at others ≡ true → IsPrefix others []
     begun [] h = ([], refl)
     begun (s ∷ others) h = absurd (true≢false (sym (follow_parts net fails at s others h).0 ∙ way s))
 goes net fails at (next ∷ later) (hop, way) = go (goes net fails next later way)
@@ -58,19 +58,19 @@ goes net fails at (next ∷ later) (hop, way) = go (goes net fails next later wa
     go : Goes net fails next later → Goes net fails at (next ∷ later)
     go g = record {
       steps = hop.step ∷ g.steps;
-      follow = and_from (is_usable net fails at hop.step) (option_map_or (λ (n : Location). follows net (is_usable net fails) n g.steps) (moved net at hop.step) false) hop.usable (rw hop.moves g.follow);
+      follow = and_from (is_usable net fails at hop.step) (option_map_or (λ (n : Location). follows net (is_usable net fails) (λ place. true) n g.steps) (moved net at hop.step) false) hop.usable (rw hop.moves g.follow);
       along = rw hop.moves (ap (λ ps. at ∷ ps) g.along);
       ends = rw hop.moves g.ends;
-      stays = λ s. and_right (is_usable net fails at hop.step) (option_map_or (λ (n : Location). follows net (is_usable net fails) n (g.steps ++ s ∷ [])) (moved net at hop.step) false) (rw hop.moves (g.stays s));
+      stays = λ s. and_right (is_usable net fails at hop.step) (option_map_or (λ (n : Location). follows net (is_usable net fails) (λ place. true) n (g.steps ++ s ∷ [])) (moved net at hop.step) false) (rw hop.moves (g.stays s));
       begun = begun;
     }
       where
-        begun : (others : List Step) → follows net (is_usable net fails) at others ≡ true → IsPrefix others (hop.step ∷ g.steps)
+        begun : (others : List Step) → follows net (is_usable net fails) (λ place. true) at others ≡ true → IsPrefix others (hop.step ∷ g.steps)
         begun [] h = (hop.step ∷ g.steps, refl)
         begun (s ∷ others) h =
             let parts = follow_parts net fails at s others h in
             let same : s ≡ hop.step = hop.same s parts.0 in
-            let rest : follows net (is_usable net fails) next others ≡ true = rw (same, hop.moves) at parts.1 in
+            let rest : follows net (is_usable net fails) (λ place. true) next others ≡ true = rw (same, hop.moves) at parts.1 in
             let shorter = g.begun others rest in
             (shorter.0, cc (shorter.1, same))
 

@@ -10,6 +10,7 @@ use Rattle.wi_net.specs.Net.{Net}
 use Rattle.wi_plan.specs.declared.plan.Bypass.{Bypass}
 use Rattle.wi_world.specs.declared.run.Step.{Step}
 use Rattle.wi_world.specs.declared.run.Run.{Run}
+use Rattle.wi_world.specs.declared.run.End.TheVariants.{Arrives}
 use Rattle.wi_world.specs.Moves.{is_trace}
 use Rattle.wi_world.specs.Runs.{links_of, last_header}
 
@@ -17,12 +18,12 @@ use Rattle.wi_world.specs.Runs.{links_of, last_header}
 abbrev pub IsPrefix : List Step → List Step → Type 0
 IsPrefix steps all = (rest : List Step) × (all ≡ steps ++ rest)
 
--- the run of a packet that sets out on a link with a header
+-- the run of a packet that sets out on a link with a header, and isn't dropped
 abbrev pub run_of : LinkId → List Entry → List Step → Run
-run_of e header steps = record { first = e; header = header; steps = steps }
+run_of e header steps = record { first = e; header = header; steps = steps; end = Arrives }
 
--- a packet that sets out with a header on the first of some links has one trace that can't be continued: it goes along
--- these links, and ends with a header. Every trace from there begins it
+-- a packet that sets out with a header on the first of some links has one trace that can't be continued: it goes along these links,
+-- and ends with a header. Every trace from there on which it isn't dropped begins it
 pub record GoesOnly (net : Net) (fails : List LinkId) (e : LinkId) (header : List Entry) (links : List LinkId) (last : List Entry) : Type 0 where
   pub steps : List Step
   pub trace : is_trace net fails (run_of e header steps) ≡ true

@@ -1,4 +1,4 @@
--- What a run weighs is the sum of what its first link and its steps weigh.
+-- What a run weighs is the sum of what its first link, its steps and its end weigh.
 use Rattle.std.proofs.Common.{◌≡◌, ℕ, ◌+◌, ◌-◌, ◌*◌, Bool, true, false, cond, List, [], ◌∷◌, ◌++◌, Option, Some, None, Result, Ok, Err, length, map, replicate, slice_get, refl, arith, ap, sym, ◌∙◌, add-zero, zero-add}
 use Rattle.std.proofs.lemmas.List.Sums.{sum_by-cons}
 use Rattle.std.specs.Option.{option_map, option_map_or, option_and_then}
@@ -14,10 +14,11 @@ use Rattle.wi_world.specs.declared.run.Quantity.{Quantity}
 use Rattle.wi_world.specs.declared.run.Quantity.TheVariants.{Links, Hops, Distance, Failures, Tunnels}
 use Rattle.wi_world.specs.declared.run.Run.{Run}
 use Rattle.wi_world.specs.declared.run.Step.{Step}
-use Rattle.wi_world.specs.Moves.{Location, member_at, through, moved, needed}
-use Rattle.wi_world.specs.Runs.{link_share, hop_share, sum_over, quantity_of, effort_of}
+use Rattle.wi_world.specs.declared.run.End.{End}
+use Rattle.wi_world.specs.Moves.{Location, member_at, through, moved, needed, needed_to_end}
+use Rattle.wi_world.specs.Runs.{link_share, hop_share, end_share, sum_over, quantity_of, effort_of}
 use Rattle.wi_quantity.specs.declared.vector.Part.{Part}
-use Rattle.wi_quantity.specs.Weighing.{term_value, term_values, weight_of, is_push, is_pop, growth, member_share, first_weight, hop_weight, step_weight, steps_weight}
+use Rattle.wi_quantity.specs.Weighing.{term_value, term_values, weight_of, is_push, is_pop, growth, member_share, end_adds, first_weight, hop_weight, step_weight, steps_weight}
 use Rattle.wi_quantity.proofs.ShareLemmas.{value_at, five_terms, same_values}
 
 -- what a part adds to a term
@@ -135,21 +136,29 @@ step_weighs net vector at next step e = go (member_at net at step) refl e
     go None eo e = cc
     go (Some m) eo e = rw eo (same_values _ _ vector (step_shares net at next step m e))
 
--- what steps add to a quantity
-abbrev steps_share : Net → Location → List Step → Quantity → ℕ
-steps_share net at steps q = sum_over net (λ here step next. link_share q net next.0 + hop_share q net here step next) at steps
+-- an end weighs what it adds to each quantity
+end_adds_share : (net : Net) (end : End) (at : Location) (q : Quantity) → end_adds q (risk_count net (needed_to_end net at end)) ≡ end_share q net end at
+end_adds_share net end at Links = refl
+end_adds_share net end at Hops = refl
+end_adds_share net end at Distance = refl
+end_adds_share net end at Failures = refl
+end_adds_share net end at Tunnels = refl
 
-pub steps_weigh : (net : Net) (vector : List (List Part)) (at : Location) (steps : List Step) → steps_weight net vector at steps ≡ term_values (steps_share net at steps) vector ++ 0 ∷ []
-steps_weigh net vector at [] = values_zero vector
-steps_weigh net vector at (step ∷ steps) = go (moved net at step) refl (λ next. steps_weigh net vector next steps)
+-- what steps and the end add to a quantity
+abbrev steps_share : Net → End → Location → List Step → Quantity → ℕ
+steps_share net end at steps q = sum_over net (λ here step next. link_share q net next.0 + hop_share q net here step next) (end_share q net end) at steps
+
+pub steps_weigh : (net : Net) (vector : List (List Part)) (end : End) (at : Location) (steps : List Step) → steps_weight net vector end at steps ≡ term_values (steps_share net end at steps) vector ++ 0 ∷ []
+steps_weigh net vector end at [] = same_values (λ q. end_adds q (risk_count net (needed_to_end net at end))) (steps_share net end at []) vector (end_adds_share net end at)
+steps_weigh net vector end at (step ∷ steps) = go (moved net at step) refl (λ next. steps_weigh net vector end next steps)
   where
-    go : (o : Option Location) → moved net at step ≡ o → ((next : Location) → steps_weight net vector next steps ≡ term_values (steps_share net next steps) vector ++ 0 ∷ [])
-        → option_map_or (λ next. plus (step_weight net vector at step) (steps_weight net vector next steps)) o (replicate 6 0) ≡ term_values (steps_share net at (step ∷ steps)) vector ++ 0 ∷ []
-    go None eo ih = values_zero vector ∙ same_values (λ q. 0) (steps_share net at (step ∷ steps)) vector (λ q. rw eo refl)
+    go : (o : Option Location) → moved net at step ≡ o → ((next : Location) → steps_weight net vector end next steps ≡ term_values (steps_share net end next steps) vector ++ 0 ∷ [])
+        → option_map_or (λ next. plus (step_weight net vector at step) (steps_weight net vector end next steps)) o (replicate 6 0) ≡ term_values (steps_share net end at (step ∷ steps)) vector ++ 0 ∷ []
+    go None eo ih = values_zero vector ∙ same_values (λ q. 0) (steps_share net end at (step ∷ steps)) vector (λ q. rw eo refl)
     go (Some next) eo ih =
         rw (step_weighs net vector at next step eo, ih next)
-        (values_plus (λ q. link_share q net next.0 + hop_share q net at step next) (steps_share net next steps) vector
-        ∙ same_values (λ q. link_share q net next.0 + hop_share q net at step next + steps_share net next steps q) (steps_share net at (step ∷ steps)) vector (λ q. rw eo refl))
+        (values_plus (λ q. link_share q net next.0 + hop_share q net at step next) (steps_share net end next steps) vector
+        ∙ same_values (λ q. link_share q net next.0 + hop_share q net at step next + steps_share net end next steps q) (steps_share net end at (step ∷ steps)) vector (λ q. rw eo refl))
 
 with_effort : (f : Quantity → ℕ) (vector : List (List Part)) (effort : ℕ) → plus (term_values f vector ++ 0 ∷ []) (replicate 5 0 ++ effort ∷ []) ≡ term_values f vector ++ effort ∷ []
 with_effort f [] effort = ap (λ n. 0 ∷ 0 ∷ 0 ∷ 0 ∷ 0 ∷ n ∷ []) (zero-add effort)
@@ -159,10 +168,10 @@ with_effort f (a ∷ b ∷ c ∷ []) effort = rw (add-zero (term_value f a), add
 with_effort f (a ∷ b ∷ c ∷ d ∷ []) effort = rw (add-zero (term_value f a), add-zero (term_value f b), add-zero (term_value f c), add-zero (term_value f d), zero-add effort) refl
 with_effort f (a ∷ b ∷ c ∷ d ∷ e ∷ more) effort = rw (add-zero (term_value f a), add-zero (term_value f b), add-zero (term_value f c), add-zero (term_value f d), add-zero (term_value f e), zero-add effort) refl
 
-pub run_weighs : (net : Net) (vector : List (List Part)) (run : Run) → plus (plus (first_weight net vector run.first.0) (steps_weight net vector (run.first, run.header) run.steps)) (replicate 5 0 ++ effort_of net run ∷ []) ≡ weight_of net vector run
+pub run_weighs : (net : Net) (vector : List (List Part)) (run : Run) → plus (plus (first_weight net vector run.first.0) (steps_weight net vector run.end (run.first, run.header) run.steps)) (replicate 5 0 ++ effort_of net run ∷ []) ≡ weight_of net vector run
 run_weighs net vector run =
     rw (
-      steps_weigh net vector (run.first, run.header) run.steps,
-      values_plus (λ q. link_share q net run.first) (steps_share net (run.first, run.header) run.steps) vector,
+      steps_weigh net vector run.end (run.first, run.header) run.steps,
+      values_plus (λ q. link_share q net run.first) (steps_share net run.end (run.first, run.header) run.steps) vector,
     )
     (with_effort (λ q. quantity_of q net run) vector (effort_of net run))

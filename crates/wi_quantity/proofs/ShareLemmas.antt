@@ -12,7 +12,7 @@ use Rattle.wi_world.specs.declared.run.Quantity.TheVariants.{Links, Hops, Distan
 use Rattle.wi_world.specs.Runs.{link_share}
 use Rattle.wi_quantity.specs.declared.vector.Part.{Part}
 use Rattle.wi_quantity.specs.declared.share.Shares.{Shares}
-use Rattle.wi_quantity.specs.Weighing.{term_value, term_values, member_share, growth, is_push, is_way_out}
+use Rattle.wi_quantity.specs.Weighing.{term_value, term_values, member_share, end_adds, growth, is_push, is_way_out}
 use Rattle.wi_quantity.specs.private.Shares.{share_of}
 
 -- the value of the term of a number
@@ -38,12 +38,20 @@ same_values f g vector each = ap (λ (h : Quantity → ℕ). term_values h vecto
 
 -- the shares of a hop are those of its link, with what the hop adds
 pub hop_shares : (net : Net) (m : Member) (failures grown : ℕ) (link : Shares) → ((q : Quantity) → share_of link q ≡ link_share q net m.link) → grown ≡ growth m.ops
-    → (q : Quantity) → share_of (record { hops = link.hops; distance = link.distance; failures = failures; tunnels = grown }) q ≡ member_share q net m failures
+    → (q : Quantity) → share_of (record { links = link.links; hops = link.hops; distance = link.distance; failures = failures; tunnels = grown }) q ≡ member_share q net m failures
 hop_shares net m failures grown link each is Links = each Links
 hop_shares net m failures grown link each is Hops = each Hops
 hop_shares net m failures grown link each is Distance = each Distance
 hop_shares net m failures grown link each is Failures = sym (zero-add failures)
 hop_shares net m failures grown link each is Tunnels = is ∙ sym (zero-add (growth m.ops))
+
+-- the shares of an end
+pub end_shares : (failures : ℕ) (q : Quantity) → share_of (record { links = 0; hops = 0; distance = 0; failures = failures; tunnels = 0 }) q ≡ end_adds q failures
+end_shares failures Links = refl
+end_shares failures Hops = refl
+end_shares failures Distance = refl
+end_shares failures Failures = refl
+end_shares failures Tunnels = refl
 
 filtered : (p : Op → Bool) (ops : List Op) → length (filter p ops) ≤ length ops
 filtered p [] = omega arith

@@ -14,7 +14,8 @@ use Rattle.wi_world.specs.declared.run.Quantity.{Quantity}
 use Rattle.wi_world.specs.declared.run.Quantity.TheVariants.{Failures, Tunnels}
 use Rattle.wi_world.specs.declared.run.Run.{Run}
 use Rattle.wi_world.specs.declared.run.Step.{Step}
-use Rattle.wi_world.specs.Moves.{Location, groups_at, moved}
+use Rattle.wi_world.specs.declared.run.End.{End}
+use Rattle.wi_world.specs.Moves.{Location, groups_at, moved, needed_to_end}
 use Rattle.wi_world.specs.Runs.{link_share, quantity_of, effort_of}
 use Rattle.wi_quantity.specs.declared.vector.Part.{Part}
 
@@ -52,6 +53,11 @@ member_share Failures net m failures = link_share Failures net m.link + failures
 member_share Tunnels net m failures = link_share Tunnels net m.link + growth m.ops
 member_share q net m failures = link_share q net m.link
 
+-- what an end adds to a quantity, where so many risk groups must have failed for it
+abbrev pub end_adds : Quantity → ℕ → ℕ
+end_adds Failures failures = failures
+end_adds q failures = 0
+
 -- the weight of beginning on a link, without effort
 abbrev pub first_weight : Net → List (List Part) → ℕ → List ℕ
 first_weight net vector e = term_values (λ q. link_share q net (record { 0 = e })) vector ++ 0 ∷ []
@@ -72,11 +78,15 @@ entry_weight net vector groups j m = option_map_or (λ member. hop_weight net ve
 abbrev pub step_weight : Net → List (List Part) → Location → Step → List ℕ
 step_weight net vector at step = entry_weight net vector (groups_at net at.0 at.1) step.group step.member
 
--- the sum of the weights of steps, as far as they lead
-abbrev pub steps_weight : Net → List (List Part) → Location → List Step → List ℕ
-steps_weight net vector at [] = replicate 6 0
-steps_weight net vector at (step ∷ steps) =
-    option_map_or (λ next. plus (step_weight net vector at step) (steps_weight net vector next steps)) (moved net at step) (replicate 6 0)
+-- the weight of an end for which so many risk groups must have failed, without effort
+abbrev pub end_weight : List (List Part) → ℕ → List ℕ
+end_weight vector failures = term_values (λ q. end_adds q failures) vector ++ 0 ∷ []
+
+-- the sum of the weights of steps, as far as they lead, and of the end
+abbrev pub steps_weight : Net → List (List Part) → End → Location → List Step → List ℕ
+steps_weight net vector end at [] = end_weight vector (risk_count net (needed_to_end net at end))
+steps_weight net vector end at (step ∷ steps) =
+    option_map_or (λ next. plus (step_weight net vector at step) (steps_weight net vector end next steps)) (moved net at step) (replicate 6 0)
 
 -- a member goes out over a link of the network, with as few operations as a table may have
 abbrev pub is_way_out : Net → Member → Bool

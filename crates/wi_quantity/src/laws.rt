@@ -1,5 +1,5 @@
 //! That a text is read in one way is shown of the grammar: so an answer of the reader is the only right one, want of memory
-//! apart. What links and hops add is tied to what a whole run weighs, so that a search may add up shares. The laws run no code.
+//! apart. What links, hops and ends add is tied to what a whole run weighs, so that a search may add up shares. The laws run no code.
 ghost use Rattle.std.specs.Prelude.{◌≡◌, ◌++◌, ◌∷◌, [], ℕ, List, replicate};
 ghost use Rattle.wi_weight.specs.Weights.{plus};
 ghost use Rattle.wi_net.specs.Net.{Net};
@@ -28,7 +28,7 @@ pub fn a_text_with_a_meaning_has_no_fault()
     ensures { (text : List ℕ) (vector : List (List Part)) (fault : WeightFault) → Means text vector → IsFault text fault → fault ≡ Memory }
 {}
 
-/// What a run weighs is what its first link weighs and what each of its steps weighs, with its effort last.
+/// What a run weighs is what its first link, each of its steps and its end weigh, with its effort last.
 pub fn runs_weigh_the_sum_of_their_shares()
-    ensures { (net : Net) (vector : List (List Part)) (run : Run) → plus (plus (first_weight net vector run.first.0) (steps_weight net vector (run.first, run.header) run.steps)) (replicate 5 0 ++ effort_of net run ∷ []) ≡ weight_of net vector run }
+    ensures { (net : Net) (vector : List (List Part)) (run : Run) → plus (plus (first_weight net vector run.first.0) (steps_weight net vector run.end (run.first, run.header) run.steps)) (replicate 5 0 ++ effort_of net run ∷ []) ≡ weight_of net vector run }
 {}

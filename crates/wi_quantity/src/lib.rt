@@ -1,4 +1,4 @@
-//! Quantities: weights texts, and what links and hops weigh.
+//! Quantities: weights texts, and what links, hops and ends weigh.
 #![tactic(auto)]
 
 mod fault;
@@ -14,5 +14,5 @@ pub use laws::{
     runs_weigh_the_sum_of_their_shares,
 };
 pub use read::read_weights;
-pub use share::{Weight, first_weight, hop_weight, step_weight};
+pub use share::{Weight, end_weight, first_weight, hop_weight, step_weight};
 pub use vector::{Part, Vector};

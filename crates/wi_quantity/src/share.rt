@@ -1,5 +1,5 @@
-//! What a run weighs is the sum of what its first link and its hops add, each known by itself, so that a rule can carry its
-//! share. Nothing here takes memory: where the count of risk groups before a group isn't given, each member before is compared
+//! What a run weighs is the sum of what its first link, its hops and its end add, each known by itself, so that a rule can carry
+//! its share. Nothing here takes memory: where the count of risk groups before a group isn't given, each member before is compared
 //! with those before it.
 ghost use Rattle.std.specs.Prelude.{◌≡◌, ◌<◌, ◌≤◌, ◌+◌, ◌^◌, ◌++◌, ◌∷◌, [], true, length, option_map, slice_get};
 ghost use Rattle.std.specs.Option.{option_map_or};
@@ -9,7 +9,7 @@ ghost use Rattle.wi_net.specs.Net.{risk_count, before};
 ghost use Rattle.wi_world.specs.declared.run.Quantity.{Quantity};
 ghost use Rattle.wi_world.specs.Runs.{link_share};
 ghost use Rattle.wi_quantity.specs.Vectors.{is_term};
-ghost use Rattle.wi_quantity.specs.Weighing.{components, term_value, term_values, growth, is_push, is_pop, member_in, first_weight, hop_weight, entry_weight, is_way_out, has_way_out};
+ghost use Rattle.wi_quantity.specs.Weighing.{components, term_value, term_values, growth, is_push, is_pop, member_in, first_weight, hop_weight, end_weight, entry_weight, is_way_out, has_way_out};
 ghost use Rattle.wi_quantity.specs.private.Shares.{share_of, has_risk, is_new, risks_of};
 
 use crate::vector::{Part, Vector};
@@ -22,9 +22,10 @@ use wi_world::Quantity;
 /// The values of five terms, those that a vector hasn't being 0, and then the effort.
 pub type Weight = Pair<Terms, Effort>;
 
-// What is added to each quantity besides the number of links, to which one is added.
+// What is added to each quantity.
 #[derive(Clone, Copy)]
 struct Shares {
+    links: u32,
     hops: u32,
     distance: u32,
     failures: u32,
@@ -39,6 +40,7 @@ impl Shares {
     {
         let found = *net.link(link);
         Shares {
+            links: 1,
             hops: if found.from.0 == found.to.0 { 0 } else { 1 },
             distance: found.distance,
             failures: 0,
@@ -50,7 +52,7 @@ impl Shares {
         ensures { result ≡ share_of self quantity }
     {
         match quantity {
-            Quantity::Links => 1,
+            Quantity::Links => self.links,
             Quantity::Hops => self.hops,
             Quantity::Distance => self.distance,
             Quantity::Failures => self.failures,
@@ -121,10 +123,28 @@ pub fn hop_weight(vector: &Vector, net: &Network, member: &Member, failures: usi
 {
     let link = Shares::of(net, member.link);
     let shares = Shares {
+        links: link.links,
         hops: link.hops,
         distance: link.distance,
         failures: failures as u32,
         tunnels: growth(member.ops.as_slice()) as u32,
+    };
+    weighed(vector, shares)
+}
+
+/// The weight of an end for which so many risk groups must have failed. It has no effort, and takes no memory.
+pub fn end_weight(vector: &Vector, failures: usize) -> Weight
+    requires { failures < 2 ^ 32 }
+    ensures value { components result ≡ end_weight vector.now failures }
+    ensures fits { EachBelow (2 ^ 64) (components result) }
+{
+    let count = failures as u32;
+    let shares = Shares {
+        links: 0,
+        hops: 0,
+        distance: 0,
+        failures: count,
+        tunnels: 0,
     };
     weighed(vector, shares)
 }

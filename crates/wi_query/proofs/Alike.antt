@@ -13,6 +13,7 @@ use Rattle.wi_syntax.specs.Trees.{Tree, Leaf, Starred, Plussed, Optional, Groupe
 use Rattle.wi_syntax.proofs.Texts.{one_way}
 use Rattle.wi_query.specs.declared.query.Query.{Query}
 use Rattle.wi_query.specs.Sets.{SymbolMarks, holds, is_label_of, is_link_of}
+use Rattle.wi_query.specs.Last.{last_signs, is_dropped}
 use Rattle.wi_query.specs.Meaning.{IsRegexOf, AreSignsOf, IsQuery, AskTheSame, known_links}
 use Rattle.wi_query.proofs.Running.{one_tree}
 
@@ -138,7 +139,10 @@ module _ (net : Net) (text : List ℕ) (q r : Query) (first : IsQuery net text q
   alike_path = alike_signs (is_link_of net) first.written.path other.written.path q.path.regex r.path.regex (ap (λ (w : Written). w.path) one_written) first.means.path other.means.path
 
   pub alike_last : Alike q.last.regex r.last.regex
-  alike_last = alike_signs (is_label_of net) first.written.last other.written.last q.last.regex r.last.regex (ap (λ (w : Written). w.last) one_written) first.means.last other.means.last
+  alike_last = alike_signs (is_label_of net) (last_signs first.written.last) (last_signs other.written.last) q.last.regex r.last.regex (ap (λ (w : Written). last_signs w.last) one_written) first.means.last other.means.last
+
+  same_end : q.drops ≡ r.drops
+  same_end = first.means.drops ∙ ap (λ (w : Written). is_dropped w.last) one_written ∙ sym other.means.drops
 
   pub same_bounds : q.bounds ≡ r.bounds
   same_bounds =
@@ -152,5 +156,6 @@ module _ (net : Net) (text : List ℕ) (q r : Query) (first : IsQuery net text q
     first = match_same q.first.regex r.first.regex alike_first;
     path = match_same q.path.regex r.path.regex alike_path;
     last = match_same q.last.regex r.last.regex alike_last;
+    drops = same_end;
     bounds = same_bounds;
   }

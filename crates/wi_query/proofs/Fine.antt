@@ -15,6 +15,7 @@ use Rattle.wi_query.specs.declared.fault.QueryFault.{QueryFault}
 use Rattle.wi_query.specs.declared.fault.QueryFault.TheVariants.{Memory, TooLong, Syntax, UnknownLabel, UnknownRouter, UnknownInterface, TooManyPositions, TooManyFailures, DownAndUp}
 use Rattle.wi_query.specs.declared.query.Query.{Query}
 use Rattle.wi_query.specs.Sets.{SymbolMarks, is_label_of, is_link_of}
+use Rattle.wi_query.specs.Last.{last_signs}
 use Rattle.wi_query.specs.Unknown.{Kind, unknown_in}
 use Rattle.wi_query.specs.Meaning.{AreSignsOf, known_links, IsQuery}
 use Rattle.wi_query.specs.Faults.{atom_count, too_many_positions, IsUnknown, is_large, IsFault}
@@ -26,7 +27,7 @@ use Rattle.wi_query.proofs.Trees.{position_count_is}
 few_atoms : {A : Type 0} (means : A → ℕ → Bool) (signs : List (Sign A)) (r : Regex SymbolMarks) → AreSignsOf means signs r → position_count r ≤ 512 → nat_lt 512 (atom_count signs) ≡ false
 few_atoms means signs r h few = ap (nat_lt 512) (sym (position_count_is means signs r h)) ∙ le-ltb 512 (position_count r) few
 
-few_among : (w : Written) → nat_lt 512 (atom_count w.first) ≡ false → nat_lt 512 (atom_count w.path) ≡ false → nat_lt 512 (atom_count w.last) ≡ false → too_many_positions w ≡ None
+few_among : (w : Written) → nat_lt 512 (atom_count w.first) ≡ false → nat_lt 512 (atom_count w.path) ≡ false → nat_lt 512 (atom_count (last_signs w.last)) ≡ false → too_many_positions w ≡ None
 few_among w first path last = rw (first, path, last) refl
 
 -- no link is known both down and up
@@ -39,7 +40,7 @@ module _ (net : Net) (text : List ℕ) (query : Query) (q : IsQuery net text que
       few_among q.written
       (few_atoms (is_label_of net) q.written.first query.first.regex q.means.first q.keeps.first.few)
       (few_atoms (is_link_of net) q.written.path query.path.regex q.means.path q.keeps.path.few)
-      (few_atoms (is_label_of net) q.written.last query.last.regex q.means.last q.keeps.last.few)
+      (few_atoms (is_label_of net) (last_signs q.written.last) query.last.regex q.means.last q.keeps.last.few)
 
   small : is_large q.written.number ≡ false
   small = few_enough q.written.number.text query.bounds.k q.means.k q.keeps.k

@@ -13,6 +13,7 @@ use Rattle.wi_syntax.specs.declared.written.Sign.{Sign}
 use Rattle.wi_syntax.specs.declared.written.Written.{Written}
 use Rattle.wi_syntax.specs.declared.written.End.{End}
 use Rattle.wi_syntax.specs.declared.written.End.TheVariants as end
+use Rattle.wi_query.specs.Last.{last_signs}
 use Rattle.wi_query.specs.Unknown.{Kind, ARouter, AnInterface, Unknown, unless, unknown_in_end, unknown_in_sign, unknown_in_label_atom, unknown_in_link_atom, unknown_in_known, unknown_in}
 use Rattle.wi_query.specs.private.Names.{IsFirst}
 use Rattle.wi_query.specs.declared.fault.QueryFault.{QueryFault}
@@ -61,30 +62,29 @@ link_names net signs = flat_map (unknown_in_sign (unknown_in_link_atom net)) sig
 pub in_first : (net : Net) (w : Written) (first : List (Sign LabelAtom)) (f : QueryFault) → first ≡ w.first → IsFirst (flat_map (unknown_in_sign (unknown_in_label_atom net)) first) f → IsFirst (unknown_in net w) f
 in_first net w first f e1 h =
     let P : List (Sign LabelAtom) → Type 0 = λ s. IsFirst (label_names net s) f in
-    first_before (label_names net w.first) (link_names net w.path ++ (label_names net w.last ++ (unknown_in_known net w.down ++ unknown_in_known net w.up))) f (subst P e1 h)
+    first_before (label_names net w.first) (link_names net w.path ++ (label_names net (last_signs w.last) ++ (unknown_in_known net w.down ++ unknown_in_known net w.up))) f (subst P e1 h)
 
 pub in_path : (net : Net) (w : Written) (first : List (Sign LabelAtom)) (path : List (Sign LinkAtom)) (f : QueryFault) → first ≡ w.first → path ≡ w.path
     → flat_map (unknown_in_sign (unknown_in_label_atom net)) first ≡ [] → IsFirst (flat_map (unknown_in_sign (unknown_in_link_atom net)) path) f → IsFirst (unknown_in net w) f
 in_path net w first path f e1 e2 k1 h =
     let P : List (Sign LinkAtom) → Type 0 = λ s. IsFirst (link_names net s) f in
-    let rest : List Unknown = label_names net w.last ++ (unknown_in_known net w.down ++ unknown_in_known net w.up) in
+    let rest : List Unknown = label_names net (last_signs w.last) ++ (unknown_in_known net w.down ++ unknown_in_known net w.up) in
     first_after (label_names net w.first) (link_names net w.path ++ rest) f (ap (λ s. label_names net s) (sym e1) ∙ k1) (first_before (link_names net w.path) rest f (subst P e2 h))
 
-pub in_last : (net : Net) (w : Written) (first : List (Sign LabelAtom)) (path : List (Sign LinkAtom)) (last : List (Sign LabelAtom)) (f : QueryFault) → first ≡ w.first → path ≡ w.path → last ≡ w.last
-    → flat_map (unknown_in_sign (unknown_in_label_atom net)) first ≡ [] → flat_map (unknown_in_sign (unknown_in_link_atom net)) path ≡ [] → IsFirst (flat_map (unknown_in_sign (unknown_in_label_atom net)) last) f → IsFirst (unknown_in net w) f
-in_last net w first path last f e1 e2 e3 k1 k2 h =
-    let P : List (Sign LabelAtom) → Type 0 = λ s. IsFirst (label_names net s) f in
+pub in_last : (net : Net) (w : Written) (first : List (Sign LabelAtom)) (path : List (Sign LinkAtom)) (f : QueryFault) → first ≡ w.first → path ≡ w.path
+    → flat_map (unknown_in_sign (unknown_in_label_atom net)) first ≡ [] → flat_map (unknown_in_sign (unknown_in_link_atom net)) path ≡ [] → IsFirst (flat_map (unknown_in_sign (unknown_in_label_atom net)) (last_signs w.last)) f → IsFirst (unknown_in net w) f
+in_last net w first path f e1 e2 k1 k2 h =
     let rest : List Unknown = unknown_in_known net w.down ++ unknown_in_known net w.up in
-    first_after (label_names net w.first) (link_names net w.path ++ (label_names net w.last ++ rest)) f (ap (λ s. label_names net s) (sym e1) ∙ k1)
-    (first_after (link_names net w.path) (label_names net w.last ++ rest) f (ap (λ s. link_names net s) (sym e2) ∙ k2)
-    (first_before (label_names net w.last) rest f (subst P e3 h)))
+    first_after (label_names net w.first) (link_names net w.path ++ (label_names net (last_signs w.last) ++ rest)) f (ap (λ s. label_names net s) (sym e1) ∙ k1)
+    (first_after (link_names net w.path) (label_names net (last_signs w.last) ++ rest) f (ap (λ s. link_names net s) (sym e2) ∙ k2)
+    (first_before (label_names net (last_signs w.last)) rest f h))
 
-pub in_down : (net : Net) (w : Written) (first : List (Sign LabelAtom)) (path : List (Sign LinkAtom)) (last : List (Sign LabelAtom)) (f : QueryFault) → first ≡ w.first → path ≡ w.path → last ≡ w.last
-    → flat_map (unknown_in_sign (unknown_in_label_atom net)) first ≡ [] → flat_map (unknown_in_sign (unknown_in_link_atom net)) path ≡ [] → flat_map (unknown_in_sign (unknown_in_label_atom net)) last ≡ []
+pub in_down : (net : Net) (w : Written) (first : List (Sign LabelAtom)) (path : List (Sign LinkAtom)) (f : QueryFault) → first ≡ w.first → path ≡ w.path
+    → flat_map (unknown_in_sign (unknown_in_label_atom net)) first ≡ [] → flat_map (unknown_in_sign (unknown_in_link_atom net)) path ≡ [] → flat_map (unknown_in_sign (unknown_in_label_atom net)) (last_signs w.last) ≡ []
     → IsFirst (unknown_in_known net w.down) f → IsFirst (unknown_in net w) f
-in_down net w first path last f e1 e2 e3 k1 k2 k3 h =
+in_down net w first path f e1 e2 k1 k2 k3 h =
     let ups : List Unknown = unknown_in_known net w.up in
-    first_after (label_names net w.first) (link_names net w.path ++ (label_names net w.last ++ (unknown_in_known net w.down ++ ups))) f (ap (λ s. label_names net s) (sym e1) ∙ k1)
-    (first_after (link_names net w.path) (label_names net w.last ++ (unknown_in_known net w.down ++ ups)) f (ap (λ s. link_names net s) (sym e2) ∙ k2)
-    (first_after (label_names net w.last) (unknown_in_known net w.down ++ ups) f (ap (λ s. label_names net s) (sym e3) ∙ k3)
+    first_after (label_names net w.first) (link_names net w.path ++ (label_names net (last_signs w.last) ++ (unknown_in_known net w.down ++ ups))) f (ap (λ s. label_names net s) (sym e1) ∙ k1)
+    (first_after (link_names net w.path) (label_names net (last_signs w.last) ++ (unknown_in_known net w.down ++ ups)) f (ap (λ s. link_names net s) (sym e2) ∙ k2)
+    (first_after (label_names net (last_signs w.last)) (unknown_in_known net w.down ++ ups) f k3
     (first_before (unknown_in_known net w.down) ups f h)))

@@ -4,6 +4,7 @@ pub mod Trees
 pub mod Lists
 pub mod Firsts
 pub mod Marks
+pub mod Lasts
 pub mod LinkSets
 pub mod Known
 pub mod Numbers

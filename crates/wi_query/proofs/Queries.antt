@@ -1,5 +1,5 @@
 -- From the parts of a query to the query, and to its first fault.
-use Rattle.std.proofs.Common.{◌≡◌, ℕ, Bool, true, false, nat_lt, List, [], ◌∷◌, length, Option, Some, None, refl, sym, ap, subst, ◌∙◌}
+use Rattle.std.proofs.Common.{◌≡◌, ℕ, Bool, true, false, nat_lt, List, [], ◌∷◌, length, Option, Some, None, Result, Ok, Err, IfOk, refl, sym, ap, subst, ◌∙◌}
 use Rattle.std.specs.List.{find, filter}
 use Rattle.std.proofs.lemmas.Bool.{le-ltb}
 use Rattle.wi_regex.specs.declared.regex.Regex.{Regex}
@@ -12,11 +12,16 @@ use Rattle.wi_syntax.specs.Names.{Named}
 use Rattle.wi_syntax.specs.declared.written.LabelAtom.{LabelAtom}
 use Rattle.wi_syntax.specs.declared.written.LinkAtom.{LinkAtom}
 use Rattle.wi_syntax.specs.declared.written.Known.{Known}
+use Rattle.wi_syntax.specs.declared.written.Last.{Last}
+use Rattle.wi_syntax.specs.declared.written.Last.TheVariants.{Header}
 use Rattle.wi_syntax.specs.declared.written.Sign.{Sign}
 use Rattle.wi_syntax.specs.declared.written.Written.{Written}
+use Rattle.wi_syntax.specs.Atoms.{is_label_atom}
 use Rattle.wi_syntax.specs.Trees.{IsExpression}
+use Rattle.wi_syntax.specs.Grammar.{IsLast}
 use Rattle.wi_query.specs.Sets.{SymbolMarks, holds, is_label_of, is_link_of}
 use Rattle.wi_query.specs.Compiled.{Compiled, HasAutomaton, IsExpressionOver, IsWithin}
+use Rattle.wi_query.specs.Last.{last_signs}
 use Rattle.wi_query.specs.Unknown.{unknown_in}
 use Rattle.wi_query.specs.Meaning.{AreSignsOf, known_links, IsQuery}
 use Rattle.wi_query.specs.Faults.{too_many_positions, IsShort, IsFault}
@@ -28,6 +33,7 @@ use Rattle.wi_query.specs.declared.parts.Parts.{Parts}
 use Rattle.wi_query.specs.declared.query.Query.{Query}
 use Rattle.wi_query.proofs.Trees.{any_expression, same_meaning, within_signs, position_count_is}
 use Rattle.wi_query.proofs.Marks.{holds_label, holds_link, label_within, link_within}
+use Rattle.wi_query.proofs.Lasts.{any_when_dropped}
 use Rattle.wi_query.proofs.LinkSets.{widened_again, apart_from_none}
 
 -- the signs of an expression, as they are shown
@@ -43,6 +49,18 @@ pub link_signs : (net : Net) (signs shown : List (Sign LinkAtom)) (r : Regex Sym
 link_signs net signs shown r is h =
     let P : List (Sign LinkAtom) → Type 0 = λ s. AreSignsOf (is_link_of net) s r in
     subst P is (same_meaning (λ a x. holds (marks_of (length net.links) (is_link_of net a)) x) (is_link_of net) shown r (holds_link net) h)
+
+-- the signs of the last header, as they are shown
+pub header_signs : (last : Last) (signs shown : List (Sign LabelAtom)) → last ≡ Header signs → shown ≡ signs → shown ≡ last_signs last
+header_signs last signs shown is same = same ∙ ap last_signs (sym is)
+
+pub header_expression : (last : Last) (signs shown : List (Sign LabelAtom)) → last ≡ Header signs → shown ≡ signs → IsLast last → IsExpression (λ a. true) shown
+header_expression last signs shown is same h = shown_expression is_label_atom signs shown same (subst IsLast is h)
+
+pub last_read : (net : Net) (last : Last) (shown : List (Sign LabelAtom)) (result : Result (Regex SymbolMarks) QueryFault) → shown ≡ last_signs last
+    → IfOk result (λ r. AreSignsOf (λ a x. holds (marks_of (length net.labels) (is_label_of net a)) x) shown r) → IfOk result (λ r. AreSignsOf (is_label_of net) (last_signs last) r)
+last_read net last shown (Ok r) is h = label_signs net (last_signs last) shown r is h
+last_read net last shown (Err f) is h = tt
 
 -- what is wrong with the bounds comes after the positions
 small_enough : (e : Compiled) (r : Regex SymbolMarks) → e.regex ≡ r → HasAutomaton e → nat_lt 512 (position_count r) ≡ false
@@ -60,7 +78,7 @@ wrong_bounds parts number first path last f e1 h1 e2 h2 e3 h3 h = absurd h
 -- what is wrong with the parts is the text's first fault
 same_count : (net : Net) (w : Written) (parts : Parts) → AreParts net w parts → too_many_positions w ≡ too_many_in parts
 same_count net w parts h =
-    rw (sym (position_count_is (is_label_of net) w.first parts.first h.first), sym (position_count_is (is_link_of net) w.path parts.path h.path), sym (position_count_is (is_label_of net) w.last parts.last h.last)) refl
+    rw (sym (position_count_is (is_label_of net) w.first parts.first h.first), sym (position_count_is (is_link_of net) w.path parts.path h.path), sym (position_count_is (is_label_of net) (last_signs w.last) parts.last h.last)) refl
 
 same_shared : (net : Net) (w : Written) (parts : Parts) → AreParts net w parts → find (λ d. has (known_links net w.up) d) (known_links net w.down) ≡ shared parts.down parts.up
 same_shared net w parts h = ap (λ u. find (λ d. has u d) (known_links net w.down)) (sym h.up) ∙ ap (λ d. shared d parts.up) (sym h.down)
@@ -105,7 +123,8 @@ query_is net text w parts query short known h made = record {
   means = record {
     first = signs_of_same (is_label_of net) w.first query.first parts.first made.first h.first;
     path = signs_of_same (is_link_of net) w.path query.path parts.path made.path h.path;
-    last = signs_of_same (is_label_of net) w.last query.last parts.last made.last h.last;
+    last = signs_of_same (is_label_of net) (last_signs w.last) query.last parts.last made.last h.last;
+    drops = made.drops ∙ h.drops;
     k = made.bounds.k;
     down = made.bounds.down ∙ h.down;
     up = made.bounds.up ∙ h.up;
@@ -113,7 +132,8 @@ query_is net text w parts query short known h made = record {
   keeps = record {
     first = is_over (length net.labels) query.first parts.first made.first made.automata.first (within_signs (is_label_of net) (length net.labels) w.first parts.first (label_within net) h.first);
     path = is_over (length net.links) query.path parts.path made.path made.automata.path (within_signs (is_link_of net) (length net.links) w.path parts.path (link_within net) h.path);
-    last = is_over (length net.labels) query.last parts.last made.last made.automata.last (within_signs (is_label_of net) (length net.labels) w.last parts.last (label_within net) h.last);
+    last = is_over (length net.labels) query.last parts.last made.last made.automata.last (within_signs (is_label_of net) (length net.labels) (last_signs w.last) parts.last (label_within net) h.last);
+    any_last = λ drops. any_when_dropped net w.last query.last.regex (sym (made.drops ∙ h.drops) ∙ drops) (signs_of_same (is_label_of net) (last_signs w.last) query.last parts.last made.last h.last);
     k = made.bounds.few;
     bounds = query_bounds net w parts query h made.bounds;
   };

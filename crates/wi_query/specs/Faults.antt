@@ -11,6 +11,7 @@ use Rattle.wi_syntax.specs.declared.written.Sign.{Sign}
 use Rattle.wi_syntax.specs.declared.written.Sign.TheVariants as sign
 use Rattle.wi_syntax.specs.declared.written.Written.{Written}
 use Rattle.wi_syntax.specs.Grammar.{Reads, IsQueryText}
+use Rattle.wi_query.specs.Last.{last_signs}
 use Rattle.wi_query.specs.Unknown.{Kind, ALabel, ARouter, AnInterface, unknown_in}
 use Rattle.wi_query.specs.Meaning.{known_links}
 use Rattle.wi_query.specs.declared.fault.QueryFault.{QueryFault}
@@ -26,7 +27,7 @@ atom_count signs = length (filter is_atom signs)
 
 -- the first of the three expressions, from 1, that has more than 512 positions, and how many
 abbrev pub too_many_positions : Written → Option (ℕ × ℕ)
-too_many_positions w = find (λ e. nat_lt 512 e.1) ((1, atom_count w.first) ∷ (2, atom_count w.path) ∷ (3, atom_count w.last) ∷ [])
+too_many_positions w = find (λ e. nat_lt 512 e.1) ((1, atom_count w.first) ∷ (2, atom_count w.path) ∷ (3, atom_count (last_signs w.last)) ∷ [])
 
 -- a text that isn't too long is written so
 pub record IsShort (text : List ℕ) (w : Written) : Type 0 where

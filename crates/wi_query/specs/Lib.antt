@@ -1,5 +1,6 @@
 pub mod Sets
 pub mod Compiled
+pub mod Last
 pub mod Unknown
 pub mod Meaning
 pub mod Faults

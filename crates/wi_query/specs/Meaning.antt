@@ -1,6 +1,6 @@
 -- What a query means.
 use Rattle.std.specs.Prelude.{◌≡◌, ◌↔◌, ℕ, ◌≤◌, Bool, true, false, nat_lt, List, [], length, Option, Some, None}
-use Rattle.std.specs.List.{list_any}
+use Rattle.std.specs.List.{list_all, list_any}
 use Rattle.std.specs.Str.Parse.{digits_value}
 use Rattle.wi_regex.specs.declared.regex.Regex.{Regex}
 use Rattle.wi_regex.specs.declared.regex.Regex.TheVariants as regex
@@ -17,6 +17,7 @@ use Rattle.wi_syntax.specs.Grammar.{Reads}
 use Rattle.wi_query.specs.declared.query.Query.{Query}
 use Rattle.wi_query.specs.Compiled.{IsExpressionOver, HasAutomaton}
 use Rattle.wi_query.specs.Sets.{SymbolMarks, holds, is_label_of, is_link_of, is_link_between}
+use Rattle.wi_query.specs.Last.{last_signs, is_dropped}
 use Rattle.wi_query.specs.Unknown.{unknown_in}
 
 -- an expression is that of a tree whose atoms mean these sets: brackets leave no trace
@@ -43,7 +44,8 @@ known_links net (Some known) = widened net (links_where net (λ e. list_any (λ 
 pub record Means (net : Net) (w : Written) (query : Query) : Type 0 where
   pub first : AreSignsOf (is_label_of net) w.first query.first.regex
   pub path : AreSignsOf (is_link_of net) w.path query.path.regex
-  pub last : AreSignsOf (is_label_of net) w.last query.last.regex
+  pub last : AreSignsOf (is_label_of net) (last_signs w.last) query.last.regex
+  pub drops : query.drops ≡ is_dropped w.last
   pub k : query.bounds.k ≡ digits_value 10 w.number.text
   pub down : query.bounds.down ≡ known_links net w.down
   pub up : query.bounds.up ≡ known_links net w.up
@@ -54,11 +56,17 @@ pub record HasAutomata (query : Query) : Type 0 where
   pub path : HasAutomaton query.path
   pub last : HasAutomaton query.last
 
--- what each query that is read of a network keeps: it speaks of the network's labels and links alone
+-- a packet may be dropped with any header of the network's labels
+abbrev pub MayDropAny : Net → Query → Type 0
+MayDropAny net query = query.drops ≡ true → (w : List ℕ) → list_all (λ x. nat_lt x (length net.labels)) w ≡ true → Matches holds query.last.regex w
+
+-- what each query that is read of a network keeps: it speaks of the network's labels and links alone, and a packet may be dropped
+-- with any header
 pub record IsQueryOf (net : Net) (query : Query) : Type 0 where
   pub first : IsExpressionOver (length net.labels) query.first.regex
   pub path : IsExpressionOver (length net.links) query.path.regex
   pub last : IsExpressionOver (length net.labels) query.last.regex
+  pub any_last : MayDropAny net query
   pub k : query.bounds.k ≤ 65535
   pub bounds : AreBounds net query.bounds
 
@@ -77,12 +85,14 @@ question_of query = record {
   first = Matches holds query.first.regex;
   path = Matches holds query.path.regex;
   last = Matches holds query.last.regex;
+  drops = query.drops;
   bounds = query.bounds;
 }
 
--- two queries ask the same: their expressions match the same words, within the same bounds
+-- two queries ask the same: their expressions match the same words, of the same end, within the same bounds
 pub record AskTheSame (q r : Query) : Type 0 where
   pub first : (w : List ℕ) → Matches holds q.first.regex w ↔ Matches holds r.first.regex w
   pub path : (w : List ℕ) → Matches holds q.path.regex w ↔ Matches holds r.path.regex w
   pub last : (w : List ℕ) → Matches holds q.last.regex w ↔ Matches holds r.last.regex w
+  pub drops : q.drops ≡ r.drops
   pub bounds : q.bounds ≡ r.bounds

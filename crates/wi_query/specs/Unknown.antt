@@ -18,6 +18,7 @@ use Rattle.wi_syntax.specs.declared.written.Sign.TheVariants as sign
 use Rattle.wi_syntax.specs.declared.written.Known.{Known}
 use Rattle.wi_syntax.specs.declared.written.Written.{Written}
 use Rattle.wi_query.specs.Sets.{class_named}
+use Rattle.wi_query.specs.Last.{last_signs}
 
 -- what a name is one of
 pub data Kind : Type 0 where
@@ -67,4 +68,4 @@ unknown_in_known net (Some known) = flat_map (unknown_in_pair net) known.pairs
 abbrev pub unknown_in : Net → Written → List Unknown
 unknown_in net w =
     flat_map (unknown_in_sign (unknown_in_label_atom net)) w.first ++ (flat_map (unknown_in_sign (unknown_in_link_atom net)) w.path
-    ++ (flat_map (unknown_in_sign (unknown_in_label_atom net)) w.last ++ (unknown_in_known net w.down ++ unknown_in_known net w.up)))
+    ++ (flat_map (unknown_in_sign (unknown_in_label_atom net)) (last_signs w.last) ++ (unknown_in_known net w.down ++ unknown_in_known net w.up)))

@@ -18,14 +18,17 @@ use wi_syntax::{Name, SyntaxRefused, Written, read_written};
 /// The most bytes that a query's text may have.
 const LENGTH_LIMIT: usize = 4096;
 
-/// What is asked of a network: the languages of the first header, of the links and of the last header, and what may fail.
+/// What is asked of a network: the languages of the first header, of the links and of the last header, whether the packet is to be
+/// dropped, and what may fail.
 #[derive(Drop)]
 pub struct Query {
     /// The first header, top first.
     pub first: Expression,
     pub path: Expression,
-    /// The last header, top first.
+    /// The last header, top first; of a packet that is dropped any header.
     pub last: Expression,
+    /// Whether the packet is to be dropped.
+    pub drops: bool,
     /// How many risk groups may fail besides those known to be down, and which are known down or up.
     pub bounds: Bounds,
 }
@@ -67,6 +70,7 @@ fn query_of(alloc: Global, parts: Parts, number: &Name) -> Result<Query, QueryFa
         first,
         path,
         last,
+        drops,
         down,
         up,
     } = parts;
@@ -96,6 +100,7 @@ fn query_of(alloc: Global, parts: Parts, number: &Name) -> Result<Query, QueryFa
             first,
             path,
             last,
+            drops,
             bounds,
         }),
         Err(fault) => {

@@ -14,12 +14,14 @@ use Rattle.wi_net.specs.declared.bounds.Bounds.{Bounds}
 use Rattle.wi_net.specs.Net.{Net}
 use Rattle.wi_world.specs.declared.run.Run.{Run}
 use Rattle.wi_world.specs.declared.run.Step.{Step}
+use Rattle.wi_world.specs.declared.run.End.{End}
+use Rattle.wi_world.specs.declared.run.End.TheVariants.{Arrives, Inactive, Undefined}
 use Rattle.wi_world.specs.declared.answer.Word.TheVariants.{Yes, No}
 use Rattle.wi_world.specs.declared.answer.Verdict.TheVariants.{Fits}
 use Rattle.wi_trace.specs.declared.answer.Answer.{Answer}
 use Rattle.wi_text.specs.Names.{shown}
 use Rattle.wi_report.specs.Shown.{label_shown}
-use Rattle.wi_report.specs.Reports.{report_of, exact_report_of}
+use Rattle.wi_report.specs.Reports.{run_shown, report_of, exact_report_of}
 use Rattle.wi_report.specs.Tolerances.{none_up_to_text, tolerance_report_of}
 use Rattle.wi_report.specs.RefusedDecisions.{overflow_text}
 
@@ -36,12 +38,13 @@ link n a out b into = record { from = record { 0 = a }; out_if = record { 0 = ou
 abbrev net : Net
 net = record {
   routers = codes "x" ∷ codes "a" ∷ codes "b" ∷ codes "c" ∷ codes "y" ∷ [];
-  labels = codes "30" ∷ codes "s10" ∷ codes "ip1" ∷ codes "ip" ∷ [];
-  classes = Mpls ∷ Smpls ∷ Ip ∷ Ip ∷ [];
+  labels = codes "30" ∷ codes "s10" ∷ codes "ip1" ∷ codes "ip" ∷ codes "ip2" ∷ [];
+  classes = Mpls ∷ Smpls ∷ Ip ∷ Ip ∷ Ip ∷ [];
   interfaces = codes "o" ∷ codes "x" ∷ codes "b" ∷ codes "a" ∷ codes "c" ∷ codes "y" ∷ [];
   links = link 0 0 0 1 1 ∷ link 1 1 2 2 3 ∷ link 2 1 4 3 3 ∷ link 3 3 2 2 4 ∷ link 4 2 5 4 2 ∷ [];
   rows =
       record { link = id 0; label = label 2; groups = (record { link = id 1; ops = Push (label 1) Smpls ∷ [] } ∷ []) ∷ (record { link = id 2; ops = Push (label 1) Smpls ∷ Push (label 0) Mpls ∷ [] } ∷ []) ∷ [] }
+      ∷ record { link = id 0; label = label 4; groups = (record { link = id 1; ops = Push (label 1) Smpls ∷ [] } ∷ []) ∷ (record { link = id 2; ops = Push (label 1) Smpls ∷ Push (label 1) Smpls ∷ [] } ∷ []) ∷ [] }
       ∷ record { link = id 1; label = label 1; groups = (record { link = id 4; ops = Pop ∷ [] } ∷ []) ∷ [] }
       ∷ record { link = id 2; label = label 0; groups = (record { link = id 3; ops = Pop ∷ [] } ∷ []) ∷ [] }
       ∷ record { link = id 3; label = label 1; groups = (record { link = id 4; ops = Pop ∷ [] } ∷ []) ∷ [] } ∷ [];
@@ -52,7 +55,7 @@ step j m = record { group = j; member = m }
 
 -- by c and b to y
 abbrev around : Run
-around = record { first = id 0; header = (label 2, Ip) ∷ []; steps = step 1 0 ∷ step 0 0 ∷ step 0 0 ∷ [] }
+around = record { first = id 0; header = (label 2, Ip) ∷ []; steps = step 1 0 ∷ step 0 0 ∷ step 0 0 ∷ []; end = Arrives }
 
 abbrev weight : ℕ → ℕ → ℕ → Pair Terms Effort
 weight a b effort = record { first = record { first = a; second = b; third = 0; fourth = 0; fifth = 0 }; second = record { count = effort } }
@@ -72,6 +75,20 @@ none = record { word = No; weight = None; run = None; verdict = None }
 
 nothing_moves : report_of net bounds 2 none ≡ codes "answer: no\nmoving: no\n"
 nothing_moves = refl
+
+-- packets that are dropped: by no group, by no active one, or by an operation: the second group of ip2 pushes s10 on s10
+abbrev set_out : ℕ → ℕ → End → Run
+set_out e l end = record { first = id e; header = (label l, Ip) ∷ []; steps = []; end = end }
+
+no_group : run_shown net (set_out 4 2 Inactive) ≡ codes "b.y#y.b | ip1\ndropped: no group\n"
+no_group = refl
+
+no_active_group : run_shown net (set_out 0 2 Inactive) ≡ codes "x.o#a.x | ip1\ndropped: no active group\n"
+no_active_group = refl
+
+second_operation : run_shown net (set_out 0 4 (Undefined (step 1 0))) ≡ codes "x.o#a.x | ip2\ndropped: group 2 member 1 operation 2 undefined\n"
+unfolding digits
+second_operation = refl
 
 -- exact answers have the number of nodes in that line's place
 exactly : exact_report_of net bounds 2 found 3 ≡ codes "answer: yes\nweight: 4 12\neffort: 10\nfailed: a.b#b.a\nnodes: 3\nlinks: 4\nx.o#a.x | ip1\na.c#c.a | 30 s10 ip1 | group 2 member 1\nc.b#b.c | s10 ip1 | group 1 member 1\nb.y#y.b | ip1 | group 1 member 1\n"

@@ -9,7 +9,7 @@ use Rattle.wi_cert.specs.declared.check_refused.Part.TheVariants.{First, Path, L
 use Rattle.wi_cert.specs.declared.check_refused.ClosedRefused.{ClosedRefused}
 use Rattle.wi_cert.specs.declared.check_refused.ClosedRefused.TheVariants.{HeadMissing, PairMissing, GoalBelow, NotClosed}
 use Rattle.wi_cert.specs.declared.check_refused.CheckRefused.{CheckRefused}
-use Rattle.wi_cert.specs.declared.check_refused.CheckRefused.TheVariants.{TermsDiffer, StepNotInTable, NoMatch, WeightDiffers, WrongAnswer, Unbounded, BadSplit, Leaf, Memory}
+use Rattle.wi_cert.specs.declared.check_refused.CheckRefused.TheVariants.{OfAnotherQuestion, TermsDiffer, StepNotInTable, NoMatch, WeightDiffers, WrongAnswer, Unbounded, BadSplit, Leaf, Memory}
 use Rattle.wi_report.specs.Reports.{numbers_shown}
 use Rattle.wi_report.specs.RefusedDecisions.{components_shown}
 
@@ -40,6 +40,7 @@ node_words n = codes "node " ++ decimal n ++ codes ": "
 
 -- what is at fault, where runs are weighed by so many terms
 abbrev pub fault_words : ℕ → CheckRefused → List ℕ
+fault_words terms OfAnotherQuestion = codes "of another question"
 fault_words terms (TermsDiffer shown asked) = codes "terms shown " ++ decimal shown ++ codes ", asked " ++ decimal asked
 fault_words terms (StepNotInTable n) = codes "step " ++ decimal n ++ codes " not in table"
 fault_words terms (NoMatch part) = codes "part " ++ decimal (part_number part) ++ codes " does not match"

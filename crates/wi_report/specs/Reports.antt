@@ -1,5 +1,5 @@
 -- The report on an answer, as bytes.
-use Rattle.std.specs.Prelude.{◌≡◌, ℕ, ◌+◌, ◌==◌, Bool, true, false, if◌then◌else◌, List, [], ◌∷◌, ◌++◌, length, take, codes, Option, Some}
+use Rattle.std.specs.Prelude.{◌≡◌, ℕ, ◌+◌, ◌==◌, Bool, true, false, if◌then◌else◌, List, [], ◌∷◌, ◌++◌, length, take, codes, Option, Some, Ok, Err}
 use Rattle.std.specs.Option.{option_map_or}
 use Rattle.std.specs.Fmt.{decimal}
 use Rattle.wi_weight.specs.declared.kinds.Pair.{Pair}
@@ -8,13 +8,18 @@ use Rattle.wi_weight.specs.declared.kinds.Effort.{Effort}
 use Rattle.wi_net.specs.declared.parts.LinkId.{LinkId}
 use Rattle.wi_net.specs.declared.bounds.Bounds.{Bounds}
 use Rattle.wi_net.specs.Net.{Net, is_link, labels_known}
+use Rattle.wi_labels.specs.declared.ops.Op.{Op}
+use Rattle.wi_labels.specs.Header.{Entry, outcome}
+use Rattle.wi_net.specs.declared.parts.Member.{Member}
 use Rattle.wi_world.specs.declared.run.Run.{Run}
 use Rattle.wi_world.specs.declared.run.Step.{Step}
 use Rattle.wi_world.specs.declared.answer.Word.{Word}
 use Rattle.wi_world.specs.declared.answer.Word.TheVariants.{Yes, No, Inconclusive}
 use Rattle.wi_world.specs.declared.answer.Verdict.{Verdict}
 use Rattle.wi_world.specs.declared.answer.Verdict.TheVariants.{Fits, Exceeds, UsesFailed}
-use Rattle.wi_world.specs.Moves.{Location, moved}
+use Rattle.wi_world.specs.declared.run.End.{End}
+use Rattle.wi_world.specs.declared.run.End.TheVariants.{Arrives, Inactive, Undefined}
+use Rattle.wi_world.specs.Moves.{Location, groups_at, member_at, moved}
 use Rattle.wi_world.specs.Runs.{needs}
 use Rattle.wi_quantity.specs.Weighing.{components}
 use Rattle.wi_trace.specs.declared.answer.Answer.{Answer}
@@ -41,19 +46,43 @@ verdict_shown net k needs (Exceeds n) =
 verdict_shown net k needs (UsesFailed e) = codes "needs: " ++ links_shown net needs ++ codes "\ncause: uses " ++ link_shown net e ++ codes "\n"
 
 -- the group and the member of a step, from 1
+abbrev pub member_shown : Step → List ℕ
+member_shown step = codes " group " ++ decimal (step.group + 1) ++ codes " member " ++ decimal (step.member + 1)
+
 abbrev pub step_shown : Step → List ℕ
-step_shown step = codes " | group " ++ decimal (step.group + 1) ++ codes " member " ++ decimal (step.member + 1)
+step_shown step = codes " |" ++ member_shown step
 
--- a line for each step: where it leads, and its group and member
-abbrev pub steps_shown : Net → Location → List Step → List ℕ
-steps_shown net at [] = []
-steps_shown net at (step ∷ steps) = option_map_or (λ next. place_shown net next ++ step_shown step ++ codes "\n" ++ steps_shown net next steps) (moved net at step) []
+-- which of the operations isn't defined, from 1: the one behind them where all are
+abbrev pub undefined_operation : List Op → List Entry → ℕ
+undefined_operation ops header = elim (outcome 0 ops header) [ Ok next ↦ length ops + 1 | Err i ↦ i + 1 ]
 
--- a line for each link of a run
+-- whether an entry has groups, none of which is active
+abbrev pub inactive_shown : List (List Member) → List ℕ
+inactive_shown [] = codes "no group"
+inactive_shown (group ∷ groups) = codes "no active group"
+
+-- the group, the member and the operation that isn't defined, from 1
+abbrev pub undefined_shown : List Entry → Step → Member → List ℕ
+undefined_shown header step member =
+    member_shown step ++ codes " operation " ++ decimal (undefined_operation member.ops header) ++ codes " undefined"
+
+-- the line of how a packet is dropped, if it is
+abbrev pub end_shown : Net → End → Location → List ℕ
+end_shown net Arrives at = []
+end_shown net Inactive at = codes "dropped: " ++ inactive_shown (groups_at net at.0 at.1) ++ codes "\n"
+end_shown net (Undefined step) at =
+    option_map_or (λ member. codes "dropped:" ++ undefined_shown at.1 step member ++ codes "\n") (member_at net at step) []
+
+-- a line for each step: where it leads, and its group and member; and that of the end
+abbrev pub steps_shown : Net → End → Location → List Step → List ℕ
+steps_shown net end at [] = end_shown net end at
+steps_shown net end at (step ∷ steps) = option_map_or (λ next. place_shown net next ++ step_shown step ++ codes "\n" ++ steps_shown net end next steps) (moved net at step) []
+
+-- a line for each link of a run, and that of its end
 abbrev pub run_shown : Net → Run → List ℕ
-run_shown net run = place_shown net (run.first, run.header) ++ codes "\n" ++ steps_shown net (run.first, run.header) run.steps
+run_shown net run = place_shown net (run.first, run.header) ++ codes "\n" ++ steps_shown net run.end (run.first, run.header) run.steps
 
--- how many links a run has, and these
+-- how many links a run has, these, and its end
 abbrev pub links_listed : Net → Run → List ℕ
 links_listed net run = codes "links: " ++ decimal (length run.steps + 1) ++ codes "\n" ++ run_shown net run
 

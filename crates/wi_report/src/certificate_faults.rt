@@ -43,6 +43,7 @@ fn put_fault(fault: &CheckRefused, terms: usize, text: &mut Text) -> Result<(), 
     ensures { OnOk result (text.new ≡ text.old ++ fault_words terms fault.now) }
 {
     match fault {
+        CheckRefused::OfAnotherQuestion => text.put("of another question"),
         CheckRefused::TermsDiffer { shown, asked } => {
             put_counted("terms shown ", *shown as usize, ", asked ", text)?;
             text.put_number(*asked as u128)

@@ -9,15 +9,15 @@ ghost use Rattle.wi_report.specs.Packets.{entry_shown, last_shown, later_packets
 ghost use Rattle.wi_report.specs.Reports.{IsKnownRun, report_of};
 ghost use Rattle.wi_report.specs.private.NoValues.{IsLabelOf, no_value_shown};
 
-use crate::reports::{hop, report, twin_of};
+use crate::reports::report;
 use crate::shown::put_label;
 use std::alloc::Global;
 use wi_base::NoMemory;
 use wi_build::Problem;
 use wi_labels::Header;
-use wi_net::{LinkId, Network};
+use wi_net::Network;
 use wi_text::Text;
-use wi_trace::Answer;
+use wi_trace::{Answer, Location, follow, twin_of};
 use wi_wire::{Entry, NoValue, entries_of};
 use wi_world::{Run, Step};
 
@@ -44,31 +44,28 @@ fn put_packets(alloc: Global, net: &Network, run: &Run, text: &mut Text) -> Resu
     ensures { OnOk result (text.new ≡ text.old ++ packets_shown net.now run.now) }
 {
     put_packet(alloc, net, 1, &run.header, text)?;
-    let header = twin_of(&run.header)?;
-    put_later(alloc, net, run.first, header, run.steps.as_slice(), text)
+    let at = (run.first, twin_of(&run.header)?);
+    put_later(alloc, net, at, run.steps.as_slice(), text)
 }
 
 // Adds a line for each step from a place on; the first packet behind it is the second of the run.
 fn put_later(
     alloc: Global,
     net: &Network,
-    first: LinkId,
-    mut header: Header,
+    mut at: Location,
     steps: &[Step],
     text: &mut Text,
 ) -> Result<(), NoMemory>
-    requires link { is_link net.now first ≡ true }
-    requires header { labels_known net.now header ≡ true }
-    ensures { OnOk result (text.new ≡ text.old ++ later_packets net.now 2 (first, header) steps.now) }
+    requires link { is_link net.now at.0 ≡ true }
+    requires header { labels_known net.now at.1 ≡ true }
+    ensures { OnOk result (text.new ≡ text.old ++ later_packets net.now 2 at steps.now) }
 {
     net.keeps();
-    let mut link = first;
     for (i, step) in steps.iter().enumerate() {
-        let Some(next) = hop(net, link, &mut header, *step)? else {
+        if !follow(net, &mut at, *step)? {
             return Ok(());
-        };
-        link = next;
-        put_packet(alloc, net, i as u128 + 2, &header, text)?;
+        }
+        put_packet(alloc, net, i as u128 + 2, &at.1, text)?;
     }
     Ok(())
 }

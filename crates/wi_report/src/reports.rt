@@ -1,34 +1,34 @@
 //! A report is made whole before anything is printed, so that a refusal on the way puts nothing on standard output: it costs
 //! the report in memory. What the run needs is gathered anew and not copied from the verdict, so that `failed:` and `needs:`
 //! are one definition; that is one more walk along the run.
-ghost use Rattle.std.specs.Prelude.{◌≡◌, ◌++◌, ◌+◌, true, length, slice_get, take, codes, Some, None, IfOk, OnOk, IfSome};
+ghost use Rattle.std.specs.Prelude.{◌≡◌, ◌++◌, ◌+◌, true, length, take, codes, IfOk, OnOk, IfSome};
 ghost use Rattle.std.specs.List.{list_all};
-ghost use Rattle.std.specs.Option.{option_map};
 ghost use Rattle.std.specs.Fmt.{decimal};
 ghost use Rattle.wi_net.specs.Net.{is_link, labels_known};
-ghost use Rattle.wi_world.specs.Moves.{AreBounds, moved};
+ghost use Rattle.wi_world.specs.Moves.{AreBounds};
 ghost use Rattle.wi_world.specs.Runs.{needs};
 ghost use Rattle.wi_quantity.specs.Weighing.{components};
 ghost use Rattle.wi_report.specs.Shown.{link_shown, links_shown, place_shown};
-ghost use Rattle.wi_report.specs.Reports.{IsKnownRun, answer_line, numbers_shown, terms_shown, weight_shown, verdict_shown, step_shown, steps_shown, run_shown, links_listed, found_shown, word_shown, report_with, report_of, exact_report_of, accepted_text};
+ghost use Rattle.wi_report.specs.Reports.{IsKnownRun, answer_line, numbers_shown, terms_shown, weight_shown, verdict_shown, member_shown, step_shown, undefined_operation, inactive_shown, undefined_shown, end_shown, steps_shown, run_shown, links_listed, found_shown, word_shown, report_with, report_of, exact_report_of, accepted_text};
 ghost use Rattle.wi_report.specs.private.Modes.{mode_line};
 
 use crate::shown::{put_counted, put_known, put_links, put_location};
 use std::alloc::Global;
 use wi_base::NoMemory;
 use wi_build::Problem;
-use wi_labels::{Applied, Header};
-use wi_net::{Bounds, FailSet, LinkId, Network};
+use wi_labels::{Applied, Header, Op};
+use wi_net::{Bounds, FailSet, Group, LinkId, Member, Network};
 use wi_quantity::Weight;
 use wi_text::Text;
-use wi_trace::{Answer, needs};
-use wi_world::{Run, Step, Verdict, Word};
+use wi_trace::{Answer, Location, follow, groups_of, member_at, needs, twin_of};
+use wi_world::{End, Run, Step, Verdict, Word};
 
 /// The report on an answer to a problem. Its first line is `answer:` and the answer's word.
 /// Where the answer shows a run, then come `weight:` and the values of the vector's terms, or `none` where it has no term;
 /// `effort:`; `failed:` and the links that must fail, or `needs:` and these and then `cause:` and why they may not;
 /// `moving: yes`; `links:` and how many links the run has; and a line for each of these: the link, the header, and the group
-/// and the member, from 1, that led there. Where it shows none, the second line is `moving: no`.
+/// and the member, from 1, that led there. If the packet is dropped, `dropped:` tells last by what: no group of the last entry, or
+/// no active one, or an operation of a member that isn't defined. Where it shows none, the second line is `moving: no`.
 pub fn report(alloc: Global, problem: &Problem<'_>, answer: &Answer) -> Result<Text, NoMemory>
     requires { IfSome answer.now.run (IsKnownRun problem.now.net) }
     ensures { IfOk result (λ text. text ≡ report_of problem.now.net problem.now.bounds (length problem.now.vector) answer.now) }
@@ -281,7 +281,7 @@ fn put_mode(mode: Mode, found: bool, text: &mut Text) -> Result<(), NoMemory>
     }
 }
 
-// Adds how many links a run has, and these.
+// Adds how many links a run has, these, and its end.
 fn put_listed(net: &Network, run: &Run, text: &mut Text) -> Result<(), NoMemory>
     requires { IsKnownRun net.now run.now }
     ensures { OnOk result (text.new ≡ text.old ++ links_listed net.now run.now) }
@@ -297,106 +297,112 @@ fn put_length(steps: &[Step], text: &mut Text) -> Result<(), NoMemory>
     put_counted("links: ", steps.len() + 1, "\n", text)
 }
 
-// Adds a line for each link of a run.
+// Adds a line for each link of a run, and that of its end.
 fn put_run(net: &Network, run: &Run, text: &mut Text) -> Result<(), NoMemory>
     requires { IsKnownRun net.now run.now }
     ensures { OnOk result (text.new ≡ text.old ++ run_shown net.now run.now) }
 {
-    put_location(net, run.first, &run.header, text)?;
+    let at = (run.first, twin_of(&run.header)?);
+    put_location(net, at.0, &at.1, text)?;
     text.put("\n")?;
-    let header = twin_of(&run.header)?;
-    put_steps(net, run.first, header, run.steps.as_slice(), text)
+    put_steps(net, at, run.steps.as_slice(), run.end, text)
 }
 
-/// Another header of the same labels.
-pub(crate) fn twin_of(header: &Header) -> Result<Header, NoMemory>
-    ensures { IfOk result (λ twin. twin ≡ header.now) }
-{
-    match header.twin() {
-        Ok(header) => Ok(header),
-        Err(_) => Err(NoMemory::Memory),
-    }
-}
-
-// Adds a line for each step from a place on.
+// Adds a line for each step from a place on, and that of the end.
 fn put_steps(
     net: &Network,
-    first: LinkId,
-    mut header: Header,
+    mut at: Location,
     steps: &[Step],
+    end: End,
     text: &mut Text,
 ) -> Result<(), NoMemory>
-    requires link { is_link net.now first ≡ true }
-    requires header { labels_known net.now header ≡ true }
-    ensures { OnOk result (text.new ≡ text.old ++ steps_shown net.now (first, header) steps.now) }
+    requires link { is_link net.now at.0 ≡ true }
+    requires header { labels_known net.now at.1 ≡ true }
+    ensures { OnOk result (text.new ≡ text.old ++ steps_shown net.now end at steps.now) }
 {
     net.keeps();
-    let mut link = first;
     for step in steps {
-        let Some(next) = hop(net, link, &mut header, *step)? else {
+        if !follow(net, &mut at, *step)? {
             return Ok(());
-        };
-        link = next;
-        put_step_line(net, link, &header, *step, text)?;
+        }
+        put_step_line(net, &at, *step, text)?;
     }
-    Ok(())
-}
-
-/// Where a step leads: the header changes, and the answer is the link that the packet is on then.
-pub(crate) fn hop(
-    net: &Network,
-    link: LinkId,
-    header: &mut Header,
-    step: Step,
-) -> Result<Option<LinkId>, NoMemory>
-    ensures { IfOk result (λ next. moved net.now (link, header.old) step ≡ option_map (λ e. (e, header.new)) next) }
-{
-    let Some((top, _)) = header.at(0) else {
-        return Ok(None);
-    };
-    let Some(group) = nth(net.entry(link, top), step.group) else {
-        return Ok(None);
-    };
-    let Some(member) = nth(group.as_slice(), step.member) else {
-        return Ok(None);
-    };
-    match header.apply(member.ops.as_slice()) {
-        Ok(Applied::Done) => Ok(Some(member.link)),
-        Ok(Applied::Undefined(_)) => Ok(None),
-        Err(_) => Err(NoMemory::Memory),
-    }
-}
-
-// The element of a list with this number, the first one's being 0.
-fn nth<T>(items: &[T], number: u32) -> Option<&T>
-    ensures some { IfSome result (λ item. slice_get items.now number ≡ Some item.now) }
-    ensures none { result ≡ None → slice_get items.now number ≡ None }
-{
-    items.get(number as usize)
+    put_end(net, &at, end, text)
 }
 
 // Adds the line of a step that led here.
-fn put_step_line(
-    net: &Network,
-    link: LinkId,
-    header: &Header,
-    step: Step,
-    text: &mut Text,
-) -> Result<(), NoMemory>
-    requires link { is_link net.now link ≡ true }
-    requires header { labels_known net.now header.now ≡ true }
-    ensures { OnOk result (text.new ≡ text.old ++ (place_shown net.now (link, header.now) ++ step_shown step ++ codes "\n")) }
+fn put_step_line(net: &Network, at: &Location, step: Step, text: &mut Text) -> Result<(), NoMemory>
+    requires link { is_link net.now at.now.0 ≡ true }
+    requires header { labels_known net.now at.now.1 ≡ true }
+    ensures { OnOk result (text.new ≡ text.old ++ (place_shown net.now at.now ++ step_shown step ++ codes "\n")) }
 {
-    put_location(net, link, header, text)?;
-    put_step(step, text)?;
+    put_location(net, at.0, &at.1, text)?;
+    text.put(" |")?;
+    put_member(step, text)?;
     text.put("\n")
 }
 
-// Adds the group and the member of a step, from 1.
-fn put_step(step: Step, text: &mut Text) -> Result<(), NoMemory>
-    ensures { OnOk result (text.new ≡ text.old ++ step_shown step) }
+// Adds the line of how a packet is dropped, if it is.
+fn put_end(net: &Network, at: &Location, end: End, text: &mut Text) -> Result<(), NoMemory>
+    ensures { OnOk result (text.new ≡ text.old ++ end_shown net.now end at.now) }
 {
-    text.put(" | group ")?;
+    match end {
+        End::Arrives => Ok(()),
+        End::Inactive => put_inactive(groups_of(net, at), text),
+        End::Undefined(step) => match member_at(net, at, step) {
+            Some(member) => put_undefined(&at.1, step, member, text),
+            None => Ok(()),
+        },
+    }
+}
+
+// Adds the line of a packet for which none of these groups is active.
+fn put_inactive(groups: &[Group], text: &mut Text) -> Result<(), NoMemory>
+    ensures { OnOk result (text.new ≡ text.old ++ (codes "dropped: " ++ inactive_shown groups.now ++ codes "\n")) }
+{
+    text.put("dropped: ")?;
+    if groups.is_empty() {
+        text.put("no group")?;
+    } else {
+        text.put("no active group")?;
+    }
+    text.put("\n")
+}
+
+// Adds the line of a packet that is dropped on the way through a member.
+fn put_undefined(
+    header: &Header,
+    step: Step,
+    member: &Member,
+    text: &mut Text,
+) -> Result<(), NoMemory>
+    ensures { OnOk result (text.new ≡ text.old ++ (codes "dropped:" ++ undefined_shown header.now step member.now ++ codes "\n")) }
+{
+    let operation = undefined_operation(member.ops.as_slice(), header)?;
+    text.put("dropped:")?;
+    put_member(step, text)?;
+    text.put(" operation ")?;
+    text.put_number(operation as u128)?;
+    text.put(" undefined\n")
+}
+
+// Which of the operations isn't defined, from 1: the one behind them where all are.
+fn undefined_operation(ops: &[Op], header: &Header) -> Result<usize, NoMemory>
+    ensures { IfOk result (λ n. n ≡ undefined_operation ops.now header.now) }
+{
+    let mut header = twin_of(header)?;
+    match header.apply(ops) {
+        Ok(Applied::Done) => Ok(ops.len() + 1),
+        Ok(Applied::Undefined(i)) => Ok(i + 1),
+        Err(_) => Err(NoMemory::Memory),
+    }
+}
+
+// Adds the group and the member of a step, from 1.
+fn put_member(step: Step, text: &mut Text) -> Result<(), NoMemory>
+    ensures { OnOk result (text.new ≡ text.old ++ member_shown step) }
+{
+    text.put(" group ")?;
     text.put_number(step.group as u128 + 1)?;
     text.put(" member ")?;
     text.put_number(step.member as u128 + 1)

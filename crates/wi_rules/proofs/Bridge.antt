@@ -3,7 +3,9 @@ use Rattle.std.proofs.Common.{◌≡◌, ℕ, zero, suc, ◌+◌, not, List, [],
 use Rattle.std.specs.Prelude.{if◌then◌else◌}
 use Rattle.std.specs.List.{flat_map, filter, range_with_len}
 use Rattle.std.specs.Option.{option_map_or}
+use Rattle.wi_labels.specs.declared.label.Label.{Label}
 use Rattle.wi_labels.specs.declared.ops.Op.{Op}
+use Rattle.wi_net.specs.declared.parts.LinkId.{LinkId}
 use Rattle.wi_net.specs.LinkSet.{has}
 use Rattle.wi_net.specs.Tables.{all_members}
 use Rattle.wi_net.specs.Net.{links_where}
@@ -12,15 +14,17 @@ use Rattle.wi_weight.specs.lemmas.Sums.{length-plus}
 use Rattle.wi_pds.specs.declared.rule.Word2.{Word2}
 use Rattle.wi_pds.specs.declared.rule.Word2.TheVariants.{Empty, One}
 use Rattle.wi_pds.specs.Runs.{symbols}
+use Rattle.wi_world.specs.declared.run.End.TheVariants.{Arrives, Inactive, Undefined}
 use Rattle.wi_rules.specs.declared.spot.Origin.{Origin}
 use Rattle.wi_rules.specs.declared.spot.Origin.TheVariants.{SetOut}
 use Rattle.wi_rules.specs.declared.spot.Spot.{Spot}
-use Rattle.wi_rules.specs.declared.spot.Spot.TheVariants.{Start, Done, Build, Close, OnLink, Mid}
-use Rattle.wi_rules.specs.Rules.{Encoding, SpotRule, zeros, plain, working, pushing, written, on_way, may_build, build_rules, set_out_rules, entry_rules, on_link_rules, is_label, next_op_rules, rules_of, IsEncoding}
+use Rattle.wi_rules.specs.declared.spot.Spot.TheVariants.{Start, Done, Build, Close, OnLink, Mid, Drop}
+use Rattle.wi_rules.specs.Rules.{Encoding, SpotRule, zeros, plain, working, pushing, written, on_way, may_build, build_rules, set_out_rules, entry_rules, lost_by, lost_rules, end_rules, on_link_rules, is_label, next_op_rules, rules_of, IsEncoding}
 use Rattle.wi_rules.specs.Goals.{Rewrites, rules_weight, main_origin, origins_of}
 use Rattle.wi_rules.proofs.Lists.{In, contains_in, in_contains, in_either, map_in, flat_in, if_in, option_in, one_in, length_zeros}
 use Rattle.wi_rules.proofs.Ends.{Ends}
 use Rattle.wi_rules.proofs.HopRun.{Hops, entry_in}
+use Rattle.wi_rules.proofs.Ending.{end_in}
 
 plus_last : (a b : List ℕ) (x y : ℕ) → length a ≡ length b → plus (a ++ x ∷ []) (b ++ y ∷ []) ≡ plus a b ++ (x + y) ∷ []
 plus_last [] [] x y h = refl
@@ -31,6 +35,14 @@ plus_last (m ∷ a) (n ∷ b) x y h = ap (λ (r : List ℕ). (m + n) ∷ r) (plu
 module _ (s : Encoding) (k : IsEncoding s) where
   of_plain : (to : Spot) (word : Word2) (r : SpotRule) → plain s to word ≡ r → length r.share ≡ s.terms
   of_plain to word r e = subst (λ (x : SpotRule). length x.share ≡ s.terms) e (length_zeros s)
+
+  of_end : (e : LinkId) (l : Label) (r : SpotRule) → In (end_rules s e l) r → length r.share ≡ s.terms
+  of_end e l r i =
+      elim (end_in s k e l r i) [
+        | inl a ↦ subst (λ (x : SpotRule). length x.share ≡ s.terms) a.is (k.end_length e l Arrives)
+        | inr (inl a) ↦ subst (λ (x : SpotRule). length x.share ≡ s.terms) a.is (k.end_length e l Inactive)
+        | inr (inr a) ↦ subst (λ (x : SpotRule). length x.share ≡ s.terms) a.is (k.end_length e l (Undefined a.step))
+      ]
 
   -- each rule adds to so many terms
   rule_length : (p : Spot) (g : ℕ) (r : SpotRule) → In (rules_of s p g) r → length r.share ≡ s.terms
@@ -56,9 +68,9 @@ module _ (s : Encoding) (k : IsEncoding s) where
       of_plain (Close a.0) Empty r a.2
   rule_length (OnLink e q) zero r i = absurd i
   rule_length (OnLink e q) (suc n) r i =
-      elim (in_either (entry_rules s e q (record { 0 = n })) (if s.path.accepts q then plain s (Close 0) (One (suc n)) ∷ [] else []) r (if_in (is_label s.net n) (on_link_rules s e q n) r i).1) [
+      elim (in_either (entry_rules s e q (record { 0 = n })) (if s.path.accepts q then end_rules s e (record { 0 = n }) else []) r (if_in (is_label s.net n) (on_link_rules s e q (record { 0 = n })) r i).1) [
         | inl a ↦ (let h : Hops s k e q (record { 0 = n }) r = entry_in s k e q (record { 0 = n }) r a in subst (λ (x : SpotRule). length x.share ≡ s.terms) h.is (k.step_length e (record { 0 = n }) h.step))
-        | inr a ↦ (let b = if_in (s.path.accepts q) (plain s (Close 0) (One (suc n)) ∷ []) r a in of_plain (Close 0) (One (suc n)) r (one_in (plain s (Close 0) (One (suc n))) r b.1))
+        | inr a ↦ of_end e (record { 0 = n }) r (if_in (s.path.accepts q) (end_rules s e (record { 0 = n })) r a).1
       ]
   rule_length (Mid m zero q) g r i = absurd i
   rule_length (Mid m (suc j) q) zero r i = absurd i
@@ -67,6 +79,12 @@ module _ (s : Encoding) (k : IsEncoding s) where
       let b = option_in (λ (op : Op). option_map_or (λ (word : Word2). working s m (suc j) (on_way a.0 m (suc (suc j)) q) word ∷ []) (written s.net op n) []) (slice_get a.0.ops (suc j)) r a.2 in
       let c = option_in (λ (word : Word2). working s m (suc j) (on_way a.0 m (suc (suc j)) q) word ∷ []) (written s.net b.0 n) r b.2 in
       subst (λ (x : SpotRule). length x.share ≡ s.terms) (one_in (working s m (suc j) (on_way a.0 m (suc (suc j)) q) c.0) r c.2) (length_zeros s)
+  rule_length (Drop m zero) g r i = absurd i
+  rule_length (Drop m (suc j)) zero r i = absurd i
+  rule_length (Drop m (suc j)) (suc n) r i =
+      let a = option_in (lost_rules s m (suc j) n) (slice_get (all_members s.net.rows) m) r (if_in (is_label s.net n) (option_map_or (lost_rules s m (suc j) n) (slice_get (all_members s.net.rows) m) []) r i).1 in
+      let b = option_in (λ (way : Spot × Word2). working s m (suc j) way.0 way.1 ∷ []) (lost_by s.net a.0.ops m (suc j) n) r a.2 in
+      subst (λ (x : SpotRule). length x.share ≡ s.terms) (one_in (working s m (suc j) b.0.0 b.0.1) r b.2) (length_zeros s)
 
   pub record Spelled (p : Spot) (stack t : List ℕ) (os : List Origin) (n : ℕ) : Type 0 where
     pub rules : List SpotRule

@@ -6,8 +6,7 @@ use Rattle.wi_net.specs.Net.{label_known, labels_known}
 use Rattle.wi_pds.specs.declared.rule.Word2.TheVariants.{Empty}
 use Rattle.wi_rules.specs.declared.spot.Origin.{Origin}
 use Rattle.wi_rules.specs.declared.spot.Spot.TheVariants.{Done, Close}
-use Rattle.wi_rules.specs.Rules.{Encoding, zeros, plain, is_label}
-use Rattle.wi_rules.specs.Goals.{Walks}
+use Rattle.wi_rules.specs.Rules.{Encoding, zeros, plain, is_label, Walks}
 use Rattle.wi_rules.proofs.Lists.{In, contains_in, in_contains, in_map, map_in, if_in, one_in, length_zeros}
 use Rattle.wi_rules.proofs.Header.{labels_of}
 use Rattle.wi_rules.proofs.HopRun.{top_label}

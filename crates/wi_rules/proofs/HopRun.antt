@@ -22,13 +22,13 @@ use Rattle.wi_world.proofs.Allowed.{Names, member_named, names_by_link, Possible
 use Rattle.wi_rules.specs.declared.spot.Origin.{Origin}
 use Rattle.wi_rules.specs.declared.spot.Origin.TheVariants.{Hop}
 use Rattle.wi_rules.specs.declared.spot.Spot.{Spot}
-use Rattle.wi_rules.specs.declared.spot.Spot.TheVariants.{Done, Close, OnLink}
-use Rattle.wi_rules.specs.Rules.{Encoding, SpotRule, plain, each_at, written, first_written, member_number, on_way, may_use, hop_rules, entry_rules, on_link_rules, is_label, rules_of, IsEncoding}
+use Rattle.wi_rules.specs.declared.spot.Spot.TheVariants.{Done, OnLink}
+use Rattle.wi_rules.specs.Rules.{Encoding, SpotRule, written, first_written, member_number, on_way, may_use, hop_rules, entry_rules, end_rules, on_link_rules, is_label, rules_of, IsEncoding}
 use Rattle.wi_rules.specs.Goals.{main_origin, share_at}
-use Rattle.wi_rules.proofs.Lists.{In, in_left, in_right, in_either, in_map, map_in, in_each0, each0_in, if_in, option_in, one_in, get_below}
-use Rattle.wi_rules.proofs.Ends.{Ends, stack, plain_step, plain_on}
+use Rattle.wi_rules.proofs.Lists.{In, in_left, in_right, in_either, in_map, map_in, if_in, option_in, get_below}
+use Rattle.wi_rules.proofs.Ends.{Ends, stack}
 use Rattle.wi_rules.proofs.Ops.{class_known, Wrote, wrote, Did, did, After, after_from, after_to}
-use Rattle.wi_rules.proofs.Members.{member_numbered}
+use Rattle.wi_rules.proofs.Members.{member_numbered, in_each_member, ForMember, each_member_in}
 use Rattle.wi_rules.proofs.Hop.{gone, op_of, mid_forward, Worked, mid_backward}
 
 -- the rule for a member of an entry
@@ -59,9 +59,8 @@ module _ (s : Encoding) (k : IsEncoding s) where
       → first_written s.net n.member.ops l.0 ≡ Some word → In (s.path.next q n.member.link.0) r → In (rules_of s (OnLink e q) (suc l.0)) (hop_rule s e q l step n.member word r)
   in_at e q l step n word r there u w i =
       rw there (in_left (entry_rules s e q l) _ (hop_rule s e q l step n.member word r)
-      (in_each0 (λ (j : ℕ) (group : List Member). each_at (λ (i : ℕ) (member : Member). hop_rules s e q l (record { group = j; member = i }) member) 0 group) (entry s.net e l) step.group n.group (hop_rule s e q l step n.member word r) n.group_is
-      (in_each0 (λ (i : ℕ) (member : Member). hop_rules s e q l (record { group = step.group; member = i }) member) n.group step.member n.member (hop_rule s e q l step n.member word r) n.member_is
-      (in_hop_rules e q l step n.member word r u w i))))
+      (in_each_member (hop_rules s e q l) (entry s.net e l) step n.group n.member (hop_rule s e q l step n.member word r) n.group_is n.member_is
+      (in_hop_rules e q l step n.member word r u w i)))
 
   -- what a rule of an entry is made of
   pub record Hops (e : LinkId) (q : ℕ) (l : Label) (rule : SpotRule) : Type 0 where
@@ -76,15 +75,13 @@ module _ (s : Encoding) (k : IsEncoding s) where
 
   pub entry_in : (e : LinkId) (q : ℕ) (l : Label) (rule : SpotRule) → In (entry_rules s e q l) rule → Hops e q l rule
   entry_in e q l rule h =
-      let a = each0_in (λ (j : ℕ) (group : List Member). each_at (λ (i : ℕ) (member : Member). hop_rules s e q l (record { group = j; member = i }) member) 0 group) (entry s.net e l) rule h in
-      let b = each0_in (λ (i : ℕ) (member : Member). hop_rules s e q l (record { group = a.0; member = i }) member) a.1 rule a.3 in
-      let step : Step = record { group = a.0; member = b.0 } in
-      let c = if_in (may_use s.net s.bounds (entry s.net e l) a.0 b.1.link) (option_map_or (λ (word : Word2). map (hop_rule s e q l step b.1 word) (s.path.next q b.1.link.0)) (first_written s.net b.1.ops l.0) []) rule b.3 in
-      let d = option_in (λ (word : Word2). map (hop_rule s e q l step b.1 word) (s.path.next q b.1.link.0)) (first_written s.net b.1.ops l.0) rule c.1 in
-      let f = map_in (hop_rule s e q l step b.1 d.0) (s.path.next q b.1.link.0) rule d.2 in
+      let a : ForMember (hop_rules s e q l) (entry s.net e l) rule = each_member_in (hop_rules s e q l) (entry s.net e l) rule h in
+      let c = if_in (may_use s.net s.bounds (entry s.net e l) a.step.group a.member.link) (option_map_or (λ (word : Word2). map (hop_rule s e q l a.step a.member word) (s.path.next q a.member.link.0)) (first_written s.net a.member.ops l.0) []) rule a.there in
+      let d = option_in (λ (word : Word2). map (hop_rule s e q l a.step a.member word) (s.path.next q a.member.link.0)) (first_written s.net a.member.ops l.0) rule c.1 in
+      let f = map_in (hop_rule s e q l a.step a.member d.0) (s.path.next q a.member.link.0) rule d.2 in
       record {
-        step = step;
-        names = record { group = a.1; member = b.1; group_is = a.2; member_is = b.2 };
+        step = a.step;
+        names = record { group = a.group; member = a.member; group_is = a.group_is; member_is = a.member_is };
         word = d.0;
         to = f.0;
         usable = c.0;
@@ -94,7 +91,7 @@ module _ (s : Encoding) (k : IsEncoding s) where
       }
 
   -- a possible hop through a member is one that the rules allow
-  possible_use : (e : LinkId) (top : Entry) (below : List Entry) (step : Step) (p : Possible s.net s.bounds (e, top ∷ below) step) → may_use s.net s.bounds (entry s.net e top.0) step.group p.named.member.link ≡ true
+  pub possible_use : (e : LinkId) (top : Entry) (below : List Entry) (step : Step) (p : Possible s.net s.bounds (e, top ∷ below) step) → may_use s.net s.bounds (entry s.net e top.0) step.group p.named.member.link ≡ true
   possible_use e top below step p =
       let b = before s.net (entry s.net e top.0) step.group in
       and_from (nat_le (risk_count s.net (outside (before s.net (entry s.net e top.0) step.group) s.bounds.down)) s.bounds.k && is_apart (before s.net (entry s.net e top.0) step.group) s.bounds.up)
@@ -102,7 +99,7 @@ module _ (s : Encoding) (k : IsEncoding s) where
       (and_from (nat_le (risk_count s.net (outside (before s.net (entry s.net e top.0) step.group) s.bounds.down)) s.bounds.k) (is_apart (before s.net (entry s.net e top.0) step.group) s.bounds.up) p.few p.up)
       (and_from (not (has (before s.net (entry s.net e top.0) step.group) p.named.member.link)) (not (has s.bounds.down p.named.member.link)) (not_from_false (has (before s.net (entry s.net e top.0) step.group) p.named.member.link) p.spared) (not_from_false (has s.bounds.down p.named.member.link) p.alive))
 
-  use_possible : (e : LinkId) (top : Entry) (below : List Entry) (step : Step) (n : Names s.net (e, top ∷ below) step) → may_use s.net s.bounds (entry s.net e top.0) step.group n.member.link ≡ true → is_possible s.net s.bounds (e, top ∷ below) step ≡ true
+  pub use_possible : (e : LinkId) (top : Entry) (below : List Entry) (step : Step) (n : Names s.net (e, top ∷ below) step) → may_use s.net s.bounds (entry s.net e top.0) step.group n.member.link ≡ true → is_possible s.net s.bounds (e, top ∷ below) step ≡ true
   use_possible e top below step n u =
       let few = nat_le (risk_count s.net (outside (needed s.net (e, top ∷ below) step) s.bounds.down)) s.bounds.k in
       let parts = and_parts (nat_le (risk_count s.net (outside (needed s.net (e, top ∷ below) step) s.bounds.down)) s.bounds.k && is_apart (needed s.net (e, top ∷ below) step) s.bounds.up) (not (has (needed s.net (e, top ∷ below) step) n.member.link) && not (has s.bounds.down n.member.link)) u in
@@ -227,19 +224,28 @@ module _ (s : Encoding) (k : IsEncoding s) where
         known = r.known;
       }
 
-  -- the packet's journey is over, and its header is read
-  pub record Over (q : ℕ) (h : List Entry) (t : List ℕ) (os : List Origin) (c : ℕ) : Type 0 where
+  -- the packet's journey is over, by a rule that ends a run
+  pub record Over (e : LinkId) (q : ℕ) (h : List Entry) (t : List ℕ) (os : List Origin) (c : ℕ) : Type 0 where
     pub accepts : s.path.accepts q ≡ true
+    pub top : Entry
+    pub below : List Entry
+    pub header_is : h ≡ top ∷ below
+    pub rule : SpotRule
+    pub there : In (end_rules s e top.0) rule
+    pub rest : List ℕ
+    pub told : List Origin
     pub count : ℕ
-    pub ends : Ends s (Close 0) (stack h) t os count
+    pub ends : Ends s rule.to (symbols rule.word ++ stack below) rest told count
+    pub share : t ≡ plus rule.share rest
+    pub tells : os ≡ main_origin rule.origin ++ told
     pub number : c ≡ suc count
 
   -- From a link a run goes on by a possible hop, of the step's weight and number of rules, or the journey is over.
-  pub hop_backward : (e : LinkId) (q : ℕ) (h : List Entry) (t : List ℕ) (os : List Origin) (c : ℕ) → labels_known s.net h ≡ true → Ends s (OnLink e q) (stack h) t os c → Hopped (e, h) q t os c ⊎ Over q h t os c
+  pub hop_backward : (e : LinkId) (q : ℕ) (h : List Entry) (t : List ℕ) (os : List Origin) (c : ℕ) → labels_known s.net h ≡ true → Ends s (OnLink e q) (stack h) t os c → Hopped (e, h) q t os c ⊎ Over e q h t os c
   hop_backward e q h t os zero known ends = let no : OnLink e q ≡ Done = ends.0 in cc
   hop_backward e q [] t os (suc c) known ends = absurd ends.3
   hop_backward e q (top ∷ below) t os (suc c) known ends =
-      elim (in_either (entry_rules s e q top.0) (if s.path.accepts q then plain s (Close 0) (One (suc top.0.0)) ∷ [] else []) ends.0 (if_in (is_label s.net top.0.0) (on_link_rules s e q top.0.0) ends.0 ends.3).1) [
+      elim (in_either (entry_rules s e q top.0) (if s.path.accepts q then end_rules s e top.0 else []) ends.0 (if_in (is_label s.net top.0.0) (on_link_rules s e q top.0) ends.0 ends.3).1) [
         | inl i ↦ inl (hopped (entry_in e q top.0 ends.0 i))
         | inr i ↦ inr (over i)
       ]
@@ -267,17 +273,25 @@ module _ (s : Encoding) (k : IsEncoding s) where
             known = l.known;
           }
 
-      over : In (if s.path.accepts q then plain s (Close 0) (One (suc top.0.0)) ∷ [] else []) ends.0 → Over q (top ∷ below) t os (suc c)
+      over : In (if s.path.accepts q then end_rules s e top.0 else []) ends.0 → Over e q (top ∷ below) t os (suc c)
       over i =
-          let r = if_in (s.path.accepts q) (plain s (Close 0) (One (suc top.0.0)) ∷ []) ends.0 i in
-          let is : plain s (Close 0) (One (suc top.0.0)) ≡ ends.0 = one_in (plain s (Close 0) (One (suc top.0.0))) ends.0 r.1 in
+          let r = if_in (s.path.accepts q) (end_rules s e top.0) ends.0 i in
           record {
             accepts = r.0;
+            top = top;
+            below = below;
+            header_is = refl;
+            rule = ends.0;
+            there = r.1;
+            rest = ends.1;
+            told = ends.2;
             count = c;
-            ends = plain_on s ends.0 (Close 0) (One (suc top.0.0)) (stack below) t ends.1 os ends.2 c is ends.4 ends.5 ends.6 ends.7;
+            ends = ends.4;
+            share = ends.6;
+            tells = ends.7;
             number = refl;
           }
 
-  pub over_forward : (e : LinkId) (q : ℕ) (top : Entry) (below : List Entry) (t : List ℕ) (os : List Origin) (c : ℕ) → labels_known s.net (top ∷ below) ≡ true → s.path.accepts q ≡ true → Ends s (Close 0) (stack (top ∷ below)) t os c → length t ≡ s.terms → Ends s (OnLink e q) (stack (top ∷ below)) t os (suc c)
-  over_forward e q top below t os c known a ends l =
-      plain_step s (OnLink e q) (Close 0) (One (suc top.0.0)) (suc top.0.0) (stack below) t os c (rw (top_label s top below known) (in_right (entry_rules s e q top.0) _ (plain s (Close 0) (One (suc top.0.0))) (rw a (inl refl)))) ends l
+  -- a rule that ends a run is one of the link's where the path's automaton accepts
+  pub in_end : (e : LinkId) (q : ℕ) (top : Entry) (below : List Entry) (rule : SpotRule) → labels_known s.net (top ∷ below) ≡ true → s.path.accepts q ≡ true → In (end_rules s e top.0) rule → In (rules_of s (OnLink e q) (suc top.0.0)) rule
+  in_end e q top below rule known a i = rw (top_label s top below known) (in_right (entry_rules s e q top.0) _ rule (rw a i))

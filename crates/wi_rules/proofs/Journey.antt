@@ -1,8 +1,8 @@
--- From the first link to the last header: steps and rules.
-use Rattle.std.proofs.Common.{◌≡◌, ℕ, zero, suc, ◌+◌, ◌<◌, ◌≤◌, max, true, false, List, [], ◌∷◌, length, map, Option, Some, None, inl, inr, refl, arith, ap, ◌∙◌, subst}
+-- From the first link to the end: steps and rules.
+use Rattle.std.proofs.Common.{◌≡◌, ℕ, zero, suc, ◌+◌, ◌<◌, ◌≤◌, max, true, List, [], ◌∷◌, ◌++◌, length, map, Option, Some, None, inl, inr, refl, arith, ap, ◌∙◌, subst}
 use Rattle.std.specs.List.{list_all}
 use Rattle.std.specs.Option.{option_map_or}
-use Rattle.std.proofs.lemmas.Bool.{and_parts, and_from}
+use Rattle.std.proofs.lemmas.Bool.{and_parts}
 use Rattle.wi_labels.specs.declared.ops.Op.{Op}
 use Rattle.wi_labels.specs.Header.{Entry, is_valid_header, after_ops}
 use Rattle.wi_labels.proofs.HeaderLemmas.{after_ops_valid}
@@ -12,21 +12,24 @@ use Rattle.wi_net.specs.Network.{op_known}
 use Rattle.wi_weight.specs.Weights.{plus}
 use Rattle.wi_weight.specs.lemmas.Sums.{length-plus}
 use Rattle.wi_world.specs.declared.run.Step.{Step}
-use Rattle.wi_world.specs.Moves.{Location, moved, is_possible, follows}
-use Rattle.wi_world.specs.Runs.{locations, last_header, sum_over, work}
+use Rattle.wi_world.specs.declared.run.End.{End}
+use Rattle.wi_world.specs.Moves.{Location, moved, is_possible, can_end}
+use Rattle.wi_world.specs.Runs.{locations, last_header, sum_over, work, end_work}
+use Rattle.wi_world.specs.Holds.{is_dropped}
 use Rattle.wi_world.proofs.Allowed.{Possible, possible_parts}
+use Rattle.wi_world.proofs.Steps.{Onward, goes, goes_on, follows_from}
 use Rattle.wi_rules.specs.declared.spot.Origin.{Origin}
-use Rattle.wi_rules.specs.declared.spot.Origin.TheVariants.{Hop}
-use Rattle.wi_rules.specs.declared.spot.Spot.TheVariants.{Close, OnLink}
-use Rattle.wi_rules.specs.Rules.{Encoding, zeros, IsEncoding}
-use Rattle.wi_rules.specs.Goals.{Walks, Accepts, share_at, shares, hops_of}
+use Rattle.wi_rules.specs.declared.spot.Origin.TheVariants.{Hop, Ending}
+use Rattle.wi_rules.specs.declared.spot.Spot.TheVariants.{OnLink}
+use Rattle.wi_rules.specs.Rules.{Encoding, Walks, Accepts, IsEncoding}
+use Rattle.wi_rules.specs.Goals.{share_at, end_share_at, shares, hops_of}
 use Rattle.wi_rules.proofs.Lists.{in_contains, contains_in, length_zeros}
 use Rattle.wi_rules.proofs.Ends.{Ends, stack}
 use Rattle.wi_rules.proofs.Ops.{Wrote, wrote, After, after_from}
 use Rattle.wi_rules.proofs.Hop.{ops_of}
-use Rattle.wi_rules.proofs.HopRun.{Listed, numbered, led, work_named, Hopped, Over, hop_forward, hop_backward, over_forward}
+use Rattle.wi_rules.proofs.HopRun.{Listed, numbered, led, work_named, Hopped, hop_forward, hop_backward}
 use Rattle.wi_rules.proofs.Header.{labels_of}
-use Rattle.wi_rules.proofs.Close.{Read, close_forward, close_backward}
+use Rattle.wi_rules.proofs.Ending.{Ended, end_forward, end_backward}
 
 -- the numbers of the links after the first
 abbrev pub later : Net → Location → List Step → List ℕ
@@ -66,65 +69,64 @@ module _ (s : Encoding) (k : IsEncoding s) where
   share_length (e, []) step = length_zeros s
   share_length (e, top ∷ below) step = k.step_length e top.0 step
 
-  pub shares_length : (steps : List Step) (at : Location) → length (shares s at steps) ≡ s.terms
-  shares_length [] at = length_zeros s
-  shares_length (step ∷ steps) at = go (moved s.net at step) refl (shares_length steps)
+  end_share_length : (at : Location) (end : End) → length (end_share_at s at end) ≡ s.terms
+  end_share_length (e, []) end = length_zeros s
+  end_share_length (e, top ∷ below) end = k.end_length e top.0 end
+
+  pub shares_length : (end : End) (steps : List Step) (at : Location) → length (shares s end at steps) ≡ s.terms
+  shares_length end [] at = end_share_length at end
+  shares_length end (step ∷ steps) at = go (moved s.net at step) refl (shares_length end steps)
     where
-      go : (o : Option Location) → moved s.net at step ≡ o → ((at : Location) → length (shares s at steps) ≡ s.terms) → length (shares s at (step ∷ steps)) ≡ s.terms
+      go : (o : Option Location) → moved s.net at step ≡ o → ((at : Location) → length (shares s end at steps) ≡ s.terms) → length (shares s end at (step ∷ steps)) ≡ s.terms
       go None m ih = rw m (length_zeros s)
-      go (Some next) m ih = rw m (length-plus s.terms (share_at s at step) (shares s next steps) (share_length at step) (ih next))
+      go (Some next) m ih = rw m (length-plus s.terms (share_at s at step) (shares s end next steps) (share_length at step) (ih next))
 
-  -- the number of rules from a link on
-  abbrev pub count_from : Location → List Step → ℕ
-  count_from at steps = sum_over s.net (work s.net) at steps + (length (last_header s.net at steps) + 2)
+  -- the number of rules from a link on, and what they tell
+  abbrev pub count_from : End → Location → List Step → ℕ
+  count_from end at steps = sum_over s.net (work s.net) (end_work s.net end) at steps + 2
 
-  -- Steps that are possible hops, whose links the path's automaton accepts and whose last header the last one does, are rules to the end.
-  pub journey_forward : (steps : List Step) (e : LinkId) (h : List Entry) (q r : ℕ) → is_valid_header h ≡ true → labels_known s.net h ≡ true → follows s.net (is_possible s.net s.bounds) (e, h) steps ≡ true
+  abbrev pub told_from : End → List Step → List Origin
+  told_from end steps = hops_of steps ++ Ending end ∷ []
+
+  -- Steps that are possible hops, whose links the path's automaton accepts and whose last header the last one does, and an end that can
+  -- be, are rules to the end.
+  pub journey_forward : (end : End) → is_dropped end ≡ s.drops → (steps : List Step) (e : LinkId) (h : List Entry) (q r : ℕ) → is_valid_header h ≡ true → labels_known s.net h ≡ true → goes s.net s.bounds end (e, h) steps ≡ true
       → Walks s.path q (later s.net (e, h) steps) r → s.path.accepts r ≡ true → Accepts s.last (labels_of (last_header s.net (e, h) steps))
-      → Ends s (OnLink e q) (stack h) (shares s (e, h) steps) (hops_of steps) (count_from (e, h) steps)
-  journey_forward steps e [] q r v known f w a l = cc
-  journey_forward [] e (top ∷ below) q r v known f w a l =
-      let closed : Ends s (Close 0) (stack (top ∷ below)) (zeros s) [] (suc (length (top ∷ below))) = close_forward s (top ∷ below) 0 l.0 known l.1 l.2 in
-      let all : Ends s (OnLink e q) (stack (top ∷ below)) (zeros s) [] (suc (suc (length (top ∷ below)))) = over_forward s k e q top below (zeros s) [] (suc (length (top ∷ below))) known (rw w a) closed (length_zeros s) in
-      let number : 0 + (length (top ∷ below) + 2) ≡ suc (suc (length (top ∷ below))) = omega arith in
-      rw number all
-  journey_forward (step ∷ steps) e (top ∷ below) q r v known f w a l = go (moved s.net (e, top ∷ below) step) refl (journey_forward steps)
-    where
-      parts : (is_possible s.net s.bounds (e, top ∷ below) step ≡ true) × (option_map_or (λ (next : Location). follows s.net (is_possible s.net s.bounds) next steps) (moved s.net (e, top ∷ below) step) false ≡ true)
-      parts = and_parts (is_possible s.net s.bounds (e, top ∷ below) step) (option_map_or (λ (next : Location). follows s.net (is_possible s.net s.bounds) next steps) (moved s.net (e, top ∷ below) step) false) f
+      → Ends s (OnLink e q) (stack h) (shares s end (e, h) steps) (told_from end steps) (count_from end (e, h) steps)
+  journey_forward end d steps e [] q r v known f w a l = cc
+  journey_forward end d [] e (top ∷ below) q r v known f w a l = end_forward s k e q top below end v known (rw w a) f d l
+  journey_forward end d (step ∷ steps) e (top ∷ below) q r v known f w a l =
+      let o : Onward s.net (is_possible s.net s.bounds) (λ place. can_end s.net s.bounds place end) (e, top ∷ below) step steps = goes_on s.net s.bounds end (e, top ∷ below) step steps f in
+      let keeps : (is_valid_header o.next.1 ≡ true) × (labels_known s.net o.next.1 ≡ true) = kept e top below step o.next o.passes o.moves v known in
+      let w1 : Walks s.path q (o.next.0.0 ∷ later s.net o.next steps) r = rw o.moves at w in
+      let rest : Ends s (OnLink o.next.0 w1.0) (stack o.next.1) (shares s end o.next steps) (told_from end steps) (count_from end o.next steps) =
+      journey_forward end d steps o.next.0 o.next.1 w1.0 r keeps.0 keeps.1 o.rest w1.2 a (rw o.moves at l) in
+      let all : Ends s (OnLink e q) (stack (top ∷ below)) (plus (share_at s (e, top ∷ below) step) (shares s end o.next steps)) (Hop step ∷ told_from end steps) (work s.net (e, top ∷ below) step o.next + count_from end o.next steps) =
+      hop_forward s k e q w1.0 top below step o.next (shares s end o.next steps) (told_from end steps) (count_from end o.next steps) o.passes o.moves (contains_in (s.path.next q o.next.0.0) w1.0 w1.1) known rest (shares_length end steps o.next) in
+      let number : (work s.net (e, top ∷ below) step o.next + sum_over s.net (work s.net) (end_work s.net end) o.next steps) + 2 ≡ work s.net (e, top ∷ below) step o.next + count_from end o.next steps = omega arith in
+      rw o.moves (rw number all)
 
-      go : (o : Option Location) → moved s.net (e, top ∷ below) step ≡ o
-          → ((e : LinkId) (h : List Entry) (q r : ℕ) → is_valid_header h ≡ true → labels_known s.net h ≡ true → follows s.net (is_possible s.net s.bounds) (e, h) steps ≡ true
-          → Walks s.path q (later s.net (e, h) steps) r → s.path.accepts r ≡ true → Accepts s.last (labels_of (last_header s.net (e, h) steps))
-          → Ends s (OnLink e q) (stack h) (shares s (e, h) steps) (hops_of steps) (count_from (e, h) steps))
-          → Ends s (OnLink e q) (stack (top ∷ below)) (shares s (e, top ∷ below) (step ∷ steps)) (hops_of (step ∷ steps)) (count_from (e, top ∷ below) (step ∷ steps))
-      go None m ih = let no : false ≡ true = rw m at parts.1 in cc
-      go (Some next) m ih =
-          let keeps : (is_valid_header next.1 ≡ true) × (labels_known s.net next.1 ≡ true) = kept e top below step next parts.0 m v known in
-          let w1 : Walks s.path q (next.0.0 ∷ later s.net next steps) r = rw m at w in
-          let rest : Ends s (OnLink next.0 w1.0) (stack next.1) (shares s next steps) (hops_of steps) (count_from next steps) = ih next.0 next.1 w1.0 r keeps.0 keeps.1 (rw m at parts.1) w1.2 a (rw m at l) in
-          let all : Ends s (OnLink e q) (stack (top ∷ below)) (plus (share_at s (e, top ∷ below) step) (shares s next steps)) (Hop step ∷ hops_of steps) (work s.net (e, top ∷ below) step next + count_from next steps) =
-          hop_forward s k e q w1.0 top below step next (shares s next steps) (hops_of steps) (count_from next steps) parts.0 m (contains_in (s.path.next q next.0.0) w1.0 w1.1) known rest (shares_length steps next) in
-          let number : (work s.net (e, top ∷ below) step next + sum_over s.net (work s.net) next steps) + (length (last_header s.net next steps) + 2) ≡ work s.net (e, top ∷ below) step next + count_from next steps = omega arith in
-          rw m (rw number all)
-
-  -- the steps that rules have made from a link on
+  -- the steps that rules have made from a link on, and the end
   pub record Journey (e : LinkId) (q : ℕ) (h : List Entry) (t : List ℕ) (os : List Origin) (n : ℕ) : Type 0 where
     pub steps : List Step
+    pub end : End
     pub state : ℕ
-    pub possible : follows s.net (is_possible s.net s.bounds) (e, h) steps ≡ true
+    pub possible : goes s.net s.bounds end (e, h) steps ≡ true
+    pub dropped : is_dropped end ≡ s.drops
     pub walks : Walks s.path q (later s.net (e, h) steps) state
     pub accepts : s.path.accepts state ≡ true
     pub last : Accepts s.last (labels_of (last_header s.net (e, h) steps))
-    pub share : t ≡ shares s (e, h) steps
-    pub tells : os ≡ hops_of steps
-    pub number : n ≡ count_from (e, h) steps
+    pub share : t ≡ shares s end (e, h) steps
+    pub tells : os ≡ told_from end steps
+    pub number : n ≡ count_from end (e, h) steps
 
   more : (e : LinkId) (q : ℕ) (h : List Entry) (t : List ℕ) (os : List Origin) (n : ℕ) (r : Hopped s k (e, h) q t os n) → Journey r.next.0 r.to r.next.1 r.rest r.told r.count → Journey e q h t os n
   more e q h t os n r j = record {
     steps = r.step ∷ j.steps;
+    end = j.end;
     state = j.state;
-    possible = and_from (is_possible s.net s.bounds (e, h) r.step) (option_map_or (λ (next : Location). follows s.net (is_possible s.net s.bounds) next j.steps) (moved s.net (e, h) r.step) false) r.possible (rw r.moves j.possible);
+    possible = follows_from s.net (is_possible s.net s.bounds) (λ place. can_end s.net s.bounds place j.end) (e, h) r.step r.next j.steps r.moves r.possible j.possible;
+    dropped = j.dropped;
     walks = rw r.moves (r.to, in_contains (s.path.next q r.next.0.0) r.to r.path, j.walks);
     accepts = j.accepts;
     last = rw r.moves j.last;
@@ -132,7 +134,7 @@ module _ (s : Encoding) (k : IsEncoding s) where
     tells = r.tells ∙ ap (λ (x : List Origin). Hop r.step ∷ x) j.tells;
     number = rw r.moves (
         let x : n ≡ work s.net (e, h) r.step r.next + r.count = r.number in
-        let y : r.count ≡ sum_over s.net (work s.net) r.next j.steps + (length (last_header s.net r.next j.steps) + 2) = j.number in
+        let y : r.count ≡ sum_over s.net (work s.net) (end_work s.net j.end) r.next j.steps + 2 = j.number in
         omega (arith, x, y)
         );
   }
@@ -144,30 +146,30 @@ module _ (s : Encoding) (k : IsEncoding s) where
       let y : work s.net at r.step r.next ≡ max 1 (length p.named.member.ops) = work_named s k at r.step p.named r.next in
       omega (arith, x, y)
 
-  ended : (e : LinkId) (q : ℕ) (h : List Entry) (t : List ℕ) (os : List Origin) (n : ℕ) → Over s k q h t os n → Journey e q h t os n
-  ended e q h t os n o =
-      let r : Read s 0 h t os o.count = close_backward s h 0 t os o.count o.ends in
-      record {
-        steps = [];
-        state = q;
-        possible = refl;
-        walks = refl;
-        accepts = o.accepts;
-        last = (r.state, r.walks, r.accepts);
-        share = r.share;
-        tells = r.tells;
-        number = (let x : n ≡ suc o.count = o.number in let y : o.count ≡ suc (length h) = r.number in omega (arith, x, y));
-      }
+  ended : (e : LinkId) (q : ℕ) (h : List Entry) (t : List ℕ) (os : List Origin) (n : ℕ) → s.path.accepts q ≡ true → Ended s k e h t os n → Journey e q h t os n
+  ended e q h t os n a r = record {
+    steps = [];
+    end = r.end;
+    state = q;
+    possible = r.can;
+    dropped = r.dropped;
+    walks = refl;
+    accepts = a;
+    last = r.last;
+    share = r.share;
+    tells = r.tells;
+    number = r.number;
+  }
 
-  -- Rules from a link to the end are possible hops, and then the last header is read.
+  -- Rules from a link to the end are possible hops, and then an end that can be.
   pub journey_backward : (fuel : ℕ) (e : LinkId) (q : ℕ) (h : List Entry) (t : List ℕ) (os : List Origin) (n : ℕ) → n ≤ fuel → labels_known s.net h ≡ true → Ends s (OnLink e q) (stack h) t os n → Journey e q h t os n
   journey_backward zero e q h t os n le known ends =
       elim (hop_backward s k e q h t os n known ends) [
         | inl r ↦ (let lt : r.count < n = works (e, h) q t os n r in absurd (omega (arith, le, lt)))
-        | inr o ↦ ended e q h t os n o
+        | inr o ↦ ended e q h t os n o.accepts (end_backward s k e q h t os n known o)
       ]
   journey_backward (suc fuel) e q h t os n le known ends =
       elim (hop_backward s k e q h t os n known ends) [
         | inl r ↦ (let lt : r.count < n = works (e, h) q t os n r in let less : r.count ≤ fuel = omega (arith, le, lt) in more e q h t os n r (journey_backward fuel r.next.0 r.to r.next.1 r.rest r.told r.count less r.known r.ends))
-        | inr o ↦ ended e q h t os n o
+        | inr o ↦ ended e q h t os n o.accepts (end_backward s k e q h t os n known o)
       ]

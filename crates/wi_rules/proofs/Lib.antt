@@ -6,6 +6,8 @@ pub mod Hop
 pub mod HopRun
 pub mod Close
 pub mod Header
+pub mod Lost
+pub mod Ending
 pub mod Made
 pub mod Journey
 pub mod Bridge

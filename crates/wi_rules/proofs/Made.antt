@@ -15,8 +15,8 @@ use Rattle.wi_pds.specs.Runs.{symbols}
 use Rattle.wi_rules.specs.declared.spot.Origin.{Origin}
 use Rattle.wi_rules.specs.declared.spot.Origin.TheVariants.{Pushed, SetOut}
 use Rattle.wi_rules.specs.declared.spot.Spot.TheVariants.{Start, Done, Build, OnLink}
-use Rattle.wi_rules.specs.Rules.{Automaton, Encoding, SpotRule, plain, pushing, may_build, build_rules, set_out_rules, is_label, rules_of, IsAutomaton, IsEncoding}
-use Rattle.wi_rules.specs.Goals.{main_origin, Walks, Accepts}
+use Rattle.wi_rules.specs.Rules.{Automaton, Encoding, SpotRule, plain, pushing, may_build, build_rules, set_out_rules, is_label, rules_of, IsAutomaton, Walks, Accepts, IsEncoding}
+use Rattle.wi_rules.specs.Goals.{main_origin}
 use Rattle.wi_rules.proofs.Lists.{In, contains_in, in_contains, in_map, map_in, in_flat, flat_in, in_filter, filter_in, in_range, if_in, get_below, has_in, in_has}
 use Rattle.wi_rules.proofs.Ends.{Ends, stack, plain_step, plain_on, pushing_on}
 use Rattle.wi_rules.proofs.Ops.{class_known}

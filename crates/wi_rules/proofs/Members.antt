@@ -14,7 +14,9 @@ use Rattle.wi_net.specs.Net.{Net, is_link}
 use Rattle.wi_net.specs.Network.{IsNetwork, op_known, leaves, is_member_at, is_group_at, is_row_of}
 use Rattle.wi_net.proofs.GroupLemmas.{leaves_link}
 use Rattle.wi_net.proofs.MemberLemmas.{get_back, members_count}
-use Rattle.wi_rules.proofs.Lists.{In, in_either, all_in, get_in, get_left}
+use Rattle.wi_world.specs.declared.run.Step.{Step}
+use Rattle.wi_rules.specs.Rules.{each_at, each_member}
+use Rattle.wi_rules.proofs.Lists.{In, in_either, in_each0, each0_in, all_in, get_in, get_left}
 
 -- the number of a member of an entry is its place among all members
 in_groups : (groups : List (List Member)) (j i : ℕ) (group : List Member) (member : Member) → slice_get groups j ≡ Some group → slice_get group i ≡ Some member → slice_get (members_of groups) (group_members (take j groups) + i) ≡ Some member
@@ -83,3 +85,25 @@ kept_rows net (row ∷ rows) m h i =
 -- The tables' members go out over links of the network, with at most eight operations, whose labels are the network's.
 pub kept : (net : Net) → IsNetwork net → (m : ℕ) (member : Member) → slice_get (all_members net.rows) m ≡ Some member → Kept net member
 kept net k m member e = kept_rows net net.rows member k.rows (get_in (all_members net.rows) m member e)
+
+-- what groups have for one of their members
+pub in_each_member : {Y : Type 0} (f : Step → Member → List Y) (groups : List (List Member)) (step : Step) (group : List Member) (member : Member) (y : Y)
+    → slice_get groups step.group ≡ Some group → slice_get group step.member ≡ Some member → In (f step member) y → In (each_member f groups) y
+in_each_member f groups step group member y g m h =
+    in_each0 (λ (j : ℕ) (group : List Member). each_at (λ (i : ℕ) (member : Member). f (record { group = j; member = i }) member) 0 group) groups step.group group y g
+    (in_each0 (λ (i : ℕ) (member : Member). f (record { group = step.group; member = i }) member) group step.member member y m h)
+
+-- and the member that they have it for
+pub record ForMember {Y : Type 0} (f : Step → Member → List Y) (groups : List (List Member)) (y : Y) : Type 0 where
+  pub step : Step
+  pub group : List Member
+  pub member : Member
+  pub group_is : slice_get groups step.group ≡ Some group
+  pub member_is : slice_get group step.member ≡ Some member
+  pub there : In (f step member) y
+
+pub each_member_in : {Y : Type 0} (f : Step → Member → List Y) (groups : List (List Member)) (y : Y) → In (each_member f groups) y → ForMember f groups y
+each_member_in f groups y h =
+    let a = each0_in (λ (j : ℕ) (group : List Member). each_at (λ (i : ℕ) (member : Member). f (record { group = j; member = i }) member) 0 group) groups y h in
+    let b = each0_in (λ (i : ℕ) (member : Member). f (record { group = a.0; member = i }) member) a.1 y a.3 in
+    record { step = record { group = a.0; member = b.0 }; group = a.1; member = b.1; group_is = a.2; member_is = b.2; there = b.3 }

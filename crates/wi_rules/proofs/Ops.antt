@@ -1,5 +1,5 @@
 -- Operations on a header, and what they write on its stack.
-use Rattle.std.proofs.Common.{◌≡◌, ℕ, suc, ◌+◌, Bool, true, false, List, [], ◌∷◌, ◌++◌, slice_get, Option, Some, None, Result, Ok, Err, refl, ap, sym, ◌∙◌}
+use Rattle.std.proofs.Common.{◌≡◌, ℕ, suc, ◌+◌, Bool, true, false, List, [], ◌∷◌, ◌++◌, slice_get, Option, Some, None, Result, Ok, Err, ◌⊎◌, inl, inr, refl, ap, sym, ◌∙◌}
 use Rattle.std.specs.Prelude.{if◌then◌else◌}
 use Rattle.std.proofs.lemmas.Bool.{and_parts, and_from}
 use Rattle.wi_labels.specs.declared.label.Class.{Class}
@@ -91,6 +91,30 @@ did net op top below word k e = go (allowed op top.1) refl
           known = λ o. effect_known net op top below o k;
         }
 
+-- an operation writes nothing just where it isn't defined
+pub nothing_written : (net : Net) (op : Op) (top : Entry) (below : List Entry) → labels_known net (top ∷ below) ≡ true → after_op op (top ∷ below) ≡ None → written net op top.0.0 ≡ None
+nothing_written net op top below k e = go (allowed op top.1) refl
+  where
+    class : slice_get net.classes top.0.0 ≡ Some top.1
+    class = class_known net.classes top (and_parts (label_known net.classes top) (labels_known net below) k).0
+
+    go : (b : Bool) → allowed op top.1 ≡ b → written net op top.0.0 ≡ None
+    go false a = rw class (rw a refl)
+    go true a = let some : ◌≡◌ {A = Option (List Entry)} (Some (effect op top below)) None = rw a at e in cc
+
+pub nothing_done : (net : Net) (op : Op) (top : Entry) (below : List Entry) → labels_known net (top ∷ below) ≡ true → written net op top.0.0 ≡ None → after_op op (top ∷ below) ≡ None
+nothing_done net op top below k e = go (allowed op top.1) refl
+  where
+    class : slice_get net.classes top.0.0 ≡ Some top.1
+    class = class_known net.classes top (and_parts (label_known net.classes top) (labels_known net below) k).0
+
+    e1 : (if allowed op top.1 then Some (word_of op (suc top.0.0)) else None) ≡ None
+    e1 = rw class at e
+
+    go : (b : Bool) → allowed op top.1 ≡ b → after_op op (top ∷ below) ≡ None
+    go false a = rw a refl
+    go true a = let some : ◌≡◌ {A = Option Word2} (Some (word_of op (suc top.0.0))) None = rw a at e1 in cc
+
 -- operations, one after the other
 abbrev pub After : List Op → List Entry → List Entry → Type 0
 After [] h h2 = h ≡ h2
@@ -117,3 +141,31 @@ after_from ops h h2 e = go (outcome 0 ops h) refl
 
 pub after_to : (ops : List Op) (h h2 : List Entry) → After ops h h2 → after_ops ops h ≡ Some h2
 after_to ops h h2 a = rw (after_outcome 0 ops h h2 a) refl
+
+-- operations, one after the other, until one isn't defined
+abbrev pub Stuck : List Op → List Entry → Type 0
+Stuck [] h = ⊥
+Stuck (op ∷ ops) h = (after_op op h ≡ None) ⊎ ((mid : List Entry) × (after_op op h ≡ Some mid) × Stuck ops mid)
+
+outcome_stuck : (at : ℕ) (ops : List Op) (h : List Entry) (i : ℕ) → outcome at ops h ≡ Err i → Stuck ops h
+outcome_stuck at [] h i e = let done : ◌≡◌ {A = Result (List Entry) ℕ} (Ok h) (Err i) = e in cc
+outcome_stuck at (op ∷ ops) h i e = go (after_op op h) refl (λ mid. outcome_stuck (at + 1) ops mid i)
+  where
+    go : (o : Option (List Entry)) → after_op op h ≡ o → ((mid : List Entry) → outcome (at + 1) ops mid ≡ Err i → Stuck ops mid) → Stuck (op ∷ ops) h
+    go None a ih = inl a
+    go (Some mid) a ih = inr (mid, a, ih mid (rw (a, outcome) at e))
+
+stuck_outcome : (at : ℕ) (ops : List Op) (h : List Entry) → Stuck ops h → (i : ℕ) × (outcome at ops h ≡ Err i)
+stuck_outcome at [] h k = absurd k
+stuck_outcome at (op ∷ ops) h (inl a) = (at, rw (a, outcome) refl)
+stuck_outcome at (op ∷ ops) h (inr r) = let rest = stuck_outcome (at + 1) ops r.0 r.2 in (rest.0, rw (r.1, outcome) rest.1)
+
+pub stuck_from : (ops : List Op) (h : List Entry) → after_ops ops h ≡ None → Stuck ops h
+stuck_from ops h e = go (outcome 0 ops h) refl
+  where
+    go : (o : Result (List Entry) ℕ) → outcome 0 ops h ≡ o → Stuck ops h
+    go (Err i) a = outcome_stuck 0 ops h i a
+    go (Ok x) a = let some : ◌≡◌ {A = Option (List Entry)} (Some x) None = rw a at e in cc
+
+pub stuck_to : (ops : List Op) (h : List Entry) → Stuck ops h → after_ops ops h ≡ None
+stuck_to ops h k = let r = stuck_outcome 0 ops h k in rw r.1 refl

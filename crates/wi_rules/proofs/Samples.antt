@@ -12,7 +12,7 @@ use Rattle.wi_net.specs.declared.bounds.Bounds.{Bounds}
 use Rattle.wi_net.specs.Net.{Net}
 use Rattle.wi_net.specs.Network.{IsNetwork}
 use Rattle.wi_world.proofs.Samples.{l, member, only, row, five_links, push, swap, at_most}
-use Rattle.wi_rules.specs.Rules.{Automaton, Encoding, IsAutomaton, IsTurned, IsEncoding}
+use Rattle.wi_rules.specs.Rules.{Automaton, Encoding, IsAutomaton, IsTurned, Walks, IsEncoding}
 use Rattle.wi_rules.proofs.Lists.{In, contains_in, in_contains}
 
 abbrev pub label : ℕ → Label
@@ -87,9 +87,43 @@ same_link_twice = network single_links (only 1 (swap ip1 ∷ []) ∷ only 1 (pus
 abbrev pub undefined_first : Net
 undefined_first = network single_links (only 1 (push t30 ∷ []) ∷ by_c ∷ [])
 
+-- the first choice at a would push s10 twice
+abbrev pub undefined_second : Net
+undefined_second = network single_links (only 1 (push s10 ∷ push s10 ∷ []) ∷ by_c ∷ [])
+
+-- or push s10, then 30, then s10 again
+abbrev pub undefined_third : Net
+undefined_third = network single_links (only 1 (push s10 ∷ push t30 ∷ push s10 ∷ []) ∷ by_c ∷ [])
+
 -- both ways from a are of one group, and a third leaves the header as it is
 abbrev pub balanced : Net
 balanced = network single_links ((member 1 (push s10 ∷ []) ∷ member 2 (push s10 ∷ push t30 ∷ []) ∷ member 1 [] ∷ []) ∷ [])
+
+-- what comes to b with s10 on top would be popped twice there, and nothing else is in the tables
+abbrev pub popped_twice : Net
+popped_twice = record base { rows = row 1 s10 (only 4 (Pop ∷ Pop ∷ []) ∷ []) ∷ [] }
+
+pub popped_twice_network : IsNetwork popped_twice
+popped_twice_network = record {
+  routers = refl;
+  labels = refl;
+  classes = refl;
+  in_order = refl;
+  interfaces = refl;
+  in_turn = refl;
+  links = refl;
+  ends = refl;
+  near = refl;
+  risks = refl;
+  rows = refl;
+  rows_apart = refl;
+  few_routers = leb-true 5 10000 refl;
+  few_labels = leb-true 3 20000 refl;
+  few_links = leb-true 5 20000 refl;
+  few_interfaces = leb-true 5 10 refl;
+  few_rows = leb-true 1 200000 refl;
+  few_members = leb-true 1 400000 refl;
+}
 
 -- the header s10 ip1, and so any smpls label over any ip label
 abbrev pub two_next : ℕ → ℕ → List ℕ
@@ -174,7 +208,31 @@ any_next q x = 1 ∷ []
 abbrev pub any : Automaton
 any = record { states = 2; next = any_next; accepts = is_one }
 
--- s10 ip1 at first, such a path, and the like header at last; there is no term
+-- any header
+abbrev all_next : ℕ → ℕ → List ℕ
+all_next zero x = 0 ∷ []
+all_next (suc q) x = []
+
+abbrev pub anything : Automaton
+anything = record { states = 1; next = all_next; accepts = λ q. true }
+
+all_steps : (q r x : ℕ) → In (all_next q x) r → (q < 1) × (r < 1)
+all_steps zero r x (inl e) = (omega arith, omega (arith, e))
+all_steps zero r x (inr h) = absurd h
+all_steps (suc q) r x h = absurd h
+
+anything_is : IsAutomaton anything
+anything_is = record {
+  some = omega arith;
+  from_below = λ q r x h. (all_steps q r x (contains_in (all_next q x) r h)).0;
+  below = λ q r x h. (all_steps q r x (contains_in (all_next q x) r h)).1;
+}
+
+pub all_walks : (xs : List ℕ) → Walks anything 0 xs 0
+all_walks [] = refl
+all_walks (x ∷ xs) = (0, in_contains (0 ∷ []) 0 (inl refl), all_walks xs)
+
+-- s10 ip1 at first, such a path, and the like header at last; packets arrive, and there is no term
 abbrev pub encoding : Net → Bounds → Automaton → Encoding
 encoding net bounds path = record {
   net = net;
@@ -183,9 +241,11 @@ encoding net bounds path = record {
   first_before = two_before;
   path = path;
   last = two_labels;
+  drops = false;
   terms = 0;
   first_share = λ e. [];
   step_share = λ e t step. [];
+  end_share = λ e t end. [];
 }
 
 -- the link from a to b again and again, where nothing fails
@@ -201,6 +261,26 @@ along_is = record {
   first_turned = two_turned;
   path = again_is;
   last = two_labels_is;
+  any_last = λ drops. cc;
   first_length = λ e. refl;
   step_length = λ e t step. refl;
+  end_length = λ e t end. refl;
+}
+
+-- packets that are dropped at b by the second of two pops
+abbrev pub lost : Encoding
+lost = record along { net = popped_twice; last = anything; drops = true }
+
+pub lost_is : IsEncoding lost
+lost_is = record {
+  net = popped_twice_network;
+  bounds = record { down = refl; up = refl; apart = refl };
+  first = two_labels_is;
+  first_turned = two_turned;
+  path = again_is;
+  last = anything_is;
+  any_last = λ drops xs known. (0, all_walks xs, refl);
+  first_length = λ e. refl;
+  step_length = λ e t step. refl;
+  end_length = λ e t end. refl;
 }

@@ -1,11 +1,11 @@
 -- The spot of a number has that number, and its parts are there.
-use Rattle.std.proofs.Common.{◌≡◌, ℕ, zero, suc, ◌+◌, ◌-◌, ◌*◌, ◌/◌, ◌%◌, ◌<◌, ◌≤◌, Bool, true, false, nat_lt, Some, None, ◌⊎◌, inl, inr, refl, arith, ap, ◌∙◌, subst}
+use Rattle.std.proofs.Common.{◌≡◌, ℕ, zero, suc, ◌+◌, ◌-◌, ◌*◌, ◌/◌, ◌%◌, ◌<◌, ◌≤◌, Bool, true, false, ◌&&◌, nat_lt, Some, None, ◌⊎◌, inl, inr, refl, arith, ap, ◌∙◌, subst}
 use Rattle.std.proofs.lemmas.Nat.{div-add-mod'}
 use Rattle.std.proofs.Math.Nat.{mul-le-mul_right}
-use Rattle.std.proofs.lemmas.Bool.{ltb-true, ltb-false}
+use Rattle.std.proofs.lemmas.Bool.{and_parts, ltb-true, ltb-false}
 use Rattle.wi_rules.specs.declared.spot.Spot.{Spot}
-use Rattle.wi_rules.specs.declared.spot.Spot.TheVariants.{Start, Done, Build, Close, OnLink, Mid}
-use Rattle.wi_rules.specs.Numbers.{Layout, number, amid, on_links, closing, building, spot_of, Fits}
+use Rattle.wi_rules.specs.declared.spot.Spot.TheVariants.{Start, Done, Build, Close, OnLink, Mid, Drop}
+use Rattle.wi_rules.specs.Numbers.{Layout, number, dropping, amid, on_links, closing, building, spot_of, Fits}
 
 -- a spot of this number, counted as it is
 abbrev IsAt : Layout → ℕ → Spot → Type 0
@@ -39,11 +39,29 @@ some_column n a (suc b) h = omega arith
 pub column_below : (n b : ℕ) → 0 < b → n % b < b
 column_below n b h = omega arith
 
+dropping_is : (y : Layout) (n : ℕ) (p : Spot) → dropping y n ≡ Some p → IsAt y (suc (suc (y.first + (y.last + (y.links * y.path + (y.members * 7 * y.path + n)))))) p
+dropping_is y n p e = go (y.drops && nat_lt n (y.members * 7)) refl
+  where
+    go : (b : Bool) → (y.drops && nat_lt n (y.members * 7)) ≡ b → IsAt y (suc (suc (y.first + (y.last + (y.links * y.path + (y.members * 7 * y.path + n)))))) p
+    go false b = let none : None ≡ Some p = rw b at e in cc
+    go true b =
+        let some : Some (Drop (n / 7) (n % 7 + 1)) ≡ Some p = rw b at e in
+        let parts = and_parts y.drops (nat_lt n (y.members * 7)) b in
+        let member : n / 7 < y.members = row_below n y.members 7 (ltb-true n (y.members * 7) parts.1) in
+        let seven : n % 7 < 7 = column_below n 7 (omega arith) in
+        let line : n / 7 * 7 + n % 7 ≡ n = div-add-mod' n 7 in
+        let line2 : n / 7 * 7 + ((n % 7 + 1) - 1) ≡ n = omega (arith, line) in
+        same_spot y (suc (suc (y.first + (y.last + (y.links * y.path + (y.members * 7 * y.path + n)))))) (Drop (n / 7) (n % 7 + 1)) p some
+        (ap (λ (x : ℕ). suc (suc (y.first + (y.last + (y.links * y.path + (y.members * 7 * y.path + x)))))) line2, (parts.0, member, omega arith, omega (arith, seven)))
+
 amid_is : (y : Layout) (n : ℕ) (p : Spot) → amid y n ≡ Some p → IsAt y (suc (suc (y.first + (y.last + (y.links * y.path + n))))) p
 amid_is y n p e = go (nat_lt n (y.members * 7 * y.path)) refl
   where
     go : (b : Bool) → nat_lt n (y.members * 7 * y.path) ≡ b → IsAt y (suc (suc (y.first + (y.last + (y.links * y.path + n))))) p
-    go false b = let none : None ≡ Some p = rw b at e in cc
+    go false b =
+        let le : y.members * 7 * y.path ≤ n = ltb-false n (y.members * 7 * y.path) b in
+        let back : y.members * 7 * y.path + (n - y.members * 7 * y.path) ≡ n = omega (arith, le) in
+        moved_to y _ _ p (ap (λ (x : ℕ). suc (suc (y.first + (y.last + (y.links * y.path + x))))) back) (dropping_is y (n - y.members * 7 * y.path) p (rw b at e))
     go true b =
         let some : Some (Mid (n / y.path / 7) (n / y.path % 7 + 1) (n % y.path)) ≡ Some p = rw b at e in
         let lt : n < y.members * 7 * y.path = ltb-true n (y.members * 7 * y.path) b in

@@ -1,21 +1,22 @@
 -- Goal runs of the rules (Schwoon 2002, section 2.1), and the runs of the network that they are to be.
-use Rattle.std.specs.Prelude.{◌≡◌, ℕ, true, List, [], ◌∷◌, ◌++◌, map, reverse}
+use Rattle.std.specs.Prelude.{◌≡◌, ℕ, List, [], ◌∷◌, ◌++◌, map, reverse}
 use Rattle.std.specs.List.{Contains}
 use Rattle.std.specs.Option.{option_map_or}
 use Rattle.wi_labels.specs.Header.{Entry}
 use Rattle.wi_weight.specs.Weights.{plus}
 use Rattle.wi_pds.specs.Runs.{symbols}
 use Rattle.wi_world.specs.declared.run.Step.{Step}
+use Rattle.wi_world.specs.declared.run.End.{End}
 use Rattle.wi_world.specs.declared.run.Run.{Run}
 use Rattle.wi_world.specs.Moves.{Location, moved}
 use Rattle.wi_world.specs.Moving.{IsMovingRun}
 use Rattle.wi_world.specs.Runs.{effort_of}
 use Rattle.wi_world.specs.Holds.{Question, Matches}
 use Rattle.wi_rules.specs.declared.spot.Origin.{Origin}
-use Rattle.wi_rules.specs.declared.spot.Origin.TheVariants.{Pushed, SetOut, Hop, Operation, Nothing}
+use Rattle.wi_rules.specs.declared.spot.Origin.TheVariants.{Pushed, SetOut, Hop, Operation, Ending, Nothing}
 use Rattle.wi_rules.specs.declared.spot.Spot.{Spot}
 use Rattle.wi_rules.specs.declared.spot.Spot.TheVariants.{Start, Done}
-use Rattle.wi_rules.specs.Rules.{Automaton, Encoding, SpotRule, zeros, rules_of}
+use Rattle.wi_rules.specs.Rules.{Accepts, Encoding, SpotRule, zeros, rules_of}
 
 -- rules, one after the other, each at the top of the stack, lead from a spot and a stack to another
 abbrev pub Rewrites : Encoding → Spot → List ℕ → List SpotRule → Spot → List ℕ → Type 0
@@ -46,32 +47,28 @@ IsGoalRun s rs = Rewrites s Start (0 ∷ []) rs Done []
 abbrev pub HasGoalRun : Encoding → List ℕ → Type 0
 HasGoalRun s w = (rs : List SpotRule) × IsGoalRun s rs × (rules_weight s rs ≡ w)
 
--- an automaton goes from one state to another by a word
-abbrev pub Walks : Automaton → ℕ → List ℕ → ℕ → Type 0
-Walks a q [] r = q ≡ r
-Walks a q (x ∷ xs) r = (m : ℕ) × Contains (a.next q x) m × Walks a m xs r
-
-abbrev pub Accepts : Automaton → List ℕ → Type 0
-Accepts a xs = (q : ℕ) × Walks a 0 xs q × (a.accepts q ≡ true)
-
 -- what the automata ask for
 abbrev pub question_of : Encoding → Question
-question_of s = record { first = Accepts s.first; path = Accepts s.path; last = Accepts s.last; bounds = s.bounds }
+question_of s = record { first = Accepts s.first; path = Accepts s.path; last = Accepts s.last; drops = s.drops; bounds = s.bounds }
 
--- what the steps add to each term
+-- what the steps and the end add to each term
 abbrev pub share_at : Encoding → Location → Step → List ℕ
 share_at s (e, []) step = zeros s
 share_at s (e, top ∷ below) step = s.step_share e top.0 step
 
-abbrev pub shares : Encoding → Location → List Step → List ℕ
-shares s at [] = zeros s
-shares s at (step ∷ steps) = option_map_or (λ next. plus (share_at s at step) (shares s next steps)) (moved s.net at step) (zeros s)
+abbrev pub end_share_at : Encoding → Location → End → List ℕ
+end_share_at s (e, []) end = zeros s
+end_share_at s (e, top ∷ below) end = s.end_share e top.0 end
 
--- what a run weighs: what its first link and its steps add to each term, and last its effort
+abbrev pub shares : Encoding → End → Location → List Step → List ℕ
+shares s end at [] = end_share_at s at end
+shares s end at (step ∷ steps) = option_map_or (λ next. plus (share_at s at step) (shares s end next steps)) (moved s.net at step) (zeros s)
+
+-- what a run weighs: what its first link, its steps and its end add to each term, and last its effort
 abbrev pub weight_of : Encoding → Run → List ℕ
-weight_of s run = plus (s.first_share run.first) (shares s (run.first, run.header) run.steps) ++ effort_of s.net run ∷ []
+weight_of s run = plus (s.first_share run.first) (shares s run.end (run.first, run.header) run.steps) ++ effort_of s.net run ∷ []
 
--- what the rules of a run tell: the labels of its first header from the bottom, its first link, its steps
+-- what the rules of a run tell: the labels of its first header from the bottom, its first link, its steps, its end
 abbrev pub pushes_of : List Entry → List Origin
 pushes_of header = map (λ (l : Entry). Pushed l.0) (reverse header)
 
@@ -79,7 +76,7 @@ abbrev pub hops_of : List Step → List Origin
 hops_of steps = map (λ step. Hop step) steps
 
 abbrev pub origins_for : Run → List Origin
-origins_for run = pushes_of run.header ++ SetOut run.first ∷ hops_of run.steps
+origins_for run = pushes_of run.header ++ SetOut run.first ∷ (hops_of run.steps ++ Ending run.end ∷ [])
 
 -- a moving run of what the automata ask for, of this weight
 pub record IsMatch (s : Encoding) (w : List ℕ) (run : Run) : Type 0 where

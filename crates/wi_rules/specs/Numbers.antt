@@ -1,5 +1,5 @@
 -- Spots as numbers, and the rules over them: what a pushdown system (Schwoon 2002) lists.
-use Rattle.std.specs.Prelude.{◌≡◌, ℕ, zero, suc, ◌+◌, ◌-◌, ◌*◌, ◌/◌, ◌%◌, ◌<◌, nat_lt, if◌then◌else◌, List, [], ◌∷◌, ◌++◌, length, map, Option, Some, None}
+use Rattle.std.specs.Prelude.{◌≡◌, ℕ, zero, suc, ◌+◌, ◌-◌, ◌*◌, ◌/◌, ◌%◌, ◌<◌, Bool, true, ◌&&◌, nat_lt, if◌then◌else◌, List, [], ◌∷◌, ◌++◌, length, map, Option, Some, None}
 use Rattle.std.specs.Option.{option_map_or}
 use Rattle.wi_net.specs.Tables.{row_members}
 use Rattle.wi_weight.specs.Weights.{Scale}
@@ -7,18 +7,19 @@ use Rattle.wi_pds.specs.declared.rule.Word2.{Word2}
 use Rattle.wi_pds.specs.declared.rule.Rule.{Rule}
 use Rattle.wi_rules.specs.declared.spot.Origin.{Origin}
 use Rattle.wi_rules.specs.declared.spot.Spot.{Spot}
-use Rattle.wi_rules.specs.declared.spot.Spot.TheVariants.{Start, Done, Build, Close, OnLink, Mid}
+use Rattle.wi_rules.specs.declared.spot.Spot.TheVariants.{Start, Done, Build, Close, OnLink, Mid, Drop}
 use Rattle.wi_rules.specs.Rules.{Encoding, IsEncoding, SpotRule, rules_of}
 use Rattle.wi_rules.specs.Goals.{main_origin}
 
--- how many states the automata of the first header, of the last header and of the links have, and how many links and members
--- there are
+-- how many states the automata of the first header, of the last header and of the links have, how many links and members there are,
+-- and whether packets are dropped
 pub record Layout : Type 0 where
   pub first : ℕ
   pub last : ℕ
   pub path : ℕ
   pub links : ℕ
   pub members : ℕ
+  pub drops : Bool
 
 abbrev pub layout_of : Encoding → Layout
 layout_of s = record {
@@ -27,10 +28,11 @@ layout_of s = record {
   path = s.path.states;
   links = length s.net.links;
   members = row_members s.net.rows;
+  drops = s.drops;
 }
 
--- Start and Done, then the spots where headers are made, where they are read, on links, and amid the operations of members,
--- of which a member has at most eight
+-- Start and Done, then the spots where headers are made, where they are read, on links, amid the operations of members, of which a
+-- member has at most eight, and amid those of members through which packets are dropped
 abbrev pub number : Layout → Spot → ℕ
 number y Start = 0
 number y Done = 1
@@ -38,9 +40,15 @@ number y (Build q) = suc (suc q)
 number y (Close q) = suc (suc (y.first + q))
 number y (OnLink e q) = suc (suc (y.first + (y.last + (e.0 * y.path + q))))
 number y (Mid m i q) = suc (suc (y.first + (y.last + (y.links * y.path + ((m * 7 + (i - 1)) * y.path + q)))))
+number y (Drop m i) = suc (suc (y.first + (y.last + (y.links * y.path + (y.members * 7 * y.path + (m * 7 + (i - 1)))))))
+
+abbrev pub dropping : Layout → ℕ → Option Spot
+dropping y n = if y.drops && nat_lt n (y.members * 7) then Some (Drop (n / 7) (n % 7 + 1)) else None
 
 abbrev pub amid : Layout → ℕ → Option Spot
-amid y n = if nat_lt n (y.members * 7 * y.path) then Some (Mid (n / y.path / 7) (n / y.path % 7 + 1) (n % y.path)) else None
+amid y n =
+    if nat_lt n (y.members * 7 * y.path) then Some (Mid (n / y.path / 7) (n / y.path % 7 + 1) (n % y.path))
+    else dropping y (n - y.members * 7 * y.path)
 
 abbrev pub on_links : Layout → ℕ → Option Spot
 on_links y n = if nat_lt n (y.links * y.path) then Some (OnLink (record { 0 = n / y.path }) (n % y.path)) else amid y (n - y.links * y.path)
@@ -65,6 +73,7 @@ Fits y (Build q) = q < y.first
 Fits y (Close q) = q < y.last
 Fits y (OnLink e q) = (e.0 < y.links) × (q < y.path)
 Fits y (Mid m i q) = (m < y.members) × (0 < i) × (i < 8) × (q < y.path)
+Fits y (Drop m i) = (y.drops ≡ true) × (m < y.members) × (0 < i) × (i < 8)
 
 -- a rule over numbers: where it leads, what it writes, what it weighs, the last component being its effort, and what it stands for
 pub record NumberedRule : Type 0 where

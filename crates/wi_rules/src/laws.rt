@@ -18,7 +18,7 @@ pub fn goal_runs_are_moving_runs()
     ensures backwards { (s : Encoding) (w : List ℕ) → IsEncoding s → HasGoalRun s w → (run : Run) × IsMatch s w run }
 {}
 
-/// The rules of a goal run stand, in their order, for the labels of a first header from the bottom, a first link and steps:
+/// The rules of a goal run stand, in their order, for the labels of a first header from the bottom, a first link, steps and an end:
 /// those of a matching moving run of its weight. Each matching moving run is told so.
 pub fn rules_tell_runs()
     ensures of_rules { (s : Encoding) (rs : List SpotRule) → IsEncoding s → IsGoalRun s rs → (run : Run) × IsMatch s (rules_weight s rs) run × (origins_of rs ≡ origins_for run) }

@@ -3,7 +3,7 @@
 //! symbols at most.
 use wi_labels::Label;
 use wi_net::LinkId;
-use wi_world::Step;
+use wi_world::{End, Step};
 
 /// A state of the pushdown system.
 #[derive(Clone, Copy, PartialEq, Eq, Debug)]
@@ -18,6 +18,8 @@ pub enum Spot {
     OnLink(LinkId, u32),
     /// Of the member of a number so many operations are done, at least one; the path's automaton is in this state.
     Mid(u32, u32, u32),
+    /// The packet is dropped on the way through the member of a number, of which so many operations are done, at least one.
+    Drop(u32, u32),
 }
 
 /// What a rule stands for in a run of the network.
@@ -31,6 +33,8 @@ pub enum Origin {
     Hop(Step),
     /// A further operation of the member of a number: its place among the member's operations, at least 1.
     Operation(u32, u32),
+    /// The end, and the first operation of its member, if it has one.
+    Ending(End),
     /// None of these.
     Nothing,
 }

@@ -19,5 +19,3 @@ pub fn n6() -> &'static str {
 pub fn n2() -> &'static str {
     r#"{"format":"mpls-whatif-1","routers":["x","a","b","c","y","z"],"labels":{"mpls":["30"],"smpls":["s10"],"ip":["ip1"]},"links":[{"from":"x","out":"o","to":"a","in":"x","distance":1},{"from":"a","out":"b","to":"b","in":"a","distance":1},{"from":"a","out":"c","to":"c","in":"a","distance":2},{"from":"c","out":"b","to":"b","in":"c","distance":2},{"from":"b","out":"y","to":"y","in":"b","distance":1},{"from":"b","out":"z","to":"z","in":"b","distance":1}],"tables":[{"at":"a","in":"x","label":"ip1","groups":[[{"out":"b","ops":[["push","s10"]]}],[{"out":"c","ops":[["push","s10"],["push","30"]]}]]},{"at":"b","in":"a","label":"s10","groups":[[{"out":"y","ops":[["pop"]]}]]},{"at":"c","in":"a","label":"30","groups":[[{"out":"b","ops":[["pop"]]}]]},{"at":"b","in":"c","label":"s10","groups":[[{"out":"y","ops":[["pop"]]}],[{"out":"z","ops":[["pop"]]}]]}]}"#
 }
-
-// What `run` ends with for a no.

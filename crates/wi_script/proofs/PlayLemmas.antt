@@ -20,6 +20,7 @@ use Rattle.wi_world.specs.Moving.{after_event}
 use Rattle.wi_script.specs.declared.script.ScriptCause.{ScriptCause}
 use Rattle.wi_script.specs.declared.script.ScriptCause.TheVariants as script
 use Rattle.wi_world.specs.declared.run.Step.{Step}
+use Rattle.wi_world.specs.declared.run.End.TheVariants.{Arrives}
 use Rattle.wi_world.specs.Moves.{Location, moved, is_usable}
 use Rattle.wi_world.proofs.Known.{IsKnownPlace, moved_known}
 use Rattle.wi_script.proofs.SetLemmas.{outside_none}
@@ -156,11 +157,11 @@ not_usable net k now step why some = go (is_usable net now.fails (now.link, now.
     go : (b : Bool) (o : Option Location) → is_usable net now.fails (now.link, now.header) step ≡ b → moved net (now.link, now.header) step ≡ o → after_event net (only k) now (Hop step) ≡ None
     go false o eb eo = rw eb refl
     go true None eb eo = rw (eb, eo) refl
-    go true (Some next) eb eo = let bad : None ≡ Some why = sym ((hop_agrees net now.fails).none (now.link, now.header) step next eb eo) ∙ some in cc
+    go true (Some next) eb eo = let bad : None ≡ Some why = sym ((hop_agrees net now.fails Arrives).none (now.link, now.header) step next eb eo) ∙ some in cc
 
 pub hops_now : (net : Net) (k : ℕ) (old : State) (next : Location) (step : Step) → IsNetwork net → is_moment_of net old ≡ true → hop_cause net old.fails (old.link, old.header) step ≡ None → moved net (old.link, old.header) step ≡ Some next
     → TakesPlace net k old (Hop step) (record { link = next.0; header = next.1; fails = old.fails }) None
-hops_now net k old next step n m none led = (rw none refl, rw ((hop_agrees net old.fails).passes (old.link, old.header) step none, led) refl, moment_from net _ known.0 known.1 parts.2 parts.3)
+hops_now net k old next step n m none led = (rw none refl, rw ((hop_agrees net old.fails Arrives).passes (old.link, old.header) step none, led) refl, moment_from net _ known.0 known.1 parts.2 parts.3)
   where
     parts : (is_link net old.link ≡ true) × (labels_known net old.header ≡ true) × (list_all (is_link net) old.fails ≡ true) × (is_rising old.fails ≡ true)
     parts = parts_of net old m

@@ -206,7 +206,11 @@ fn hop_words(cause: Cause) -> ScriptCause
         Cause::NotFirstActive => ScriptCause::NotFirstActive,
         Cause::LinkFailed => ScriptCause::LinkFailed,
         Cause::Undefined(i) => ScriptCause::Undefined(i),
-        Cause::BadStart | Cause::TooManyBefore(_) | Cause::NeedsUp(_) | Cause::LinkBefore =>
-            ScriptCause::NotAnEvent,
+        Cause::BadStart
+        | Cause::TooManyBefore(_)
+        | Cause::NeedsUp(_)
+        | Cause::LinkBefore
+        | Cause::Active(_)
+        | Cause::Defined => ScriptCause::NotAnEvent,
     }
 }

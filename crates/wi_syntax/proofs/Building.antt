@@ -6,7 +6,7 @@ use Rattle.std.proofs.lemmas.Bool.{and_parts, ltb-true, ne_eqb}
 use Rattle.std.proofs.lemmas.List.{append_assoc}
 use Rattle.wi_syntax.specs.Names.{Named}
 use Rattle.wi_syntax.specs.declared.token.Mark.{Mark}
-use Rattle.wi_syntax.specs.declared.token.Mark.TheVariants.{Less, Greater, OpenRound, CloseRound, CloseSquare, Hash, Comma, Star, Plus, Question, Bar}
+use Rattle.wi_syntax.specs.declared.token.Mark.TheVariants.{Greater, OpenRound, CloseRound, CloseSquare, Hash, Comma, Star, Plus, Question, Bar}
 use Rattle.wi_syntax.specs.declared.token.Token.{Token}
 use Rattle.wi_syntax.specs.declared.token.Token.TheVariants as token
 use Rattle.wi_syntax.specs.declared.written.LabelAtom.{LabelAtom}
@@ -17,6 +17,8 @@ use Rattle.wi_syntax.specs.declared.written.End.{End}
 use Rattle.wi_syntax.specs.declared.written.End.TheVariants as end
 use Rattle.wi_syntax.specs.declared.written.Pair.{Pair}
 use Rattle.wi_syntax.specs.declared.written.Known.{Known}
+use Rattle.wi_syntax.specs.declared.written.Last.{Last as LastPart}
+use Rattle.wi_syntax.specs.declared.written.Last.TheVariants as ending
 use Rattle.wi_syntax.specs.declared.written.Sign.{Sign}
 use Rattle.wi_syntax.specs.declared.written.Sign.TheVariants as sign
 use Rattle.wi_syntax.specs.declared.written.Written.{Written}
@@ -28,13 +30,13 @@ use Rattle.wi_syntax.specs.declared.parser.Owner.{Owner}
 use Rattle.wi_syntax.specs.declared.parser.Owner.TheVariants as owner
 use Rattle.wi_syntax.specs.Atoms.{Writer, label_tokens, link_tokens, pair_tokens, end_tokens, name_tokens, separated, listed, is_label_atom, is_link_atom}
 use Rattle.wi_syntax.specs.Trees.{Tree, Leaf, Starred, Plussed, Optional, Grouped, Then, Or, Level, AnItem, ASequence, AnExpression, signs_of, is_tree, IsExpression, sign_tokens, signs_tokens}
-use Rattle.wi_syntax.specs.Grammar.{known_tokens, tokens_of, IsKnown, IsNumber, IsWritten}
+use Rattle.wi_syntax.specs.Grammar.{known_tokens, last_tokens, tokens_of, IsKnown, IsLast, IsNumber, IsWritten}
 use Rattle.wi_syntax.specs.private.Lists.{NameListing, PairListing, no_names, no_pairs, no_known}
 use Rattle.wi_syntax.specs.declared.places.NamePlace.{NamePlace}
 use Rattle.wi_syntax.specs.declared.places.NamePlace.TheVariants as name
 use Rattle.wi_syntax.specs.declared.places.PairPlace.{PairPlace}
 use Rattle.wi_syntax.specs.declared.places.PairPlace.TheVariants as pair
-use Rattle.wi_syntax.specs.private.Parsing.{Phrasing, Parse, start, no_phrasing, with_atom, with_names, with_pairs, after, after_all, finish}
+use Rattle.wi_syntax.specs.private.Parsing.{Phrasing, Parse, start, no_phrasing, with_atom, with_names, with_pairs, after, after_all, last_of, finish}
 use Rattle.wi_syntax.proofs.Phrases.{signs_more}
 
 -- ---- expressions
@@ -251,20 +253,20 @@ known_all o p (x ∷ xs) rest some = pairs_go o p false [] pair.Due x xs rest (f
 
 -- ---- the whole
 
-abbrev made : Stage → Phrasing LabelAtom → Phrasing LinkAtom → Phrasing LabelAtom → Option Named → ℕ → Option Known → Option Known → Parse
-made st a b c n w d u = record { stage = st; first = a; path = b; last = c; names = no_names; pairs = no_pairs; number = n; word_at = w; down = d; up = u }
+abbrev made : Stage → Phrasing LabelAtom → Phrasing LinkAtom → Phrasing LabelAtom → Option ℕ → Option Named → ℕ → Option Known → Option Known → Parse
+made st a b c k n w d u = record { stage = st; first = a; path = b; last = c; drop_at = k; names = no_names; pairs = no_pairs; number = n; word_at = w; down = d; up = u }
 
 abbrev whole : {A : Type 0} → List (Sign A) → Phrasing A
 whole signs = record { signs = signs; depth = 0; behind = true }
 
 abbrev first_at : Phrasing LabelAtom → Parse
-first_at e = made (stage.Labels First) e no_phrasing no_phrasing None 0 None None
+first_at e = made (stage.Labels First) e no_phrasing no_phrasing None None 0 None None
 
 abbrev path_at : List (Sign LabelAtom) → Phrasing LinkAtom → Parse
-path_at first e = made stage.Links (whole first) e no_phrasing None 0 None None
+path_at first e = made stage.Links (whole first) e no_phrasing None None 0 None None
 
 abbrev last_at : List (Sign LabelAtom) → List (Sign LinkAtom) → Phrasing LabelAtom → Parse
-last_at first path e = made (stage.Labels Last) (whole first) (whole path) e None 0 None None
+last_at first path e = made (stage.Labels Last) (whole first) (whole path) e None None 0 None None
 
 close_of : (d n : ℕ) → d ≡ suc n → (d == 0) ≡ false
 close_of d n e = ne_eqb d 0 (λ z. (let k : d ≡ 0 = z in omega arith))
@@ -319,9 +321,9 @@ last_reads first path = record {
     atom e (label.Name n) rest ok = refl
     atom e (label.List except names) rest ok = names_all Last (last_at first path e) except names rest (ltb-true 0 (length names) ok)
 
-module _ (first : List (Sign LabelAtom)) (path : List (Sign LinkAtom)) (last : List (Sign LabelAtom)) where
+module _ (first : List (Sign LabelAtom)) (path : List (Sign LinkAtom)) (last : Phrasing LabelAtom) (drop_at : Option ℕ) where
   abbrev rest_at : Stage → Option Named → ℕ → Option Known → Option Known → Parse
-  rest_at st n w d u = made st (whole first) (whole path) (whole last) n w d u
+  rest_at st n w d u = made st (whole first) (whole path) last drop_at n w d u
 
   number_goes : (n : Named) (rest : List Token) → IsNumber n → after_all (rest_at stage.Number None 0 None None) (token.Word n ∷ rest) ≡ after_all (rest_at stage.BehindNumber (Some n) 0 None None) rest
   number_goes n rest h = rw (h.0, h.1) refl
@@ -330,7 +332,7 @@ module _ (first : List (Sign LabelAtom)) (path : List (Sign LinkAtom)) (last : L
   ends o w = (q : Parse) × (o ≡ Some q) × (finish q ≡ Some w)
 
   up_goes : (st : Stage) (n : Named) (w : ℕ) (d u : Option Known) → may_take_up st ≡ true → IsKnown u
-      → ends (after_all (rest_at st (Some n) w d None) (known_tokens (codes "up") u [])) (record { first = first; path = path; last = last; number = n; down = d; up = u })
+      → ends (after_all (rest_at st (Some n) w d None) (known_tokens (codes "up") u [])) (record { first = first; path = path; last = last_of drop_at last; number = n; down = d; up = u })
   up_goes stage.BehindNumber n w d None ok h = (rest_at stage.BehindNumber (Some n) w d None, refl, refl)
   up_goes stage.BehindDown n w d None ok h = (rest_at stage.BehindDown (Some n) w d None, refl, refl)
   up_goes stage.BehindNumber n w d (Some k) ok h = (rest_at stage.BehindUp (Some n) k.at d (Some k), known_all owner.Up (rest_at stage.UpDue (Some n) k.at d None) k.pairs [] h, refl)
@@ -346,23 +348,41 @@ module _ (first : List (Sign LabelAtom)) (path : List (Sign LinkAtom)) (last : L
   up_goes stage.BehindUp n w d u ok h = cc
 
   down_goes : (n : Named) (d u : Option Known) → IsKnown d → IsKnown u
-      → ends (after_all (rest_at stage.BehindNumber (Some n) 0 None None) (known_tokens (codes "down") d (known_tokens (codes "up") u []))) (record { first = first; path = path; last = last; number = n; down = d; up = u })
+      → ends (after_all (rest_at stage.BehindNumber (Some n) 0 None None) (known_tokens (codes "down") d (known_tokens (codes "up") u []))) (record { first = first; path = path; last = last_of drop_at last; number = n; down = d; up = u })
   down_goes n None u h k = up_goes stage.BehindNumber n 0 None u refl k
   down_goes n (Some d) u h k =
       let later = up_goes stage.BehindDown n d.at (Some d) u refl k in
       (later.0, known_all owner.Down (rest_at stage.DownDue (Some n) d.at None None) d.pairs (known_tokens (codes "up") u []) h ∙ later.1, later.2)
 
+-- how the last header is kept, or the word in its place
+abbrev header_of : LastPart → Phrasing LabelAtom
+header_of (ending.Header signs) = whole signs
+header_of (ending.Dropped at) = no_phrasing
+
+abbrev drop_of : LastPart → Option ℕ
+drop_of (ending.Header signs) = None
+drop_of (ending.Dropped at) = Some at
+
+last_kept : (l : LastPart) → last_of (drop_of l) (header_of l) ≡ l
+last_kept (ending.Header signs) = refl
+last_kept (ending.Dropped at) = refl
+
+last_goes : (first : List (Sign LabelAtom)) (path : List (Sign LinkAtom)) (l : LastPart) (rest : List Token) → IsLast l
+    → after_all (path_at first (whole path)) (last_tokens l rest) ≡ after_all (rest_at first path (header_of l) (drop_of l) stage.Number None 0 None None) rest
+last_goes first path (ending.Header signs) rest h = expression is_label_atom label_tokens (last_at first path) (last_reads first path) signs (token.Mark Greater ∷ rest) h
+last_goes first path (ending.Dropped at) rest h = refl
+
 -- the tokens of a query lead to it
 pub query_leads : (w : Written) → IsWritten w → (q : Parse) × (after_all start (tokens_of w) ≡ Some q) × (finish q ≡ Some w)
 query_leads w h =
-    let later = down_goes w.first w.path w.last w.number w.down w.up h.down h.up in (
+    let later = down_goes w.first w.path (header_of w.last) (drop_of w.last) w.number w.down w.up h.down h.up in (
       later.0,
       (expression is_label_atom label_tokens first_at first_reads w.first (token.Mark Greater ∷ after_first) h.first
-          ∙ expression is_link_atom link_tokens (path_at w.first) (path_reads w.first) w.path (token.Mark Less ∷ after_path) h.path
-          ∙ expression is_label_atom label_tokens (last_at w.first w.path) (last_reads w.first w.path) w.last (token.Mark Greater ∷ after_last) h.last
-          ∙ number_goes w.first w.path w.last w.number words h.number
+          ∙ expression is_link_atom link_tokens (path_at w.first) (path_reads w.first) w.path after_path h.path
+          ∙ last_goes w.first w.path w.last after_last h.last
+          ∙ number_goes w.first w.path (header_of w.last) (drop_of w.last) w.number words h.number
           ∙ later.1),
-      later.2,
+      later.2 ∙ ap (λ (l : LastPart). Some (record w { last = l })) (last_kept w.last),
     )
   where
     words : List Token
@@ -372,7 +392,7 @@ query_leads w h =
     after_last = token.Word w.number ∷ words
 
     after_path : List Token
-    after_path = signs_tokens label_tokens w.last (token.Mark Greater ∷ after_last)
+    after_path = last_tokens w.last after_last
 
     after_first : List Token
-    after_first = signs_tokens link_tokens w.path (token.Mark Less ∷ after_path)
+    after_first = signs_tokens link_tokens w.path after_path

@@ -33,7 +33,7 @@ use Rattle.wi_syntax.specs.declared.parser.Owner.TheVariants as owner
 use Rattle.wi_syntax.specs.Tokens.{mark_byte, spelling}
 use Rattle.wi_syntax.specs.Grammar.{plain}
 use Rattle.wi_syntax.specs.private.Lists.{NameListing, PairListing, no_known, with_item, after_name, after_pair, whole_pair, after_in_names, after_in_pairs}
-use Rattle.wi_syntax.specs.private.Parsing.{Parse, with_atom, phrase_of, with_phrase, with_path, with_names, with_pairs, is_keyword, after_at, after, after_before_up, may_end, finish}
+use Rattle.wi_syntax.specs.private.Parsing.{Parse, is_whole, with_atom, phrase_of, with_phrase, with_path, with_names, with_pairs, is_keyword, after_at, after, after_before_up, last_of, may_end, finish}
 use Rattle.wi_syntax.specs.private.Reading.{reading, is_name_due, is_word_due, takes_names, begins, may_begin, admits, longer, behind, after_bytes}
 use Rattle.wi_syntax.proofs.Bytes.{Ends, ends_by, one_byte, mark_goes, space_goes, plains_go, plain_ends, quoted_goes, quote_ends, token_goes}
 
@@ -74,13 +74,13 @@ HasNumber stage.BehindUp p = (n : Named) × (p.number ≡ Some n)
 HasNumber _ p = Unit {0}
 
 may_finish : (p : Parse) (at : Stage) → p.stage ≡ at → may_end at ≡ true → (n : Named) → p.number ≡ Some n → Completable p
-may_finish p at is ok n there = ended p (record { first = p.first.signs; path = p.path.signs; last = p.last.signs; number = n; down = p.down; up = p.up }) (rw (is, ok, there) refl)
+may_finish p at is ok n there = ended p (record { first = p.first.signs; path = p.path.signs; last = last_of p.drop_at p.last; number = n; down = p.down; up = p.up }) (rw (is, ok, there) refl)
 
 number_due : (p : Parse) → p.stage ≡ stage.Number → Completable p
 number_due p is at =
     let n : Named = plain at (codes "0") in
     let q : Parse = record p { stage = stage.BehindNumber; number = Some n } in
-    let w : Written = record { first = p.first.signs; path = p.path.signs; last = p.last.signs; number = n; down = p.down; up = p.up } in
+    let w : Written = record { first = p.first.signs; path = p.path.signs; last = last_of p.drop_at p.last; number = n; down = p.down; up = p.up } in
     (codes "0", w, token_goes at p q (token.Word n) [] w (refl, refl) (ap (λ z. after_at z p (token.Word n)) is) (reading (at + 1) q None, refl, refl))
 
 deep : (d n : ℕ) → d ≡ suc n → (d == 0) ≡ false
@@ -358,7 +358,13 @@ up_word p n m there e = (
   list_due owner.Up (record p { stage = stage.UpDue; word_at = n.at }) (m, there) refl refl,
 )
 
-finishes_word : (at : ℕ) (st : Stage) (p : Parse) (n : Named) → p.stage ≡ st → HasNumber st p → n.quoted ≡ false → may_begin st n.text ≡ true → Finishes at p n
+finishes_word : (at : ℕ) (st : Stage) (p : Parse) (n : Named) → p.stage ≡ st → HasNumber st p → n.quoted ≡ false → may_begin p st n.text ≡ true → Finishes at p n
+finishes_word at stage.Links p n is h quote ok =
+    let parts : (is_whole p.path ≡ true) × (begins n.text (codes "drop") ≡ true) = and_parts (is_whole p.path) (begins n.text (codes "drop")) ok in
+    let word = longer n (drop (length n.text) (codes "drop")) in
+    let q : Parse = record p { stage = stage.Number; drop_at = Some n.at } in
+    plain_finishes at p n (drop (length n.text) (codes "drop")) quote (plain_drop (length n.text) (codes "drop") refl)
+    (q, ap (λ z. after_at z p (token.Word word)) is ∙ ap (λ z. if z then Some q else None) (and_from (is_whole p.path) (is_keyword word (codes "drop")) parts.0 (keyword n (codes "drop") quote parts.1)), number_due q refl)
 finishes_word at stage.Number p n is h quote ok = plain_finishes at p n [] quote refl (subst (WordLeads p) (sym (no_more n)) (number_leads p n is quote ok))
 finishes_word at stage.BehindNumber p n is h quote ok = go (begins n.text (codes "down")) refl
   where
@@ -388,7 +394,6 @@ finishes_word at stage.BehindDown p n is h quote ok =
 finishes_word at stage.Start p n is h quote ok = cc
 finishes_word at (stage.Labels g) p n is h quote ok = cc
 finishes_word at (stage.LabelList g) p n is h quote ok = cc
-finishes_word at stage.Links p n is h quote ok = cc
 finishes_word at (stage.LinkList o) p n is h quote ok = cc
 finishes_word at stage.DownDue p n is h quote ok = cc
 finishes_word at stage.UpDue p n is h quote ok = cc
@@ -404,5 +409,5 @@ finishes at p n h ok = go (takes_names p p.stage) refl
     go : (b : Bool) → takes_names p p.stage ≡ b → Finishes at p n
     go true e = finishes_name at p n h e
     go false e =
-        let parts = and_parts (not n.quoted) (may_begin p.stage n.text) (sym (ap (λ z. z || (not n.quoted && may_begin p.stage n.text)) e) ∙ ok) in
+        let parts = and_parts (not n.quoted) (may_begin p p.stage n.text) (sym (ap (λ z. z || (not n.quoted && may_begin p p.stage n.text)) e) ∙ ok) in
         finishes_word at p.stage p n refl h (not_true n.quoted parts.0) parts.1

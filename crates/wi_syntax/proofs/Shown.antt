@@ -26,11 +26,11 @@ use Rattle.wi_syntax.specs.declared.parser.Owner.{Owner}
 use Rattle.wi_syntax.specs.declared.parser.Owner.TheVariants as owner
 use Rattle.wi_syntax.specs.Atoms.{Writer, label_tokens, link_tokens, pair_tokens, name_tokens, listed, is_label_atom, is_link_atom}
 use Rattle.wi_syntax.specs.Trees.{sign_tokens, signs_tokens}
-use Rattle.wi_syntax.specs.Grammar.{plain, known_tokens, tokens_of, IsKnown, IsNumber, IsWritten}
+use Rattle.wi_syntax.specs.Grammar.{plain, known_tokens, last_tokens, tokens_of, IsKnown, IsLast, IsNumber, IsWritten}
 use Rattle.wi_syntax.specs.private.Lists.{NameListing, PairListing, no_names, no_pairs, no_known, after_in_names, after_in_pairs, after_name, after_pair, whole_name, whole_pair, is_opened_name, is_opened_pair}
 use Rattle.wi_syntax.specs.declared.places.NamePlace.TheVariants as name
 use Rattle.wi_syntax.specs.declared.places.PairPlace.TheVariants as pair
-use Rattle.wi_syntax.specs.private.Parsing.{Phrasing, Parse, start, no_phrasing, is_whole, with_atom, if_behind, after_sign, phrase_of, with_phrase, with_path, with_names, with_pairs, stage_after, is_keyword, after_in_labels, after_in_links, after_at_number, after_before_up, after_before_down, after_word, after_start, after_at, after, after_all, may_end, finish}
+use Rattle.wi_syntax.specs.private.Parsing.{Phrasing, Parse, start, no_phrasing, is_whole, with_atom, if_behind, after_sign, phrase_of, with_phrase, with_path, with_names, with_pairs, stage_after, is_keyword, after_in_labels, after_in_links, after_at_number, after_before_up, after_before_down, after_word, after_start, after_at, after, after_all, last_of, may_end, finish}
 use Rattle.wi_syntax.proofs.Options.{if_some, map_some, then_some}
 use Rattle.wi_syntax.proofs.Phrases.{IsPhrase, phrase_none, phrase_atom, phrase_sign, phrase_whole}
 use Rattle.wi_syntax.proofs.Listings.{listing_tokens, IsListing, Goes, goes, name_begun, pair_begun, name_places, pair_places, no_names_listing, no_pairs_listing, no_known_listing}
@@ -76,7 +76,7 @@ abbrev pub before_last : Parse → List Token → List Token
 before_last p rest = before_path p (signs_tokens link_tokens p.path.signs (token.Mark Less ∷ rest))
 
 abbrev pub before_number : Parse → List Token → List Token
-before_number p rest = before_last p (signs_tokens label_tokens p.last.signs (token.Mark Greater ∷ rest))
+before_number p rest = before_path p (signs_tokens link_tokens p.path.signs (last_tokens (last_of p.drop_at p.last) rest))
 
 abbrev pub number_tokens : Option Named → List Token → List Token
 number_tokens None rest = rest
@@ -122,15 +122,23 @@ shown_at stage.BehindUp p rest = before_words p rest
 abbrev pub NoWords : Parse → Type 0
 NoWords p = (p.down ≡ None) × (p.up ≡ None)
 
--- the first expression was read to its end, and the path, and the last one, and the number
+-- nor `drop` in place of the last header
+abbrev pub NoDrop : Parse → Type 0
+NoDrop p = (p.drop_at ≡ None) × NoWords p
+
+-- the first expression was read to its end, and the path, and the last one or the word in its place, and the number
 abbrev pub FirstRead : Parse → Type 0
 FirstRead p = is_whole p.first ≡ true
 
 abbrev pub PathRead : Parse → Type 0
 PathRead p = (is_whole p.first ≡ true) × (is_whole p.path ≡ true)
 
+abbrev pub EndRead : Option ℕ → Phrasing LabelAtom → Type 0
+EndRead None header = is_whole header ≡ true
+EndRead (Some at) header = Unit {0}
+
 abbrev pub LastRead : Parse → Type 0
-LastRead p = (is_whole p.first ≡ true) × (is_whole p.path ≡ true) × (is_whole p.last ≡ true)
+LastRead p = (is_whole p.first ≡ true) × (is_whole p.path ≡ true) × EndRead p.drop_at p.last
 
 abbrev pub NumberRead : Parse → Type 0
 NumberRead p = LastRead p × ((n : Named) × (p.number ≡ Some n) × IsNumber n)
@@ -140,11 +148,11 @@ abbrev pub IsPlainList : PairListing → Type 0
 IsPlainList l = IsListing is_opened_pair l × (is_opened_pair l.place ≡ false) × (l.except ≡ false)
 
 abbrev pub HeaderRead : Header → Parse → Type 0
-HeaderRead First p = (p.path ≡ no_phrasing) × (p.last ≡ no_phrasing) × NoWords p
-HeaderRead Last p = PathRead p × NoWords p
+HeaderRead First p = (p.path ≡ no_phrasing) × (p.last ≡ no_phrasing) × NoDrop p
+HeaderRead Last p = PathRead p × NoDrop p
 
 abbrev pub LinksRead : Parse → Type 0
-LinksRead p = FirstRead p × (p.last ≡ no_phrasing) × NoWords p
+LinksRead p = FirstRead p × (p.last ≡ no_phrasing) × NoDrop p
 
 abbrev pub DownRead : Parse → Type 0
 DownRead p = NumberRead p × IsKnown p.down × (p.up ≡ None)
@@ -196,10 +204,20 @@ named n s q e = ap (λ (z : Bool). record { at = n.at; quoted = z; text = n.text
 bytes_are : (a b : List ℕ) → bytes_eq a b ≡ true → a ≡ b
 bytes_are a b e = (bytes_eq-Decides a b).0 e
 
+-- a keyword is its word
+keyword_is : (n : Named) (s : List ℕ) → is_keyword n s ≡ true → n ≡ plain n.at s
+keyword_is n s e =
+    let both : (not n.quoted ≡ true) × (bytes_eq n.text s ≡ true) = and_parts (not n.quoted) (bytes_eq n.text s) e in
+    named n s (not_true n.quoted both.0) (bytes_are n.text s both.1)
+
+last_whole : (drop_at : Option ℕ) (header : Phrasing LabelAtom) → EndRead drop_at header → IsPhrase is_label_atom header → IsLast (last_of drop_at header)
+last_whole None header w h = phrase_whole is_label_atom header w h
+last_whole (Some at) header w h = tt
+
 ended : (p : Parse) (w : Written) → NumberRead p → IsKnown p.down → IsKnown p.up → IsPhrase is_label_atom p.first → IsPhrase is_link_atom p.path → IsPhrase is_label_atom p.last
-    → option_map (λ n. record { first = p.first.signs; path = p.path.signs; last = p.last.signs; number = n; down = p.down; up = p.up }) p.number ≡ Some w → (tokens_of w ≡ before_words p []) × IsWritten w
+    → option_map (λ n. record { first = p.first.signs; path = p.path.signs; last = last_of p.drop_at p.last; number = n; down = p.down; up = p.up }) p.number ≡ Some w → (tokens_of w ≡ before_words p []) × IsWritten w
 ended p w n d u a b c e =
-    let found = map_some (λ n. record { first = p.first.signs; path = p.path.signs; last = p.last.signs; number = n; down = p.down; up = p.up }) p.number w e in
+    let found = map_some (λ n. record { first = p.first.signs; path = p.path.signs; last = last_of p.drop_at p.last; number = n; down = p.down; up = p.up }) p.number w e in
     let same : Some found.0 ≡ Some n.1.0 = sym found.1 ∙ n.1.1 in
     let is : found.0 ≡ n.1.0 = cc in
     subst (λ z. (tokens_of z ≡ before_words p []) × IsWritten z) found.2 (
@@ -207,7 +225,7 @@ ended p w n d u a b c e =
       record {
         first = phrase_whole is_label_atom p.first n.0.0 a;
         path = phrase_whole is_link_atom p.path n.0.1 b;
-        last = phrase_whole is_label_atom p.last n.0.2 c;
+        last = last_whole p.drop_at p.last n.0.2 c;
         number = subst IsNumber (sym is) n.1.2;
         down = d;
         up = u;
@@ -247,8 +265,8 @@ labels_end First p w g = record {
   good = record { first = g.first; path = g.path; last = g.last; read = (w, g.read.1, g.read.2) };
 }
 labels_end Last p w g = record {
-  shown = λ rest. refl;
-  good = record { first = g.first; path = g.path; last = g.last; read = ((g.read.0.0, g.read.0.1, w), g.read.1) };
+  shown = λ rest. ap (λ z. before_path p (signs_tokens link_tokens p.path.signs (last_tokens (last_of z p.last) rest))) g.read.1.0;
+  good = record { first = g.first; path = g.path; last = g.last; read = ((g.read.0.0, g.read.0.1, subst (λ z. EndRead z p.last) (sym g.read.1.0) w), g.read.1.1) };
 }
 
 in_labels : (h : Header) (p q : Parse) (t : Token) → Good (stage.Labels h) p → after_in_labels h p t ≡ Some q → Adds (stage.Labels h) p t q
@@ -318,7 +336,13 @@ link_sign p q m g e =
     subst (Adds stage.Links p (token.Mark m)) found.2 (links_add p (token.Mark m) found.0 g (phrase_sign is_link_atom p.path found.0 m found.1 g.path) (sign_goes link_tokens p.path found.0 m found.1))
 
 in_links : (p q : Parse) (t : Token) → Good stage.Links p → after_in_links p t ≡ Some q → Adds stage.Links p t q
-in_links p q (token.Word n) g e = cc
+in_links p q (token.Word n) g e =
+    let found = if_some (is_whole p.path && is_keyword n (codes "drop")) (record p { stage = stage.Number; drop_at = Some n.at }) q e in
+    let both : (is_whole p.path ≡ true) × (is_keyword n (codes "drop") ≡ true) = and_parts (is_whole p.path) (is_keyword n (codes "drop")) found.0 in
+    subst (Adds stage.Links p (token.Word n)) found.1 (record {
+      shown = λ rest. ap (λ z. before_path p (signs_tokens link_tokens p.path.signs (token.Word z ∷ rest))) (sym (keyword_is n (codes "drop") both.1));
+      good = record { first = g.first; path = g.path; last = g.last; read = ((g.read.0, both.0, tt), g.read.2.1) };
+    })
 in_links p q (token.Mark Dot) g e =
     to stage.Links p (with_path p (with_atom p.path link.Any)) q (token.Mark Dot) e
     (links_add p (token.Mark Dot) (with_atom p.path link.Any) g (phrase_atom is_link_atom p.path link.Any refl g.path) (λ rest. signs_push link_tokens p.path.signs (sign.Atom link.Any) rest))
@@ -412,12 +436,6 @@ at_number p q (token.Word n) g e =
       shown = λ rest. ap (λ z. before_number p (token.Word n ∷ known_tokens (codes "down") z (known_tokens (codes "up") p.up rest))) g.read.1.0 ∙ ap (λ z. before_number p (token.Word n ∷ known_tokens (codes "up") z rest)) g.read.1.1;
       good = record { first = g.first; path = g.path; last = g.last; read = ((g.read.0, (n, refl, (not_true n.quoted both.0, both.1))), g.read.1) };
     })
-
--- a keyword is its word
-keyword_is : (n : Named) (s : List ℕ) → is_keyword n s ≡ true → n ≡ plain n.at s
-keyword_is n s e =
-    let both : (not n.quoted ≡ true) × (bytes_eq n.text s ≡ true) = and_parts (not n.quoted) (bytes_eq n.text s) e in
-    named n s (not_true n.quoted both.0) (bytes_are n.text s both.1)
 
 behind_up_word : (at : Stage) (p q : Parse) (n : Named) → ((rest : List Token) → shown_at at p rest ≡ before_words p rest) → Good at p → DownRead p → after_before_up p (token.Word n) ≡ Some q → Adds at p (token.Word n) q
 behind_up_word at p q n is g r e =
@@ -527,7 +545,7 @@ start_good = record {
   first = phrase_none is_label_atom;
   path = phrase_none is_link_atom;
   last = phrase_none is_label_atom;
-  read = (refl, (refl, refl, (refl, refl)));
+  read = (refl, (refl, refl, (refl, (refl, refl))));
 }
 
 -- after tokens, what was read is what was read before and the tokens
@@ -540,7 +558,7 @@ all_shown p q (t ∷ ts) g e =
     ((λ rest. more.0 rest ∙ one.shown (ts ++ rest)), more.1)
 
 -- at an end the tokens are the query's, and it is of its form
-finish_at : (at : Stage) (p : Parse) (w : Written) → Good at p → (if may_end at then option_map (λ n. record { first = p.first.signs; path = p.path.signs; last = p.last.signs; number = n; down = p.down; up = p.up }) p.number else None) ≡ Some w
+finish_at : (at : Stage) (p : Parse) (w : Written) → Good at p → (if may_end at then option_map (λ n. record { first = p.first.signs; path = p.path.signs; last = last_of p.drop_at p.last; number = n; down = p.down; up = p.up }) p.number else None) ≡ Some w
     → (tokens_of w ≡ shown_at at p []) × IsWritten w
 finish_at stage.BehindNumber p w g e = ended p w g.read.0 (subst IsKnown (sym g.read.1.0) tt) (subst IsKnown (sym g.read.1.1) tt) g.first g.path g.last e
 finish_at stage.BehindDown p w g e = ended p w g.read.0 g.read.1 (subst IsKnown (sym g.read.2) tt) g.first g.path g.last e

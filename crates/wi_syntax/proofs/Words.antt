@@ -15,7 +15,7 @@ use Rattle.wi_syntax.specs.declared.places.PairPlace.TheVariants as pair
 use Rattle.wi_syntax.specs.declared.parser.Stage.{Stage}
 use Rattle.wi_syntax.specs.declared.parser.Stage.TheVariants as stage
 use Rattle.wi_syntax.specs.private.Lists.{after_name, after_pair}
-use Rattle.wi_syntax.specs.private.Parsing.{Parse, is_keyword, after_before_up, after_at, after}
+use Rattle.wi_syntax.specs.private.Parsing.{Parse, is_whole, is_keyword, after_before_up, after_at, after}
 use Rattle.wi_syntax.specs.private.Reading.{is_name_due, is_word_due, takes_names, begins, may_begin, admits, longer}
 use Rattle.wi_syntax.proofs.Options.{if_some, map_some}
 
@@ -74,7 +74,7 @@ keyword n word e =
 
 -- a word that may come next: any name, or one that the stage asks for
 abbrev pub Next : Stage → Parse → Named → Type 0
-Next at p n = (takes_names p at ≡ true) ⊎ ((n.quoted ≡ false) × ((s t : List ℕ) → s ≢ [] → s ++ t ≡ n.text → may_begin at s ≡ true))
+Next at p n = (takes_names p at ≡ true) ⊎ ((n.quoted ≡ false) × ((s t : List ℕ) → s ≢ [] → s ++ t ≡ n.text → may_begin p at s ≡ true))
 
 up_next : (p q : Parse) (n : Named) → after_before_up p (token.Word n) ≡ Some q → (n.quoted ≡ false) × (n.text ≡ codes "up")
 up_next p q n e = keyword n (codes "up") (if_some (is_keyword n (codes "up")) (record p { stage = stage.UpDue; word_at = n.at }) q e).0
@@ -93,7 +93,11 @@ next_at (stage.LabelList h) p q n e =
     let outer = map_some _ _ q e in
     let inner = map_some _ _ outer.0 outer.1 in
     inl (name_due p.names.place n inner.0 inner.1)
-next_at stage.Links p q n e = cc
+next_at stage.Links p q n e =
+    let found = if_some (is_whole p.path && is_keyword n (codes "drop")) _ q e in
+    let parts : (is_whole p.path ≡ true) × (is_keyword n (codes "drop") ≡ true) = and_parts (is_whole p.path) (is_keyword n (codes "drop")) found.0 in
+    let is = keyword n (codes "drop") parts.1 in
+    inr (is.0, λ s t some f. and_from (is_whole p.path) (begins s (codes "drop")) parts.0 (begins_front s t (codes "drop") (f ∙ is.1)))
 next_at (stage.LinkList o) p q n e =
     let outer = map_some _ _ q e in
     let inner = map_some _ _ outer.0 outer.1 in
@@ -123,7 +127,7 @@ admits_front p q n t e begun = go (next_at p.stage p q (longer n t) e)
     by_text (inr h) k = h
 
     go : Next p.stage p (longer n t) → admits p n ≡ true
-    go (inl h) = or_left (takes_names p p.stage) (not n.quoted && may_begin p.stage n.text) h
+    go (inl h) = or_left (takes_names p p.stage) (not n.quoted && may_begin p p.stage n.text) h
     go (inr h) =
-        or_right (takes_names p p.stage) (not n.quoted && may_begin p.stage n.text)
-        (and_from (not n.quoted) (may_begin p.stage n.text) (ap not h.0) (h.1 n.text t (by_text begun h.0) refl))
+        or_right (takes_names p p.stage) (not n.quoted && may_begin p p.stage n.text)
+        (and_from (not n.quoted) (may_begin p p.stage n.text) (ap not h.0) (h.1 n.text t (by_text begun h.0) refl))

@@ -13,4 +13,4 @@ mod written;
 pub use laws::a_text_is_read_one_way;
 pub use name::Name;
 pub use reader::{SyntaxRefused, read_written};
-pub use written::{End, Known, LabelAtom, LinkAtom, Pair, Sign, Written};
+pub use written::{End, Known, LabelAtom, Last, LinkAtom, Pair, Sign, Written};

@@ -3,7 +3,7 @@
 //! need no stack.
 ghost use Rattle.std.specs.Prelude.{◌≡◌, IfOk, Some, None, if◌then◌else◌};
 ghost use Rattle.std.specs.Option.{option_map};
-ghost use Rattle.wi_syntax.specs.private.Parsing.{start, is_whole, stage_after, after_sign, phrase_of, with_phrase, with_atom, after_in_labels, after_in_links, after_at_number, after_before_up, after_before_down, after_word, after_start, after, with_names, with_path, with_list, with_pairs, is_keyword, finish, goes};
+ghost use Rattle.wi_syntax.specs.private.Parsing.{start, is_whole, stage_after, after_sign, phrase_of, with_phrase, with_atom, after_in_labels, after_behind_path, after_in_links, after_at_number, after_before_up, after_before_down, after_word, after_start, after, with_names, with_path, with_list, with_pairs, is_keyword, last_of, finish, goes};
 ghost use Rattle.wi_syntax.specs.private.Lists.{after_in_names, after_in_pairs};
 ghost use Rattle.wi_syntax.specs.private.Reading.{admits, takes_names, may_begin, begins};
 
@@ -11,7 +11,7 @@ use crate::name::Name;
 use crate::phrase::Phrase;
 use crate::places::{NameList, PairList, Way};
 use crate::token::{Mark, Token};
-use crate::written::{Known, LabelAtom, LinkAtom, Written};
+use crate::written::{Known, LabelAtom, Last, LinkAtom, Written};
 use std::alloc::Global;
 use std::marker::Model;
 use std::mem::replace;
@@ -63,6 +63,8 @@ pub(crate) struct Parser {
     first: Phrase<LabelAtom>,
     path: Phrase<LinkAtom>,
     last: Phrase<LabelAtom>,
+    // Where the word `drop` starts, if it stands in place of the last header.
+    drop_at: Option<usize>,
     names: NameList,
     pairs: PairList,
     number: Option<Name>,
@@ -77,7 +79,7 @@ impl Model for Parser {
 
     ghost Value = { Parse };
 
-    ghost view = { λ p. record { stage = p.stage; first = p.first; path = p.path; last = p.last; names = p.names; pairs = p.pairs; number = p.number; word_at = p.word_at; down = p.down; up = p.up } };
+    ghost view = { λ p. record { stage = p.stage; first = p.first; path = p.path; last = p.last; drop_at = p.drop_at; names = p.names; pairs = p.pairs; number = p.number; word_at = p.word_at; down = p.down; up = p.up } };
 }
 
 impl Parser {
@@ -90,6 +92,7 @@ impl Parser {
             first: Phrase::new(alloc),
             path: Phrase::new(alloc),
             last: Phrase::new(alloc),
+            drop_at: None,
             names: NameList::new(alloc),
             pairs: PairList::new(alloc),
             number: None,
@@ -139,9 +142,10 @@ impl Parser {
 
     // Whether plain characters begin a word that may come next where no name may.
     fn may_begin(&self, text: &str) -> bool
-        ensures { result ≡ may_begin self.now.stage text.now }
+        ensures { result ≡ may_begin self.now self.now.stage text.now }
     {
         match self.stage {
+            Stage::Links => self.path.is_whole() && begins(text, "drop"),
             Stage::Number => is_number(text),
             Stage::BehindNumber => begins(text, "down") || begins(text, "up"),
             Stage::BehindDown => begins(text, "up"),
@@ -238,10 +242,7 @@ impl Parser {
         ensures { IfOk result (λ on. after_in_links self.old token ≡ goes self.new on) }
     {
         match token {
-            Token::Word(name) => {
-                drop(name);
-                Ok(false)
-            }
+            Token::Word(name) => Ok(self.behind_path(name)),
             Token::Mark(Mark::Dot) => self.push_link_atom(LinkAtom::Any),
             Token::Mark(Mark::OpenSquare) => {
                 self.begin_pairs(PairList::new(alloc), Owner::Path);
@@ -253,6 +254,15 @@ impl Parser {
             }
             Token::Mark(mark) => self.push_link_sign(mark),
         }
+    }
+
+    // At a word behind the expression over links.
+    fn behind_path(&mut self, name: Name) -> bool
+        ensures { after_behind_path self.old name ≡ goes self.new result }
+    {
+        self.stage = Stage::Number;
+        self.drop_at = Some(name.at());
+        self.path.is_whole() && is_keyword(&name, "drop")
     }
 
     fn push_link_atom(&mut self, atom: LinkAtom) -> Result<bool, NoMemory>
@@ -387,7 +397,7 @@ impl Parser {
                 Some(Written {
                     first: self.first.into_signs(),
                     path: self.path.into_signs(),
-                    last: self.last.into_signs(),
+                    last: last_of(self.drop_at, self.last),
                     number,
                     down: self.down,
                     up: self.up,
@@ -402,6 +412,19 @@ impl Parser {
                 drop(self.up);
                 None
             }
+        }
+    }
+}
+
+// The last header that was read, or the word in its place.
+fn last_of(drop_at: Option<usize>, header: Phrase<LabelAtom>) -> Last
+    ensures { result ≡ last_of drop_at header }
+{
+    match drop_at {
+        None => Last::Header(header.into_signs()),
+        Some(at) => {
+            drop(header);
+            Last::Dropped(at)
         }
     }
 }

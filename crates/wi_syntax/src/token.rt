@@ -1,5 +1,6 @@
-//! Names, numbers and the words `down` and `up` are one kind of token, since only the place tells which it is: so a label may
-//! be called `30`, and a router `down`. A mark has one character, so no two of them have to be told apart by what follows.
+//! Names, numbers and the words `drop`, `down` and `up` are one kind of token, since only the place tells which it is: so a
+//! label may be called `30`, and a router `down`. A mark has one character, so no two of them have to be told apart by what
+//! follows.
 use crate::name::Name;
 
 /// A token of one character.
@@ -39,6 +40,6 @@ pub enum Mark {
 #[derive(Drop)]
 pub enum Token {
     Mark(Mark),
-    /// A name, a number, or one of the words `down` and `up`: the place decides which.
+    /// A name, a number, or one of the words `drop`, `down` and `up`: the place decides which.
     Word(Name),
 }

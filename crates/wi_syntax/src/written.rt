@@ -67,12 +67,21 @@ pub struct Known {
     pub pairs: Listed<Pair>,
 }
 
-/// A query as it is written: its three expressions, its number, and the links that are known down or up.
+/// What becomes of the packet.
+#[derive(Drop)]
+pub enum Last {
+    /// It arrives, with such a header.
+    Header(Listed<Sign<LabelAtom>>),
+    /// `drop`: it is dropped. The byte where the word starts.
+    Dropped(usize),
+}
+
+/// A query as it is written: its expressions, its number, and the links that are known down or up.
 #[derive(Drop)]
 pub struct Written {
     pub first: Listed<Sign<LabelAtom>>,
     pub path: Listed<Sign<LinkAtom>>,
-    pub last: Listed<Sign<LabelAtom>>,
+    pub last: Last,
     pub number: Name,
     pub down: Option<Known>,
     pub up: Option<Known>,

@@ -2,7 +2,7 @@
 use std::alloc::Global;
 use std::process::Abort;
 use std::test::Fail;
-use wi_syntax::{End, LabelAtom, LinkAtom, Sign, SyntaxRefused, Written, read_written};
+use wi_syntax::{End, LabelAtom, Last, LinkAtom, Sign, SyntaxRefused, Written, read_written};
 
 // Where a text stops being a query's, if it does.
 fn stop(alloc: Global, text: &str) -> Result<Option<usize>, Fail> {
@@ -52,6 +52,8 @@ const QUERIES: &[Stop] = &[
     ("<.> . <.> 0 up [.#.]", None),
     ("<.> . <.> 0 down[.#.]up[.#.]", None),
     ("<\"Zürich →\"> [\"ü\".\"#\"#\"]\"] <.> 0", None),
+    ("<ip1> [x#a] drop 0", None),
+    ("<drop> [drop#drop]*drop 1 down [drop#a] up [.#b]", None),
 ];
 
 #[test]
@@ -102,6 +104,17 @@ const STOPS: &[Stop] = &[
     ("<\"é\u{7f}\"> . <.> 0", Some(4)),
     ("<\"é", Some(4)),
     ("<.> \"a\" <.> 0", Some(4)),
+    // `drop` stands in the place of the last header, behind a whole path, and nothing but the number comes next.
+    ("<ip1> [x#a] drop", Some(16)),
+    ("<ip1> [x#a] drop0", Some(16)),
+    ("<ip1> [x#a] drop <ip1> 0", Some(17)),
+    ("<ip1> [x#a] drop down [a#b] 0", Some(17)),
+    ("<ip1> [x#a] <ip1> drop 0", Some(18)),
+    ("<ip1> [x#a] \"drop\" 0", Some(12)),
+    ("<ip1> drop 0", Some(6)),
+    ("<ip1> ([x#a] drop 0", Some(13)),
+    ("<ip1> [x#a]| drop 0", Some(13)),
+    ("<ip1> [x#a] down 0", Some(13)),
     // Words behind the number: `0 dx` stops at the x, and `up` doesn't stand before `down`.
     ("<.> . <.> 0 do", Some(14)),
     ("<.> . <.> 0 dx", Some(13)),
@@ -178,8 +191,11 @@ fn is_pair(rt: &impl Abort, path: &[Sign<LinkAtom>]) -> Result<(), Fail> {
     }
 }
 
-fn is_exception(rt: &impl Abort, last: &[Sign<LabelAtom>]) -> Result<(), Fail> {
-    match last {
+fn is_exception(rt: &impl Abort, last: &Last) -> Result<(), Fail> {
+    let Last::Header(signs) = last else {
+        return Err("a header")?;
+    };
+    match signs.as_slice() {
         [Sign::Atom(LabelAtom::List(except, names))] => {
             assert!(rt; *except && only(names.as_slice())?.as_str() == "30");
         }
@@ -191,7 +207,7 @@ fn is_exception(rt: &impl Abort, last: &[Sign<LabelAtom>]) -> Result<(), Fail> {
 fn is_kept(rt: &impl Abort, written: &Written) -> Result<(), Fail> {
     are_names(rt, written.first.as_slice())?;
     is_pair(rt, written.path.as_slice())?;
-    is_exception(rt, written.last.as_slice())?;
+    is_exception(rt, &written.last)?;
     assert!(rt; written.number.as_str() == "12" && written.number.at() == 27);
     assert!(rt; written.down.is_none());
     match &written.up {

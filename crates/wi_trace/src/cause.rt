@@ -3,7 +3,7 @@
 use wi_base::NoMemory;
 use wi_net::LinkId;
 
-/// Why a step isn't allowed. Where there are several causes, the first in this order is given.
+/// Why a step or an end isn't allowed. Where there are several causes, the first in this order is given.
 #[derive(Clone, Copy, PartialEq, Eq, Debug)]
 pub enum Cause {
     /// The first link or a label with its class isn't in the network, the header isn't valid, or the first link is failed.
@@ -25,12 +25,17 @@ pub enum Cause {
     LinkBefore,
     /// This operation of the member, from 0, is the first that isn't defined.
     Undefined(usize),
+    /// Of an end without an active group: this group, from 0, is the first that has a link outside the set.
+    Active(usize),
+    /// Of an end at a member: its operations are defined.
+    Defined,
 }
 
 /// Why a run isn't replayed.
 #[derive(Clone, Copy, PartialEq, Eq, Debug)]
 pub enum ReplayRefused {
-    /// The first step that isn't allowed, and its first cause. Steps count from 1, and the start is step 0.
+    /// The first step that isn't allowed, and its first cause. Steps count from 1, the start is step 0, and the end is the step
+    /// after the last.
     Fault { step: usize, cause: Cause },
     Memory,
 }

@@ -16,7 +16,7 @@ pub fn a_run_without_a_fault_is_a_trace()
     ensures none { (net : Net) (fails : List LinkId) (run : Run) → is_trace net fails run ≡ true → trace_fault net fails run ≡ None }
 {}
 
-/// A run has no fault in the moving world exactly where each of its steps is possible and leads on.
+/// A run has no fault in the moving world exactly where each of its steps is possible and leads on, and its end can be.
 #[tactic(auto, using(crate::proofs::FaultLemmas::moving_fault_none, crate::proofs::FaultLemmas::none_moving_fault))]
 pub fn a_run_without_a_moving_fault_is_possible()
     ensures possible { (net : Net) (bounds : Bounds) (run : Run) → moving_fault net bounds run ≡ None → is_possible_run net bounds run ≡ true }

@@ -1,28 +1,28 @@
-//! One walk judges a run under a set of failed links and in the moving world: they differ in what is failed at the start and in what
-//! stands against a step. A trace is made by a second walk, only where nothing stands against any step; it has a copy of the header at
-//! each link, so it costs the heights of all of them.
+//! One walk judges a run and its end under a set of failed links and in the moving world: they differ in what is failed at the
+//! start and in what stands against a step. A trace is made by a second walk, only where nothing stands against any step or the
+//! end; it has a copy of the header at each link, so it costs the heights of all of them.
 ghost use Rattle.std.specs.Prelude.{◌≡◌, ℕ, ◌++◌, ◌∷◌, [], true, None, Some, Err, IfOk, IfErr, OnOk};
 ghost use Rattle.wi_world.specs.Moves.{is_trace, AreBounds};
 ghost use Rattle.wi_world.specs.Moving.{IsMovingRun};
 ghost use Rattle.wi_world.specs.Runs.{locations, trace_of};
 ghost use Rattle.wi_trace.specs.declared.cause.Cause.{Cause};
 ghost use Rattle.wi_trace.specs.Replays.{first_fault, moving_fault, run_fault, IsNoTrace, IsNoMovingRun};
-ghost use Rattle.wi_trace.specs.private.Hops.{cause_in};
+ghost use Rattle.wi_trace.specs.private.Hops.{cause_in, end_cause_in};
 
 use crate::cause::{Cause, ReplayRefused};
-use crate::hop::{Location, World, follow, hop, twin_of};
+use crate::hop::{Location, World, end_fault, follow, hop, twin_of};
 use crate::start::is_start;
 use std::alloc::Global;
 use wi_base::{Listed, NoMemory};
 use wi_labels::Header;
 use wi_net::{Bounds, FailSet, LinkId, Network};
-use wi_world::{Run, Step};
+use wi_world::{End, Run, Step};
 
 /// The links of a run, each with the header that the packet has on it.
 pub type Trace = Listed<(LinkId, Header)>;
 
-/// The trace of a run under one set of failed links: its start may be, and each step takes a member of the first group that
-/// has a link outside the set, over such a link, with operations that are defined.
+/// The trace of a run under one set of failed links: its start may be, each step takes a member of the first group that has a
+/// link outside the set, over such a link, with operations that are defined, and its end may be.
 pub fn replay(
     alloc: Global,
     net: &Network,
@@ -36,8 +36,8 @@ pub fn replay(
     replayed(alloc, net, run, fault)
 }
 
-/// The trace of a run of the moving world: each step can be made at some moment of a course of failures, repairs and hops
-/// that keeps within the bounds.
+/// The trace of a run of the moving world: each step can be made, and the end be, at some moment of a course of failures, repairs
+/// and hops that keeps within the bounds.
 pub fn replay_moving(
     alloc: Global,
     net: &Network,
@@ -53,8 +53,8 @@ pub fn replay_moving(
     replayed(alloc, net, run, fault)
 }
 
-/// The first of a run's steps that can be made at no moment of a course that keeps within the bounds, if there is one, and its first
-/// cause. Steps count from 1, and the start is step 0.
+/// The first of a run's steps that can be made at no moment of a course that keeps within the bounds, or its end if that can't be,
+/// and the first cause. Steps count from 1, the start is step 0, and the end is the step after the last.
 pub fn moving_fault(
     alloc: Global,
     net: &Network,
@@ -74,16 +74,23 @@ fn fault_in(
     fails: &FailSet,
     run: &Run,
 ) -> Result<Option<(usize, Cause)>, NoMemory>
-    ensures { IfOk result (λ fault. fault ≡ run_fault net.now fails.now (cause_in world.now net.now) run.now) }
+    ensures { IfOk result (λ fault. fault ≡ run_fault net.now fails.now (cause_in world.now net.now) (end_cause_in world.now net.now run.now.end) run.now) }
 {
     if !is_start(net, fails, run) {
         return Ok(Some((0, Cause::BadStart)));
     }
     let header = twin_of(&run.header)?;
-    fault_after(alloc, net, world, (run.first, header), run.steps.as_slice())
+    fault_after(
+        alloc,
+        net,
+        world,
+        (run.first, header),
+        run.steps.as_slice(),
+        run.end,
+    )
 }
 
-// The first fault of steps from a place on.
+// The first fault of steps from a place on, and of the end behind them.
 #[tactic(auto, using(crate::proofs::WalkLemmas::walk_laws))]
 fn fault_after(
     alloc: Global,
@@ -91,15 +98,19 @@ fn fault_after(
     world: &World,
     mut at: Location,
     steps: &[Step],
+    end: End,
 ) -> Result<Option<(usize, Cause)>, NoMemory>
-    ensures { IfOk result (λ fault. fault ≡ first_fault net.now (cause_in world.now net.now) 1 at steps.now) }
+    ensures { IfOk result (λ fault. fault ≡ first_fault net.now (cause_in world.now net.now) (end_cause_in world.now net.now end) 1 at steps.now) }
 {
     for (i, step) in steps.iter().enumerate() {
         if let Some(cause) = hop(alloc, net, world, &mut at, *step)? {
             return Ok(Some((i + 1, cause)));
         }
     }
-    Ok(None)
+    match end_fault(alloc, net, world, &at, end)? {
+        Some(cause) => Ok(Some((steps.len() + 1, cause))),
+        None => Ok(None),
+    }
 }
 
 // What is answered for a run with this first fault, if it has one.

@@ -15,11 +15,11 @@ use wi_labels::{Class, Header, Label, Op};
 use wi_net::{Bounds, FailSet, LinkId, Network};
 use wi_samples::{N1_FIBER_WITH_31, N1_WITH_31, N2_FIBER_WITH_31, N2_WITH_31, N3, Sample, network};
 use wi_trace::Cause::{
-    BadStart, LinkBefore, LinkFailed, NeedsUp, NoGroup, NoMember, NotFirstActive, TooManyBefore,
-    Undefined,
+    Active, BadStart, Defined, LinkBefore, LinkFailed, NeedsUp, NoGroup, NoMember, NotFirstActive,
+    TooManyBefore, Undefined,
 };
 use wi_trace::{
-    Cause, Location, ReplayRefused, Run, Step, Trace, Verdict, follow, groups_of, hop_under,
+    Cause, End, Location, ReplayRefused, Run, Step, Trace, Verdict, follow, groups_of, hop_under,
     hop_within, insert_all, is_start, needs, replay, replay_moving, verdict,
 };
 
@@ -92,7 +92,7 @@ fn location(alloc: Global, at: LocationOf) -> Result<Location, Fail> {
     Ok((LinkId(at.0), Header::from_labels(alloc, at.1)?))
 }
 
-fn run(alloc: Global, at: LocationOf, steps: &[(u32, u32)]) -> Result<Run, Fail> {
+fn run(alloc: Global, at: LocationOf, steps: &[(u32, u32)], end: End) -> Result<Run, Fail> {
     let mut listed = Vec::new(alloc);
     for (group, member) in steps {
         let step = Step {
@@ -106,6 +106,7 @@ fn run(alloc: Global, at: LocationOf, steps: &[(u32, u32)]) -> Result<Run, Fail>
         first,
         header,
         steps: Listed::of(listed),
+        end,
     })
 }
 
@@ -254,9 +255,10 @@ fn case_holds(
     net: &Network,
     from: LocationOf,
     steps: &[(u32, u32)],
+    end: End,
     shown: Shown,
 ) -> Result<(), Fail> {
-    let run = run(alloc, from, steps)?;
+    let run = run(alloc, from, steps, end)?;
     let said = run_shows(rt, alloc, net, &run, shown);
     drop(run);
     said
@@ -267,7 +269,7 @@ type CaseOf<'a> = (&'a [(u32, u32)], Shown<'a>);
 
 fn all_hold(rt: &impl Abort, alloc: Global, net: &Network, cases: &[CaseOf]) -> Result<(), Fail> {
     for (steps, shown) in cases {
-        case_holds(rt, alloc, net, FROM_X, steps, *shown)?;
+        case_holds(rt, alloc, net, FROM_X, steps, End::Arrives, *shown)?;
     }
     Ok(())
 }
@@ -315,7 +317,7 @@ const NO_STARTS: &[(LocationOf, &[u32])] = &[
 ];
 
 fn sets_out(alloc: Global, net: &Network, from: LocationOf, fails: &[u32]) -> Result<bool, Fail> {
-    let run = run(alloc, from, DIRECT)?;
+    let run = run(alloc, from, DIRECT, End::Arrives)?;
     let fails = set(alloc, fails)?;
     let found = is_start(net, &fails, &run);
     drop(fails);
@@ -334,6 +336,7 @@ fn no_starts(rt: &impl Abort, alloc: Global, net: &Network) -> Result<(), Fail> 
             net,
             *from,
             DIRECT,
+            End::Arrives,
             Under(fails, Stops(0, BadStart)),
         )?;
     }
@@ -504,6 +507,109 @@ const BOTH_KNOWN_UP: &[CaseOf] = &[(
 #[test]
 fn the_least_link_that_is_known_up_is_told(rt: HostRuntime) -> Result<(), Fail> {
     hold_on(&rt, rt.alloc(), &N1_FIBER_WITH_31, BOTH_KNOWN_UP)
+}
+
+// The end of a run without steps, from x, and what it shows.
+type EndOf<'a> = (End, Shown<'a>);
+
+fn all_end(rt: &impl Abort, alloc: Global, net: &Network, cases: &[EndOf]) -> Result<(), Fail> {
+    for (end, shown) in cases {
+        case_holds(rt, alloc, net, FROM_X, &[], *end, *shown)?;
+    }
+    Ok(())
+}
+
+fn end_on(rt: &impl Abort, alloc: Global, sample: &Sample, cases: &[EndOf]) -> Result<(), Fail> {
+    let net = network(alloc, sample)?;
+    let said = all_end(rt, alloc, &net, cases);
+    drop(net);
+    said
+}
+
+const FIRST_MEMBER: End = End::Undefined(Step {
+    group: 0,
+    member: 0,
+});
+
+const SECOND_MEMBER: End = End::Undefined(Step {
+    group: 0,
+    member: 1,
+});
+
+const BACKUP: End = End::Undefined(Step {
+    group: 1,
+    member: 0,
+});
+
+const NO_MEMBER: End = End::Undefined(Step {
+    group: 1,
+    member: 1,
+});
+
+const AT_X: &[LocationOf] = &[FROM_X];
+
+const DEFINED_ENDS: &[EndOf] = &[
+    (End::Arrives, Under(&[], Along(AT_X))),
+    (End::Inactive, Under(&[], Stops(1, Active(0)))),
+    (End::Inactive, Under(&[1], Stops(1, Active(1)))),
+    (End::Inactive, Under(&[1, 2], Along(AT_X))),
+    (FIRST_MEMBER, Under(&[], Stops(1, Defined))),
+    (NO_MEMBER, Under(&[], Stops(1, NoMember))),
+    (
+        End::Inactive,
+        Moving((1, &[], &[]), Stops(1, TooManyBefore(2))),
+    ),
+    (
+        End::Inactive,
+        Moving((2, &[], &[2]), Stops(1, NeedsUp(LinkId(2)))),
+    ),
+    (End::Inactive, Moving((2, &[], &[]), Along(AT_X))),
+    (End::Inactive, Needs((2, &[], &[]), &[1, 2], Fits(&[1, 2]))),
+    (End::Inactive, Needs((1, &[], &[]), &[1, 2], Exceeds(2))),
+    (End::Arrives, Needs((1, &[], &[]), &[], Fits(&[]))),
+];
+
+#[test]
+fn a_packet_is_dropped_where_no_group_is_active(rt: HostRuntime) -> Result<(), Fail> {
+    end_on(&rt, rt.alloc(), &N1_WITH_31, DEFINED_ENDS)
+}
+
+// The second operation of the backup would push an smpls label on another.
+const UNDEFINED_BACKUP: Sample = Sample {
+    rows: &[(0, 3, &[&[(1, &[PUSH_S10])], &[(2, &[PUSH_S10, PUSH_S10])]])],
+    ..N1_WITH_31
+};
+
+const BACKUP_ENDS: &[EndOf] = &[
+    (BACKUP, Under(&[], Stops(1, NotFirstActive))),
+    (BACKUP, Under(&[1], Along(AT_X))),
+    (BACKUP, Moving((1, &[2], &[]), Stops(1, LinkBefore))),
+    (BACKUP, Moving((1, &[], &[]), Along(AT_X))),
+    (BACKUP, Needs((1, &[], &[]), &[1], Fits(&[1]))),
+    // The end's own link is used.
+    (BACKUP, Needs((1, &[2], &[]), &[1, 2], UsesFailed(2))),
+];
+
+#[test]
+fn a_packet_is_dropped_by_an_operation_that_is_not_defined(rt: HostRuntime) -> Result<(), Fail> {
+    end_on(&rt, rt.alloc(), &UNDEFINED_BACKUP, BACKUP_ENDS)
+}
+
+// The second member of the one group would push an mpls label on an ip label.
+const UNDEFINED_MEMBER: Sample = Sample {
+    rows: &[(0, 3, &[&[(1, &[PUSH_S10]), (2, &[PUSH_30])]])],
+    ..N1_WITH_31
+};
+
+const MEMBER_ENDS: &[EndOf] = &[
+    (SECOND_MEMBER, Under(&[], Along(AT_X))),
+    (SECOND_MEMBER, Under(&[2], Stops(1, LinkFailed))),
+    (FIRST_MEMBER, Under(&[2], Stops(1, Defined))),
+];
+
+#[test]
+fn a_member_beside_one_that_leads_on_may_drop_packets(rt: HostRuntime) -> Result<(), Fail> {
+    end_on(&rt, rt.alloc(), &UNDEFINED_MEMBER, MEMBER_ENDS)
 }
 
 // Failed links, where the packet is, a step, what stands against it, and where the packet is then.

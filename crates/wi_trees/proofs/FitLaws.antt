@@ -4,50 +4,24 @@ use Rattle.std.proofs.Math.Path.{fun_ext}
 use Rattle.std.proofs.lemmas.Bool.{eq-eqb, leb-true, le-leb, and_parts, and_from, not-true, not_from_false, or_cases, or_left, or_right, false_from_ne_true, true≢false}
 use Rattle.std.proofs.lemmas.Bool.Decides.{nat_tests}
 use Rattle.std.specs.List.{filter, find, list_all}
-use Rattle.std.specs.Option.{option_map_or}
 use Rattle.wi_labels.specs.Header.{is_valid_header}
 use Rattle.wi_net.specs.declared.parts.LinkId.{LinkId}
 use Rattle.wi_net.specs.declared.bounds.Bounds.{Bounds}
 use Rattle.wi_net.specs.LinkSet.{has, is_within, outside}
-use Rattle.wi_net.specs.Net.{Net, all_links, is_link, labels_known, same_risk, widened, risk_count}
+use Rattle.wi_net.specs.Net.{Net, all_links, is_link, labels_known, risk_count}
 use Rattle.wi_net.specs.Network.{IsNetwork}
-use Rattle.wi_net.proofs.SetLemmas.{has-all_links, has_where, where_has, union_has, union_link, within_has, within_from, all_at, all_from}
-use Rattle.wi_net.proofs.CountLemmas.{count_within, union_from, filter_same, bool_same}
-use Rattle.wi_world.specs.declared.run.Step.{Step}
+use Rattle.wi_net.proofs.SetLemmas.{has-all_links, has_where, where_has, union_link, within_has, within_from, all_at, all_from}
+use Rattle.wi_net.proofs.CountLemmas.{count_within, filter_same, bool_same}
 use Rattle.wi_world.specs.declared.run.Run.{Run}
 use Rattle.wi_world.specs.declared.answer.Verdict.TheVariants.{Fits, Exceeds}
-use Rattle.wi_world.specs.Moves.{Location, groups_at, moved, needed, is_possible, follows, is_start, is_possible_run, AreBounds}
+use Rattle.wi_world.specs.Moves.{is_start, is_possible_run, AreBounds}
 use Rattle.wi_world.specs.Moving.{IsMovingRun}
-use Rattle.wi_world.specs.Runs.{is_needed, needs, links_of, judged, verdict_of}
-use Rattle.wi_world.proofs.Allowed.{before_union}
+use Rattle.wi_world.specs.Runs.{is_needed, needs, used_by, judged, verdict_of}
+use Rattle.wi_world.proofs.Steps.{goes}
 use Rattle.wi_world.proofs.MovingLaws.{moving_possible}
-use Rattle.wi_world.proofs.RunLaws.{fit_parts, find_none, none_found, alive_along, needed_up, zero_fits}
+use Rattle.wi_world.proofs.RunLaws.{fit_parts, find_none, none_found, alive_along, needs_union, needed_up, zero_fits}
 use Rattle.wi_trees.specs.Branches.{IsBranch, branch_needs, fits_branch, CanSplit, split_of}
 use Rattle.wi_trees.proofs.BranchLaws.{split_count, outside_nothing}
-
--- a step that needs a link needs its risk group
-needed_along : (net : Net) (at : Location) (steps : List Step) (x e : LinkId) → is_link net e ≡ true → same_risk net x e ≡ true
-    → is_needed net x at steps ≡ true → is_needed net e at steps ≡ true
-needed_along net at [] x e known r h = cc
-needed_along net at (step ∷ steps) x e known r h =
-    let union = before_union net (groups_at net at.0 at.1) step.group in
-    elim (or_cases (has (needed net at step) x) (later x) h) [
-      | inl now ↦ or_left (has (needed net at step) e) (later e) (union_has net (needed net at step) x e union now r known)
-      | inr after ↦
-          or_right (has (needed net at step) e) (later e)
-          (carry (moved net at step) (λ n. needed_along net n steps x e known r) after)
-    ]
-  where
-    needed_from : LinkId → Option Location → Bool
-    needed_from d o = option_map_or (λ (n : Location). is_needed net d n steps) o false
-
-    later : LinkId → Bool
-    later d = needed_from d (moved net at step)
-
-    carry : (o : Option Location) → ((n : Location) → is_needed net x n steps ≡ true → is_needed net e n steps ≡ true)
-        → needed_from x o ≡ true → needed_from e o ≡ true
-    carry None ih i = cc
-    carry (Some n) ih i = ih n i
 
 -- what is found first among the links that pass a test is the first that passes both
 find_filter : (p q : LinkId → Bool) (xs : List LinkId) → find p (filter q xs) ≡ find (λ x. q x && p x) xs
@@ -84,19 +58,13 @@ same_free false false up n within = refl
 
 module _ (net : Net) (run : Run) where
   abbrev is_used : LinkId → Bool
-  is_used e = is_needed net e (run.first, run.header) run.steps
+  is_used e = is_needed net e run.end (run.first, run.header) run.steps
 
   abbrev needs_link : Bounds → LinkId → Bool
   needs_link b e = has b.down e || is_used e
 
   abbrev crosses : LinkId → Bool
-  crosses e = has (links_of net run) e
-
-  needs_union : (b : Bounds) → AreBounds net b → widened net (needs net b run) ≡ needs net b run
-  needs_union b kb = union_from net (needs_link b) (λ x e kx ke px r. elim (or_cases (has b.down x) (is_used x) px) [
-    | inl d ↦ or_left (has b.down e) (is_used e) (union_has net b.down x e kb.down d r ke)
-    | inr i ↦ or_right (has b.down e) (is_used e) (needed_along net (run.first, run.header) run.steps x e ke r i)
-  ])
+  crosses e = has (used_by net run) e
 
   needs_down : (b : Bounds) → AreBounds net b → is_within b.down (needs net b run) ≡ true
   needs_down b kb = within_from b.down (needs net b run)
@@ -107,7 +75,7 @@ module _ (net : Net) (run : Run) where
       → ((e : LinkId) → crosses e ≡ true → has (needs net b run) e ≡ false) → verdict_of net b run ≡ Fits (needs net b run)
   fits_from b few spared =
       let n : ℕ = risk_count net (outside (needs net b run) b.down) in
-      let none = none_found (λ e. has (needs net b run) e) (links_of net run) spared in
+      let none = none_found (λ e. has (needs net b run) e) (used_by net run) spared in
       let room : nat_lt b.k n ≡ false = grind (arith, nat_tests) in
       ap (λ o. judged b.k n (needs net b run) o) none ∙ ap (λ c. if c then Exceeds n else Fits (needs net b run)) room
 
@@ -118,7 +86,7 @@ module _ (net : Net) (run : Run) where
 
   fits_spare : (b : Bounds) (fails : List LinkId) → verdict_of net b run ≡ Fits fails
       → (e : LinkId) → crosses e ≡ true → has (needs net b run) e ≡ false
-  fits_spare b fails h e i = find_none (λ x. has (needs net b run) x) (links_of net run) e (fit_parts net b run fails h).free i
+  fits_spare b fails h e i = find_none (λ x. has (needs net b run) x) (used_by net run) e (fit_parts net b run fails h).free i
 
   module _ (whole branch : Bounds) (b : IsBranch net whole branch) where
     abbrev own_needs : List LinkId
@@ -150,14 +118,14 @@ module _ (net : Net) (run : Run) where
         ]))
 
     counted : risk_count net (outside own_needs whole.down) + branch.k ≡ risk_count net (outside own_needs branch.down) + whole.k
-    counted = split_count net whole branch own_needs b (needs_union branch b.bounds) (needs_down branch b.bounds)
+    counted = split_count net whole branch own_needs b (needs_union net branch run b.bounds) (needs_down branch b.bounds)
 
-    -- whether what is needed may fail at once, and spares the run's links
+    -- whether what is needed may fail at once, and spares the links that the run uses
     abbrev may_fail : List LinkId → Bool
     may_fail s = nat_le (risk_count net (outside s whole.down)) whole.k
 
     abbrev is_spared : List LinkId → Bool
-    is_spared s = list_all (λ e. not (has s e)) (links_of net run)
+    is_spared s = list_all (λ e. not (has s e)) (used_by net run)
 
     pub fits_verdict : fits_branch net whole branch run ≡ true → verdict_of net branch run ≡ Fits own_needs
     fits_verdict h =
@@ -165,13 +133,13 @@ module _ (net : Net) (run : Run) where
         let p = and_parts (may_fail own_needs) (is_spared own_needs) here in
         let most = leb-true (risk_count net (outside own_needs whole.down)) whole.k p.0 in
         fits_from branch (omega (arith, counted, most))
-        (λ e i. not-true (has own_needs e) (all_at (λ x. not (has own_needs x)) (links_of net run) e p.1 i))
+        (λ e i. not-true (has own_needs e) (all_at (λ x. not (has own_needs x)) (used_by net run) e p.1 i))
 
     pub verdict_fits : (fails : List LinkId) → verdict_of net branch run ≡ Fits fails → fits_branch net whole branch run ≡ true
     verdict_fits fails h =
         let few = fits_few branch fails h in
         let most = le-leb (risk_count net (outside own_needs whole.down)) whole.k (omega (arith, counted, few)) in
-        let spared = all_from (λ x. not (has own_needs x)) (links_of net run)
+        let spared = all_from (λ x. not (has own_needs x)) (used_by net run)
         (λ e i. not_from_false (has own_needs e) (fits_spare branch fails h e i)) in
         ap (λ s. may_fail s && is_spared s) same_needs ∙ and_from (may_fail own_needs) (is_spared own_needs) most spared
 
@@ -180,7 +148,7 @@ module _ (net : Net) (run : Run) where
         → verdict_of net whole run ≡ Fits (needs net whole run)
     verdict_whole kw fails h =
         let few = fits_few branch fails h in
-        let less = count_within net (needs net whole run) own_needs whole.down (needs_union whole kw) (needs_union branch b.bounds)
+        let less = count_within net (needs net whole run) own_needs whole.down (needs_union net whole run kw) (needs_union net branch run b.bounds)
         (λ e n no_down. needs_whole e n) in
         fits_from whole (omega (arith, counted, few, less))
         (λ e i. false_from_ne_true (has (needs net whole run) e)
@@ -205,10 +173,10 @@ module _ (net : Net) (run : Run) where
       possible : is_possible_run net branch run ≡ true
       possible = moving_possible net branch run k b.bounds moving
 
-      hops : follows net (is_possible net branch) (run.first, run.header) run.steps ≡ true
+      hops : goes net branch run.end (run.first, run.header) run.steps ≡ true
       hops =
           (and_parts (is_start net branch.down run.first run.header)
-          (follows net (is_possible net branch) (run.first, run.header) run.steps) possible).1
+          (goes net branch run.end (run.first, run.header) run.steps) possible).1
 
       alive : has branch.down run.first ≡ false
       alive =
@@ -228,10 +196,10 @@ module _ (net : Net) (run : Run) where
       not_all_down : ((e : LinkId) → has own_needs e ≡ true → has branch.down e ≡ true) → ⊥
       not_all_down each =
           let none = outside_nothing net branch.down in
-          let less = count_within net own_needs branch.down branch.down (needs_union branch b.bounds) b.bounds.down
+          let less = count_within net own_needs branch.down branch.down (needs_union net branch run b.bounds) b.bounds.down
           (λ e n no_down. each e n) in
           let spared : (e : LinkId) → crosses e ≡ true → has branch.down e ≡ false
-          = λ e i. alive_along net branch (run.first, run.header) run.steps e alive hops i in
+          = λ e i. alive_along net branch run.end (run.first, run.header) run.steps e alive hops i in
           never own_needs (fits_from branch (omega (arith, none, less))
           (λ e i. false_from_ne_true (has own_needs e) (λ n. true≢false (sym (each e n) ∙ spared e i))))
 
@@ -240,7 +208,7 @@ module _ (net : Net) (run : Run) where
       down_if_none s e n = elim (or_cases (has branch.down e) (is_used e) (where_has net (needs_link branch) e n).1) [
         | inl d ↦ d
         | inr i ↦
-            go (has branch.down e) refl (needed_up net branch (run.first, run.header) run.steps e hops i)
+            go (has branch.down e) refl (needed_up net branch run.end (run.first, run.header) run.steps e hops i)
             (find_none is_free own_needs e s n)
       ]
         where

@@ -14,7 +14,7 @@ use Rattle.wi_world.specs.Moves.{is_possible_run}
 use Rattle.wi_world.specs.Moving.{after_event, start_of}
 use Rattle.wi_world.specs.Runs.{verdict_of}
 use Rattle.wi_world.specs.Holds.{Question, Weighing}
-use Rattle.wi_world.proofs.Samples.{l, base, fiber, shared, with_z, step, bounds, at_most, direct, around, around_to_z}
+use Rattle.wi_world.proofs.Samples.{l, s10, ip1, base, fiber, shared, undefined_back, with_z, step, bounds, at_most, state, direct, around, around_to_z, lost_at_b, undefined_after_c}
 use Rattle.wi_trees.specs.Branches.{IsBranch, keeps_to, IsBranchSet, after_event_in, IsBranchRun, branch_needs, fits_branch, CanSplit, with_down, with_up, free_links, split_of}
 use Rattle.wi_trees.specs.Trees.{IsBelow, Tree, closed, split, preorder, size, TreeOf, HoldsExactly}
 use Rattle.wi_trees.specs.Nodes.{AreNodes}
@@ -124,7 +124,14 @@ around_verdict_down = refl
 
 around_moves_down : IsBranchRun base (at_most 1) (with_down base (at_most 1) (l 1)) around
 around_moves_down =
-    record { start = refl; events = Hop (step 1 0) ∷ Hop (step 0 0) ∷ Hop (step 0 0) ∷ []; allowed = refl; steps = refl }
+    record {
+      start = refl;
+      events = Hop (step 1 0) ∷ Hop (step 0 0) ∷ Hop (step 0 0) ∷ [];
+      last = state (l 4) (ip1 ∷ []) (l 1 ∷ []);
+      allowed = refl;
+      steps = refl;
+      ends = refl;
+    }
 
 -- With another link down, and no failure left, l1 would be one too many: the run fits the whole bounds, and not that branch.
 around_fits_whole : verdict_of with_z (at_most 1) around ≡ Fits (l 1 ∷ [])
@@ -149,6 +156,36 @@ fiber_fits_not = refl
 
 fiber_splits : split_of fiber (at_most 1) around ≡ Some (l 1)
 fiber_splits = refl
+
+-- A packet that is dropped at b, since the link from there has failed, is dropped so in the branch with that link down. In the one
+-- with it up it isn't.
+lost_fits_down : fits_branch base (at_most 1) (with_down base (at_most 1) (l 4)) lost_at_b ≡ true
+lost_fits_down = refl
+
+lost_moves_down : IsBranchRun base (at_most 1) (with_down base (at_most 1) (l 4)) lost_at_b
+lost_moves_down =
+    record {
+      start = refl;
+      events = Hop (step 0 0) ∷ [];
+      last = state (l 1) (s10 ∷ ip1 ∷ []) (l 4 ∷ []);
+      allowed = refl;
+      steps = refl;
+      ends = refl;
+    }
+
+lost_not_up : is_possible_run base (with_up base (at_most 1) (l 4)) lost_at_b ≡ false
+lost_not_up = refl
+
+-- A packet that comes back to a, and is dropped on the way over l1, needs that l1 has failed before. The end's own link is used, so
+-- the run doesn't fit, and l1 is the link to split by.
+back_moves : is_possible_run undefined_back (at_most 1) undefined_after_c ≡ true
+back_moves = refl
+
+back_fits_not : fits_branch undefined_back (at_most 1) (at_most 1) undefined_after_c ≡ false
+back_fits_not = refl
+
+back_splits : split_of undefined_back (at_most 1) undefined_after_c ≡ Some (l 1)
+back_splits = refl
 
 -- The way to z needs two failures, one after the other: with one it moves, doesn't fit, and is split by the lesser link. Once that
 -- is down or up, it moves no more.

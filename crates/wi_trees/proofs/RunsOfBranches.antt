@@ -1,5 +1,5 @@
 -- The moving runs of a branch are those of the branch as bounds: event by event.
-use Rattle.std.proofs.Common.{◌≡◌, ◌+◌, Bool, true, false, not, cond, ◌&&◌, nat_lt, List, [], ◌∷◌, Option, Some, None, IfSome, is_some, refl, arith, ap, sym, ◌∙◌}
+use Rattle.std.proofs.Common.{◌≡◌, ◌+◌, Bool, true, false, not, cond, ◌&&◌, nat_lt, List, [], ◌∷◌, Option, Some, None, IfSome, refl, arith, sym, ◌∙◌}
 use Rattle.std.proofs.lemmas.Bool.{ltb-true, lt-ltb, and_parts, and_from, not-true, not_from_false, false_from_ne_true, true≢false}
 use Rattle.std.specs.Option.{option_and_then}
 use Rattle.wi_net.specs.declared.parts.LinkId.{LinkId}
@@ -182,12 +182,11 @@ module _ (net : Net) (whole branch : Bounds) (b : IsBranch net whole branch) whe
 
   -- the same courses of events, and so the same runs
   module _ (run : Run) where
-    same_end : (events : List Event) → is_some (after_events_in net whole branch (start_of branch run) events)
-        ≡ is_some (after_events net branch (start_of branch run) events)
-    same_end events = ap (λ o. is_some o) (events_same events (start_of branch run) (allowed_down net branch b.bounds))
+    same_course : (events : List Event) → after_events_in net whole branch (start_of branch run) events ≡ after_events net branch (start_of branch run) events
+    same_course events = events_same events (start_of branch run) (allowed_down net branch b.bounds)
 
     pub branch_moving : IsBranchRun net whole branch run → IsMovingRun net branch run
-    branch_moving r = record { start = r.start; events = r.events; allowed = sym (same_end r.events) ∙ r.allowed; steps = r.steps }
+    branch_moving r = record { start = r.start; events = r.events; last = r.last; allowed = sym (same_course r.events) ∙ r.allowed; steps = r.steps; ends = r.ends }
 
     pub moving_branch : IsMovingRun net branch run → IsBranchRun net whole branch run
-    moving_branch r = record { start = r.start; events = r.events; allowed = same_end r.events ∙ r.allowed; steps = r.steps }
+    moving_branch r = record { start = r.start; events = r.events; last = r.last; allowed = same_course r.events ∙ r.allowed; steps = r.steps; ends = r.ends }

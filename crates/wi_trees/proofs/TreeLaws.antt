@@ -11,13 +11,13 @@ use Rattle.wi_world.specs.declared.answer.Verdict.TheVariants.{Fits}
 use Rattle.wi_world.specs.Moves.{IsAllowed, AreBounds}
 use Rattle.wi_world.specs.Moving.{IsMovingRun}
 use Rattle.wi_world.specs.Runs.{is_less, needs, verdict_of}
-use Rattle.wi_world.specs.Holds.{Question, Matches, Weighing, NoTraceLess}
+use Rattle.wi_world.specs.Holds.{Question, Matches, Weighing, NoTraceLess, NoTrace}
 use Rattle.wi_world.proofs.MovingLaws.{moving_possible}
 use Rattle.wi_world.proofs.RunLaws.{trace_moving, fits_trace}
 use Rattle.wi_query.specs.declared.query.Query.{Query}
 use Rattle.wi_query.specs.Meaning.{IsQueryOf, question_of}
 use Rattle.wi_trees.specs.Branches.{IsBranch, with_down, with_up}
-use Rattle.wi_trees.specs.Trees.{NoRunBelow, NoTraceBelow, Tree, closed, split, TreeOf, TreeHolds, IsExactYes, IsExactNo, whole_of, question_at}
+use Rattle.wi_trees.specs.Trees.{NoRunBelow, NoTraceBelow, Tree, closed, split, TreeOf, TreeHolds, IsExactYes, whole_of, question_at}
 use Rattle.wi_trees.proofs.BranchLaws.{root, child_down, child_up, allowed_set, allowed_down_child, allowed_up_child}
 use Rattle.wi_trees.proofs.FitLaws.{verdict_whole}
 
@@ -54,7 +54,7 @@ module _ (net : Net) (question : Question) (weigh : Weighing) (k : IsNetwork net
   pub least_from : (w : List ℕ) → NoTraceBelow net question weigh (Some w) question.bounds → NoTraceLess net question weigh w
   least_from w none fails run a t m = false_from_ne_true (is_less (weigh run) w) (λ less. none fails run a t m less)
 
-  pub no_from : NoTraceBelow net question weigh None question.bounds → IsExactNo net question
+  pub no_from : NoTraceBelow net question weigh None question.bounds → NoTrace net question
   no_from none fails run a t m = none fails run a t m tt
 
   -- a run that fits a branch is a trace under its needs within the whole
@@ -77,10 +77,10 @@ module _ (net : Net) (query : Query) (k : ℕ) where
   bounds_at q = record { down = q.bounds.down; up = q.bounds.up; apart = q.bounds.apart }
 
   pub matches_at : (run : Run) → Matches net (question_of query) run → Matches net (question_at k query) run
-  matches_at run m = record { first = m.first; path = m.path; last = m.last }
+  matches_at run m = record { first = m.first; path = m.path; last = m.last; end = m.end }
 
   pub matches_of : (run : Run) → Matches net (question_at k query) run → Matches net (question_of query) run
-  matches_of run m = record { first = m.first; path = m.path; last = m.last }
+  matches_of run m = record { first = m.first; path = m.path; last = m.last; end = m.end }
 
   pub covers_at : (weigh : Weighing) (bound : Option (List ℕ)) (branch : Bounds)
       → NoTraceBelow net (question_of query) weigh bound branch → NoTraceBelow net (question_at k query) weigh bound branch

@@ -1,5 +1,5 @@
 -- Branches: parts of what may fail within bounds. A branch is bounds itself: more links are down, more are up, fewer may fail.
-use Rattle.std.specs.Prelude.{◌≡◌, ◌+◌, ◌-◌, ◌<◌, Bool, true, false, not, ◌&&◌, ◌||◌, nat_le, if◌then◌else◌, List, [], ◌∷◌, Option, Some, None, is_some}
+use Rattle.std.specs.Prelude.{◌≡◌, ◌+◌, ◌-◌, ◌<◌, Bool, true, false, not, ◌&&◌, ◌||◌, nat_le, if◌then◌else◌, List, [], ◌∷◌, Option, Some, None}
 use Rattle.std.specs.List.{find, list_all}
 use Rattle.std.specs.Option.{option_and_then}
 use Rattle.wi_net.specs.declared.parts.LinkId.{LinkId}
@@ -9,9 +9,9 @@ use Rattle.wi_net.specs.Net.{Net, is_link, links_where, risk_count, with_risk}
 use Rattle.wi_world.specs.declared.run.Run.{Run}
 use Rattle.wi_world.specs.declared.world.State.{State}
 use Rattle.wi_world.specs.declared.world.Event.{Event}
-use Rattle.wi_world.specs.Moves.{is_start, IsAllowed, AreBounds}
+use Rattle.wi_world.specs.Moves.{may_end, is_start, IsAllowed, AreBounds}
 use Rattle.wi_world.specs.Moving.{after_event, hops, start_of}
-use Rattle.wi_world.specs.Runs.{links_of, needs}
+use Rattle.wi_world.specs.Runs.{used_by, needs}
 
 -- a branch of bounds: it has their two lists, and as many risk groups may still fail as its down leaves
 pub record IsBranch (net : Net) (whole branch : Bounds) : Type 0 where
@@ -40,22 +40,25 @@ after_events_in net whole branch now [] = Some now
 after_events_in net whole branch now (event ∷ events) =
     option_and_then (λ next. after_events_in net whole branch next events) (after_event_in net whole branch now event)
 
--- a moving run of a branch: what fails within the whole bounds begins as what is down in the branch, and keeps to it
+-- a moving run of a branch: what fails within the whole bounds begins as what is down in the branch, and keeps to it; and the run
+-- may end so as things are then
 pub record IsBranchRun (net : Net) (whole branch : Bounds) (run : Run) : Type 0 where
   pub start : is_start net branch.down run.first run.header ≡ true
   pub events : List Event
-  pub allowed : is_some (after_events_in net whole branch (start_of branch run) events) ≡ true
+  pub last : State
+  pub allowed : after_events_in net whole branch (start_of branch run) events ≡ Some last
   pub steps : hops events ≡ run.steps
+  pub ends : may_end net last.fails (last.link, last.header) run.end ≡ true
 
 -- what a run needs within the whole bounds, and what is down in the branch
 abbrev pub branch_needs : Net → Bounds → Bounds → Run → List LinkId
 branch_needs net whole branch run = links_where net (λ e. has (needs net whole run) e || has branch.down e)
 
--- a run fits a branch: these may all fail at once, and spare the run's links
+-- a run fits a branch: these may all fail at once, and spare the links that the run uses
 abbrev pub fits_branch : Net → Bounds → Bounds → Run → Bool
 fits_branch net whole branch run =
     nat_le (risk_count net (outside (branch_needs net whole branch run) whole.down)) whole.k
-    && list_all (λ e. not (has (branch_needs net whole branch run) e)) (links_of net run)
+    && list_all (λ e. not (has (branch_needs net whole branch run) e)) (used_by net run)
 
 -- a link's risk group may be split: it is neither down nor up, and one more may fail
 pub record CanSplit (net : Net) (branch : Bounds) (e : LinkId) : Type 0 where

@@ -11,7 +11,7 @@ use Rattle.wi_world.specs.declared.answer.Verdict.TheVariants.{Fits}
 use Rattle.wi_world.specs.Moves.{is_trace, IsAllowed}
 use Rattle.wi_world.specs.Moving.{IsMovingRun}
 use Rattle.wi_world.specs.Runs.{verdict_of, is_less}
-use Rattle.wi_world.specs.Holds.{Question, Matches, Weighing, NoTraceLess}
+use Rattle.wi_world.specs.Holds.{Question, Matches, Weighing, NoTraceLess, NoTrace}
 use Rattle.wi_query.specs.declared.query.Query.{Query}
 use Rattle.wi_query.specs.Meaning.{question_of}
 use Rattle.wi_trees.specs.Branches.{CanSplit, with_down, with_up}
@@ -75,14 +75,8 @@ pub record IsExactYes (net : Net) (question : Question) (weigh : Weighing) (w : 
   pub weight : weigh run ≡ w
   pub least : NoTraceLess net question weigh w
 
--- a no without doubt: under no allowed failures is there a matching trace
-abbrev pub IsExactNo : Net → Question → Type 0
-IsExactNo net question =
-    (fails : List LinkId) (run : Run) → IsAllowed net question.bounds fails → is_trace net fails run ≡ true
-    → Matches net question run → ⊥
-
--- an exact answer holds: it is a yes or a no
+-- an exact answer holds: it is a yes, or a no without doubt, which says that no trace under allowed failures matches
 abbrev pub HoldsExactly : Net → Question → Weighing → Word → Option (List ℕ) → Option Run → Option Verdict → Type 0
 HoldsExactly net question weigh Yes (Some w) (Some run) (Some (Fits fails)) = IsExactYes net question weigh w run fails
-HoldsExactly net question weigh No None None None = IsExactNo net question
+HoldsExactly net question weigh No None None None = NoTrace net question
 HoldsExactly net question weigh _ _ _ _ = ⊥

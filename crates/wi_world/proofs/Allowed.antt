@@ -14,7 +14,7 @@ use Rattle.wi_net.proofs.SetLemmas.{has_where, where_has, union_has, union_link,
 use Rattle.wi_net.proofs.CountLemmas.{count_within, count_more, union_from, outside_self}
 use Rattle.wi_net.proofs.GroupLemmas.{any_link, groups_known, before_failed, first_is, entry_known, none_before, any_link_weaken, active_by}
 use Rattle.wi_world.specs.declared.run.Step.{Step}
-use Rattle.wi_world.specs.Moves.{Location, groups_at, member_at, needed, by_link, is_usable, is_possible, IsAllowed, AreBounds}
+use Rattle.wi_world.specs.Moves.{Location, groups_at, member_at, needed, by_link, is_usable, may_be_down, may_be_up, is_possible, IsAllowed, AreBounds}
 
 -- what is known to be down may be down
 pub allowed_down : (net : Net) (b : Bounds) → AreBounds net b → IsAllowed net b b.down
@@ -81,6 +81,22 @@ allowed_without net b s d k a known dd = record {
     fewer : (e : LinkId) → has (without_risk net s d) e ≡ true → has s e ≡ true
     fewer e h = (and_parts (has s e) (not (same_risk net d e)) ((where_has net (λ x. has s x && not (same_risk net d x)) e h).1)).0
 
+-- what it is that a union may be down
+pub down_parts : (net : Net) (b : Bounds) (s : List LinkId) → may_be_down net b s ≡ true → (nat_le (risk_count net (outside s b.down)) b.k ≡ true) × (is_apart s b.up ≡ true)
+down_parts net b s h = and_parts (nat_le (risk_count net (outside s b.down)) b.k) (is_apart s b.up) h
+
+-- a union within an allowed set may be down
+pub within_allowed : (net : Net) (b : Bounds) (fails s : List LinkId) → IsAllowed net b fails → widened net s ≡ s → ((e : LinkId) → has s e ≡ true → has fails e ≡ true) → may_be_down net b s ≡ true
+within_allowed net b fails s a u into =
+    and_from (nat_le (risk_count net (outside s b.down)) b.k) (is_apart s b.up) few
+    (apart_from s b.up (λ e i. apart_has fails b.up e a.up (into e i)))
+  where
+    few : nat_le (risk_count net (outside s b.down)) b.k ≡ true
+    few =
+        let less = count_within net s fails b.down u a.union (λ e i no_down. into e i) in
+        let most = leb-true (risk_count net (outside fails b.down)) b.k a.few in
+        le-leb (risk_count net (outside s b.down)) b.k (omega (arith, less, most))
+
 -- a step that names a member
 pub record Names (net : Net) (at : Location) (step : Step) : Type 0 where
   pub group : List Member
@@ -125,21 +141,11 @@ needed_failed net fails at step u h e n =
 -- a hop under an allowed set is a possible hop
 pub usable_possible : (net : Net) (b : Bounds) (fails : List LinkId) (at : Location) (step : Step) → IsAllowed net b fails → is_usable net fails at step ≡ true → is_possible net b at step ≡ true
 usable_possible net b fails at step a h =
-    and_from (nat_le (risk_count net (outside (needed net at step) b.down)) b.k && is_apart (needed net at step) b.up)
-    (by_link net at step (λ e. not (has (needed net at step) e) && not (has b.down e)))
-    (and_from (nat_le (risk_count net (outside (needed net at step) b.down)) b.k) (is_apart (needed net at step) b.up) few apart) link
+    and_from (may_be_down net b (needed net at step)) (by_link net at step (λ e. not (has (needed net at step) e) && not (has b.down e)))
+    (within_allowed net b fails (needed net at step) a (before_union net (groups_at net at.0 at.1) step.group) into) link
   where
     into : (e : LinkId) → has (needed net at step) e ≡ true → has fails e ≡ true
     into = needed_failed net fails at step a.union h
-
-    few : nat_le (risk_count net (outside (needed net at step) b.down)) b.k ≡ true
-    few =
-        let less = count_within net (needed net at step) fails b.down (before_union net (groups_at net at.0 at.1) step.group) a.union (λ e n no_down. into e n) in
-        let most = leb-true (risk_count net (outside fails b.down)) b.k a.few in
-        le-leb (risk_count net (outside (needed net at step) b.down)) b.k (omega (arith, less, most))
-
-    apart : is_apart (needed net at step) b.up ≡ true
-    apart = apart_from (needed net at step) b.up (λ e n. apart_has fails b.up e a.up (into e n))
 
     link : by_link net at step (λ e. not (has (needed net at step) e) && not (has b.down e)) ≡ true
     link =
@@ -151,7 +157,7 @@ usable_possible net b fails at step a h =
         (not_from_false (has (needed net at step) ((n.0).member.link)) (false_from_ne_true (has (needed net at step) ((n.0).member.link)) (λ x. true≢false (sym (into ((n.0).member.link) x) ∙ free))))
         (not_from_false (has b.down ((n.0).member.link)) (false_from_ne_true (has b.down ((n.0).member.link)) (λ x. true≢false (sym (within_has b.down fails ((n.0).member.link) a.down x) ∙ free)))))
 
-groups_at_known : (net : Net) (e : LinkId) (header : List Entry) → IsNetwork net → groups_known net (groups_at net e header) ≡ true
+pub groups_at_known : (net : Net) (e : LinkId) (header : List Entry) → IsNetwork net → groups_known net (groups_at net e header) ≡ true
 groups_at_known net e [] k = refl
 groups_at_known net e (top ∷ below) k = entry_known net e top.0 k
 
@@ -172,11 +178,14 @@ pub record Possible (net : Net) (b : Bounds) (at : Location) (step : Step) : Typ
   pub spared : has (needed net at step) named.member.link ≡ false
   pub alive : has b.down named.member.link ≡ false
 
+pub possible_down : (net : Net) (b : Bounds) (at : Location) (step : Step) → is_possible net b at step ≡ true → may_be_down net b (needed net at step) ≡ true
+possible_down net b at step h = (and_parts (may_be_down net b (needed net at step)) (by_link net at step (may_be_up b (needed net at step))) h).0
+
 pub possible_parts : (net : Net) (b : Bounds) (at : Location) (step : Step) → is_possible net b at step ≡ true → Possible net b at step
 possible_parts net b at step h =
     let free : LinkId → Bool = λ e. not (has (needed net at step) e) && not (has b.down e) in
-    let p = and_parts (nat_le (risk_count net (outside (needed net at step) b.down)) b.k && is_apart (needed net at step) b.up) (by_link net at step free) h in
-    let q = and_parts (nat_le (risk_count net (outside (needed net at step) b.down)) b.k) (is_apart (needed net at step) b.up) p.0 in
+    let p = and_parts (may_be_down net b (needed net at step)) (by_link net at step free) h in
+    let q = down_parts net b (needed net at step) p.0 in
     let n = by_link_names net at step free p.1 in
     let r = and_parts (not (has (needed net at step) ((n.0).member.link))) (not (has b.down ((n.0).member.link))) n.1 in
     record { few = q.0; up = q.1; named = n.0; spared = not-true (has (needed net at step) ((n.0).member.link)) r.0; alive = not-true (has b.down ((n.0).member.link)) r.1 }

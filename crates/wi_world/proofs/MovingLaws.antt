@@ -1,7 +1,7 @@
 -- Moving runs are the runs of possible hops.
-use Rattle.std.proofs.Common.{◌≡◌, Bool, true, false, not, ◌&&◌, ◌||◌, nat_eq, nat_lt, nat_le, List, [], ◌∷◌, ◌++◌, Option, Some, None, is_some, refl, arith, ap, inl, inr, sym, ◌∙◌}
+use Rattle.std.proofs.Common.{◌≡◌, Bool, true, false, not, ◌&&◌, ◌||◌, nat_eq, nat_lt, nat_le, List, [], ◌∷◌, ◌++◌, Option, Some, None, refl, arith, ap, inl, inr, sym, ◌∙◌}
 use Rattle.std.proofs.lemmas.Bool.{leb-true, lt-ltb, and_parts, and_from, not-true, not_from_false, or_cases, or_left, or_right, false_from_ne_true, true≢false, cases_Bool}
-use Rattle.std.specs.Option.{option_map, option_map_or, option_and_then}
+use Rattle.std.specs.Option.{option_map, option_and_then}
 use Rattle.wi_labels.specs.Header.{Entry}
 use Rattle.wi_net.specs.declared.parts.LinkId.{LinkId}
 use Rattle.wi_net.specs.Net.{Net}
@@ -13,12 +13,15 @@ use Rattle.wi_net.proofs.SetLemmas.{has-all_links, has_where, where_has, union_h
 use Rattle.wi_net.proofs.CountLemmas.{count_less}
 use Rattle.wi_world.specs.declared.run.Step.{Step}
 use Rattle.wi_world.specs.declared.run.Run.{Run}
+use Rattle.wi_world.specs.declared.run.End.{End}
 use Rattle.wi_world.specs.declared.world.State.{State}
 use Rattle.wi_world.specs.declared.world.Event.{Event}
 use Rattle.wi_world.specs.declared.world.Event.TheVariants.{Fail, Repair, Hop}
-use Rattle.wi_world.specs.Moves.{Location, groups_at, moved, needed, is_usable, is_possible, follows, is_start, is_possible_run, IsAllowed, AreBounds}
+use Rattle.wi_world.specs.Moves.{Location, groups_at, moved, needed, is_usable, may_be_down, is_possible, may_end, needed_to_end, can_end, is_start, is_possible_run, IsAllowed, AreBounds}
 use Rattle.wi_world.specs.Moving.{after_event, after_events, hops, start_of, IsMovingRun}
-use Rattle.wi_world.proofs.Allowed.{allowed_down, allowed_with, allowed_without, before_union, usable_possible, possible_usable, Possible, possible_parts}
+use Rattle.wi_world.proofs.Allowed.{allowed_down, allowed_with, allowed_without, before_union, down_parts, usable_possible, possible_usable, Possible, possible_down, possible_parts}
+use Rattle.wi_world.proofs.EndLemmas.{end_union, end_down, end_spares, may_can, can_may}
+use Rattle.wi_world.proofs.Steps.{follows_from, goes, goes_on}
 
 module _ (net : Net) (b : Bounds) (k : IsNetwork net) (kb : AreBounds net b) where
   -- when a link may fail, and what else is so then
@@ -28,43 +31,41 @@ module _ (net : Net) (b : Bounds) (k : IsNetwork net) (kb : AreBounds net b) whe
   abbrev can_repair : State → LinkId → Bool
   can_repair st e = has st.fails e && not (has b.down e)
 
-  -- each hop of a course of events is a possible hop
-  forwards : (events : List Event) (st : State) → IsAllowed net b st.fails → is_some (after_events net b st events) ≡ true → follows net (is_possible net b) (st.link, st.header) (hops events) ≡ true
-  forwards [] st a h = refl
-  forwards (Fail e ∷ events) st a h = go (can_fail st e) refl (forwards events (record st { fails = with_risk net st.fails e }))
+  -- each hop of a course of events is a possible hop, and an end that may be after it can be
+  forwards : (end : End) (last : State) → may_end net last.fails (last.link, last.header) end ≡ true → (events : List Event) (st : State) → IsAllowed net b st.fails → after_events net b st events ≡ Some last → goes net b end (st.link, st.header) (hops events) ≡ true
+  forwards end last ends [] st a h =
+      let same : st ≡ last = cc in
+      may_can net b st.fails (st.link, st.header) end k a (rw same ends)
+  forwards end last ends (Fail e ∷ events) st a h = go (can_fail st e) refl (forwards end last ends events (record st { fails = with_risk net st.fails e }))
     where
-      go : (c : Bool) → can_fail st e ≡ c → (IsAllowed net b (with_risk net st.fails e) → is_some (after_events net b (record st { fails = with_risk net st.fails e }) events) ≡ true → follows net (is_possible net b) (st.link, st.header) (hops events) ≡ true) → follows net (is_possible net b) (st.link, st.header) (hops events) ≡ true
+      go : (c : Bool) → can_fail st e ≡ c → (IsAllowed net b (with_risk net st.fails e) → after_events net b (record st { fails = with_risk net st.fails e }) events ≡ Some last → goes net b end (st.link, st.header) (hops events) ≡ true) → goes net b end (st.link, st.header) (hops events) ≡ true
       go true c ih =
           let p1 = and_parts (is_link net e && not (has st.fails e) && not (has b.up e)) (nat_lt (risk_count net (outside st.fails b.down)) b.k) c in
           let p2 = and_parts (is_link net e && not (has st.fails e)) (not (has b.up e)) p1.0 in
           let p3 = and_parts (is_link net e) (not (has st.fails e)) p2.0 in
           ih (allowed_with net b st.fails e kb a p3.0 (not-true (has b.up e) p2.1) p1.1) (rw c at h)
-      go false c ih = let none : is_some {T = State} None ≡ true = rw c at h in cc
-  forwards (Repair e ∷ events) st a h = go (can_repair st e) refl (forwards events (record st { fails = without_risk net st.fails e }))
+      go false c ih = let none : None ≡ Some last = rw c at h in cc
+  forwards end last ends (Repair e ∷ events) st a h = go (can_repair st e) refl (forwards end last ends events (record st { fails = without_risk net st.fails e }))
     where
-      go : (c : Bool) → can_repair st e ≡ c → (IsAllowed net b (without_risk net st.fails e) → is_some (after_events net b (record st { fails = without_risk net st.fails e }) events) ≡ true → follows net (is_possible net b) (st.link, st.header) (hops events) ≡ true) → follows net (is_possible net b) (st.link, st.header) (hops events) ≡ true
+      go : (c : Bool) → can_repair st e ≡ c → (IsAllowed net b (without_risk net st.fails e) → after_events net b (record st { fails = without_risk net st.fails e }) events ≡ Some last → goes net b end (st.link, st.header) (hops events) ≡ true) → goes net b end (st.link, st.header) (hops events) ≡ true
       go true c ih =
           let parts = and_parts (has st.fails e) (not (has b.down e)) c in
           ih (allowed_without net b st.fails e kb a (union_link net st.fails e a.union parts.0) (not-true (has b.down e) parts.1)) (rw c at h)
-      go false c ih = let none : is_some {T = State} None ≡ true = rw c at h in cc
-  forwards (Hop step ∷ events) st a h = go (is_usable net st.fails (st.link, st.header) step) refl (λ next. forwards events (record { link = next.0; header = next.1; fails = st.fails }) a)
+      go false c ih = let none : None ≡ Some last = rw c at h in cc
+  forwards end last ends (Hop step ∷ events) st a h = go (is_usable net st.fails (st.link, st.header) step) refl (λ next. forwards end last ends events (record { link = next.0; header = next.1; fails = st.fails }) a)
     where
-      Rest : Location → Type 0
-      Rest next = is_some (after_events net b (record { link = next.0; header = next.1; fails = st.fails }) events) ≡ true → follows net (is_possible net b) next (hops events) ≡ true
-
-      go : (c : Bool) → is_usable net st.fails (st.link, st.header) step ≡ c → ((next : Location) → is_some (after_events net b (record { link = next.0; header = next.1; fails = st.fails }) events) ≡ true → follows net (is_possible net b) next (hops events) ≡ true) → follows net (is_possible net b) (st.link, st.header) (step ∷ hops events) ≡ true
-      go false c ih = let none : is_some {T = State} None ≡ true = rw c at h in cc
+      go : (c : Bool) → is_usable net st.fails (st.link, st.header) step ≡ c → ((next : Location) → after_events net b (record { link = next.0; header = next.1; fails = st.fails }) events ≡ Some last → goes net b end next (hops events) ≡ true) → goes net b end (st.link, st.header) (step ∷ hops events) ≡ true
+      go false c ih = let none : None ≡ Some last = rw c at h in cc
       go true c ih = go2 (moved net (st.link, st.header) step) refl
         where
-          h1 : is_some (option_and_then (λ (next : State). after_events net b next events) (option_map (λ (next : Location). record { link = next.0; header = next.1; fails = st.fails }) (moved net (st.link, st.header) step))) ≡ true
+          h1 : option_and_then (λ (next : State). after_events net b next events) (option_map (λ (next : Location). record { link = next.0; header = next.1; fails = st.fails }) (moved net (st.link, st.header) step)) ≡ Some last
           h1 = rw c at h
 
-          go2 : (o : Option Location) → moved net (st.link, st.header) step ≡ o → follows net (is_possible net b) (st.link, st.header) (step ∷ hops events) ≡ true
-          go2 None m = let none : is_some {T = State} None ≡ true = rw m at h1 in cc
+          go2 : (o : Option Location) → moved net (st.link, st.header) step ≡ o → goes net b end (st.link, st.header) (step ∷ hops events) ≡ true
+          go2 None m = let none : None ≡ Some last = rw m at h1 in cc
           go2 (Some next) m =
-              and_from (is_possible net b (st.link, st.header) step) (option_map_or (λ (n : Location). follows net (is_possible net b) n (hops events)) (moved net (st.link, st.header) step) false)
-              (usable_possible net b st.fails (st.link, st.header) step a c)
-              (rw m (ih next (rw m at h1)))
+              follows_from net (is_possible net b) (λ place. can_end net b place end) (st.link, st.header) step next (hops events) m
+              (usable_possible net b st.fails (st.link, st.header) step a c) (ih next (rw m at h1))
 
   -- failures and repairs that lead to a set of failed links
   record Leads (st : State) (fails : List LinkId) : Type 0 where
@@ -197,18 +198,7 @@ module _ (net : Net) (b : Bounds) (k : IsNetwork net) (kb : AreBounds net b) whe
   hops_append (Repair e ∷ xs) ys = hops_append xs ys
   hops_append (Hop step ∷ xs) ys = ap (λ t. step ∷ t) (hops_append xs ys)
 
-  -- a course of events with these hops
-  record Course (st : State) (steps : List Step) : Type 0 where
-    events : List Event
-    happens : is_some (after_events net b st events) ≡ true
-    hops_are : hops events ≡ steps
-
-  -- what one hop needs is brought about
-  record Ready (st : State) (step : Step) : Type 0 where
-    fails : List LinkId
-    leads : Leads st fails
-    usable : is_usable net fails (st.link, st.header) step ≡ true
-
+  -- one course of failures and repairs after another
   then_leads : (st : State) (mid fails : List LinkId) → Leads st mid → Leads (record st { fails = mid }) fails → Leads st fails
   then_leads st mid fails l m = record {
     events = l.events ++ m.events;
@@ -217,63 +207,100 @@ module _ (net : Net) (b : Bounds) (k : IsNetwork net) (kb : AreBounds net b) whe
     allowed = m.allowed;
   }
 
-  ready : (st : State) (step : Step) → IsAllowed net b st.fails → is_possible net b (st.link, st.header) step ≡ true → Ready st step
-  ready st step a h = record { fails = f.fails; leads = then_leads st r.fails f.fails r.leads f.leads; usable = usable }
+  -- a union that may be down is brought down, and of what isn't known to be down nothing else
+  record Brought (st : State) (t : List LinkId) : Type 0 where
+    fails : List LinkId
+    leads : Leads st fails
+    within : (e : LinkId) → has fails e ≡ true → has b.down e ≡ false → has t e ≡ true
+    all : (e : LinkId) → has t e ≡ true → has fails e ≡ true
+
+  brought : (t : List LinkId) (st : State) → widened net t ≡ t → may_be_down net b t ≡ true → IsAllowed net b st.fails → Brought st t
+  brought t st u d a = record { fails = f.fails; leads = then_leads st r.fails f.fails r.leads f.leads; within = f.within; all = λ e i. f.rest e (listed t e u i) i }
     where
-      p : Possible net b (st.link, st.header) step
-      p = possible_parts net b (st.link, st.header) step h
+      listed : (s : List LinkId) (e : LinkId) → widened net s ≡ s → has s e ≡ true → has (all_links net) e ≡ true
+      listed s e us i = has-all_links net e ∙ union_link net s e us i
 
       r : Repaired st (all_links net)
       r = repaired (all_links net) st a
 
-      listed : (s : List LinkId) (e : LinkId) → widened net s ≡ s → has s e ≡ true → has (all_links net) e ≡ true
-      listed s e u i = has-all_links net e ∙ union_link net s e u i
+      f : Failed t (record st { fails = r.fails }) (all_links net)
+      f = let p = down_parts net b t d in
+          failed t (all_links net) (record st { fails = r.fails }) (record { union = u; up = p.1; few = p.0 }) r.leads.allowed
+          (λ e i no_down. absurd (true≢false (sym (r.rest e (listed r.fails e r.leads.allowed.union i) i) ∙ no_down)))
 
-      union : widened net (needed net (st.link, st.header) step) ≡ needed net (st.link, st.header) step
-      union = before_union net (groups_at net st.link st.header) step.group
+  -- which spares each link that isn't in it, nor known to be down
+  spared : (st : State) (t : List LinkId) (br : Brought st t) (e : LinkId) → has t e ≡ false → has b.down e ≡ false → has br.fails e ≡ false
+  spared st t br e no_t no_down = false_from_ne_true (has br.fails e) (λ i. true≢false (sym (br.within e i no_down) ∙ no_t))
 
-      f : Failed (needed net (st.link, st.header) step) (record st { fails = r.fails }) (all_links net)
-      f = failed (needed net (st.link, st.header) step) (all_links net) (record st { fails = r.fails }) (record { union = union; up = p.up; few = p.few }) r.leads.allowed
-          (λ e i d. absurd (true≢false (sym (r.rest e (listed r.fails e r.leads.allowed.union i) i) ∙ d)))
+  -- failures and repairs that lead to a set of failed links that passes a test
+  record Ready (st : State) (test : List LinkId → Bool) : Type 0 where
+    fails : List LinkId
+    leads : Leads st fails
+    passes : test fails ≡ true
 
-      alive : has f.fails p.named.member.link ≡ false
-      alive = false_from_ne_true (has f.fails p.named.member.link) (λ i. true≢false (sym (f.within p.named.member.link i p.alive) ∙ p.spared))
-
-      usable : is_usable net f.fails (st.link, st.header) step ≡ true
-      usable = possible_usable net f.fails (st.link, st.header) step k (λ e i. f.rest e (listed (needed net (st.link, st.header) step) e union i) i) p.named alive
-
-  hop_then : (e : LinkId) (header : List Entry) (fails : List LinkId) (step : Step) (next : Location) (events : List Event) → is_usable net fails (e, header) step ≡ true → moved net (e, header) step ≡ Some next → is_some (after_events net b (record { link = next.0; header = next.1; fails = fails }) events) ≡ true → is_some (after_events net b (record { link = e; header = header; fails = fails }) (Hop step ∷ events)) ≡ true
-  hop_then e header fails step next events u m h = rw u (rw m h)
-
-  -- a course of events in which these hops happen, where each is possible
-  backwards : (steps : List Step) (st : State) → IsAllowed net b st.fails → follows net (is_possible net b) (st.link, st.header) steps ≡ true → Course st steps
-  backwards [] st a h = record { events = []; happens = refl; hops_are = refl }
-  backwards (step ∷ steps) st a h = go (moved net (st.link, st.header) step) refl (λ next fails. backwards steps (record { link = next.0; header = next.1; fails = fails }))
+  -- a possible hop can be made usable
+  ready : (st : State) (step : Step) → IsAllowed net b st.fails → is_possible net b (st.link, st.header) step ≡ true → Ready st (λ fails. is_usable net fails (st.link, st.header) step)
+  ready st step a h = record {
+    fails = br.fails;
+    leads = br.leads;
+    passes = possible_usable net br.fails (st.link, st.header) step k br.all p.named
+        (spared st (needed net (st.link, st.header) step) br p.named.member.link p.spared p.alive);
+  }
     where
-      parts : (is_possible net b (st.link, st.header) step ≡ true) × (option_map_or (λ (next : Location). follows net (is_possible net b) next steps) (moved net (st.link, st.header) step) false ≡ true)
-      parts = and_parts (is_possible net b (st.link, st.header) step) (option_map_or (λ (next : Location). follows net (is_possible net b) next steps) (moved net (st.link, st.header) step) false) h
+      p : Possible net b (st.link, st.header) step
+      p = possible_parts net b (st.link, st.header) step h
 
-      r : Ready st step
-      r = ready st step a parts.0
+      br : Brought st (needed net (st.link, st.header) step)
+      br = brought (needed net (st.link, st.header) step) st (before_union net (groups_at net st.link st.header) step.group) (possible_down net b (st.link, st.header) step h) a
 
-      go : (o : Option Location) → moved net (st.link, st.header) step ≡ o → ((next : Location) (fails : List LinkId) → IsAllowed net b fails → follows net (is_possible net b) next steps ≡ true → Course (record { link = next.0; header = next.1; fails = fails }) steps) → Course st (step ∷ steps)
-      go None m ih = let none : false ≡ true = rw m at parts.1 in cc
-      go (Some next) m ih =
-          let rest = ih next r.fails r.leads.allowed (rw m at parts.1) in
-          record {
-            events = r.leads.events ++ (Hop step ∷ rest.events);
-            happens = ap (λ o. is_some o) (after_append r.leads.events (Hop step ∷ rest.events) st (record st { fails = r.fails }) r.leads.after) ∙ hop_then st.link st.header r.fails step next rest.events r.usable m rest.happens;
-            hops_are = hops_append r.leads.events (Hop step ∷ rest.events) ∙ rw (r.leads.quiet, rest.hops_are) refl;
-          }
+  -- and so may an end that can be
+  ready_to_end : (st : State) (end : End) → IsAllowed net b st.fails → can_end net b (st.link, st.header) end ≡ true → Ready st (λ fails. may_end net fails (st.link, st.header) end)
+  ready_to_end st end a h = record {
+    fails = br.fails;
+    leads = br.leads;
+    passes = can_may net b br.fails (st.link, st.header) end k br.all
+        (λ e i. let s = end_spares net b (st.link, st.header) end e h i in spared st (needed_to_end net (st.link, st.header) end) br e s.0 s.1) h;
+  }
+    where
+      br : Brought st (needed_to_end net (st.link, st.header) end)
+      br = brought (needed_to_end net (st.link, st.header) end) st (end_union net (st.link, st.header) end) (end_down net b (st.link, st.header) end h) a
 
--- a run moves exactly where each of its steps is a possible hop
+  -- a course of events with these hops, after which a packet may end so
+  record Course (st : State) (steps : List Step) (end : End) : Type 0 where
+    events : List Event
+    last : State
+    happens : after_events net b st events ≡ Some last
+    hops_are : hops events ≡ steps
+    ends : may_end net last.fails (last.link, last.header) end ≡ true
+
+  hop_then : (e : LinkId) (header : List Entry) (fails : List LinkId) (step : Step) (next : Location) (events : List Event) (last : State) → is_usable net fails (e, header) step ≡ true → moved net (e, header) step ≡ Some next → after_events net b (record { link = next.0; header = next.1; fails = fails }) events ≡ Some last → after_events net b (record { link = e; header = header; fails = fails }) (Hop step ∷ events) ≡ Some last
+  hop_then e header fails step next events last u m h = rw u (rw m h)
+
+  -- a course of events in which these hops happen and a packet ends so, where each hop is possible and the end can be
+  backwards : (end : End) (steps : List Step) (st : State) → IsAllowed net b st.fails → goes net b end (st.link, st.header) steps ≡ true → Course st steps end
+  backwards end [] st a h =
+      let r = ready_to_end st end a h in
+      record { events = r.leads.events; last = record st { fails = r.fails }; happens = r.leads.after; hops_are = r.leads.quiet; ends = r.passes }
+  backwards end (step ∷ steps) st a h =
+      let o = goes_on net b end (st.link, st.header) step steps h in
+      let r = ready st step a o.passes in
+      let rest = backwards end steps (record { link = (o.next).0; header = (o.next).1; fails = r.fails }) r.leads.allowed o.rest in
+      record {
+        events = r.leads.events ++ (Hop step ∷ rest.events);
+        last = rest.last;
+        happens = after_append r.leads.events (Hop step ∷ rest.events) st (record st { fails = r.fails }) r.leads.after ∙ hop_then st.link st.header r.fails step o.next rest.events rest.last r.passes o.moves rest.happens;
+        hops_are = hops_append r.leads.events (Hop step ∷ rest.events) ∙ rw (r.leads.quiet, rest.hops_are) refl;
+        ends = rest.ends;
+      }
+
+-- a run moves exactly where each of its steps is a possible hop, and its end can be
 pub moving_possible : (net : Net) (b : Bounds) (run : Run) → IsNetwork net → AreBounds net b → IsMovingRun net b run → is_possible_run net b run ≡ true
 moving_possible net b run k kb m =
-    and_from (is_start net b.down run.first run.header) (follows net (is_possible net b) (run.first, run.header) run.steps) m.start
-    (rw (sym m.steps) (forwards net b k kb m.events (start_of b run) (allowed_down net b kb) m.allowed))
+    and_from (is_start net b.down run.first run.header) (goes net b run.end (run.first, run.header) run.steps) m.start
+    (rw (sym m.steps) (forwards net b k kb run.end m.last m.ends m.events (start_of b run) (allowed_down net b kb) m.allowed))
 
 pub possible_moving : (net : Net) (b : Bounds) (run : Run) → IsNetwork net → AreBounds net b → is_possible_run net b run ≡ true → IsMovingRun net b run
 possible_moving net b run k kb h =
-    let parts = and_parts (is_start net b.down run.first run.header) (follows net (is_possible net b) (run.first, run.header) run.steps) h in
-    let c = backwards net b k kb run.steps (start_of b run) (allowed_down net b kb) parts.1 in
-    record { start = parts.0; events = c.events; allowed = c.happens; steps = c.hops_are }
+    let parts = and_parts (is_start net b.down run.first run.header) (goes net b run.end (run.first, run.header) run.steps) h in
+    let c = backwards net b k kb run.end run.steps (start_of b run) (allowed_down net b kb) parts.1 in
+    record { start = parts.0; events = c.events; last = c.last; allowed = c.happens; steps = c.hops_are; ends = c.ends }

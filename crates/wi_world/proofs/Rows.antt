@@ -5,6 +5,7 @@ use Rattle.wi_labels.specs.Header.{Entry, is_valid_header}
 use Rattle.wi_net.specs.declared.parts.LinkId.{LinkId}
 use Rattle.wi_net.specs.Net.{Net}
 use Rattle.wi_world.specs.declared.run.Run.{Run}
+use Rattle.wi_world.specs.declared.run.End.TheVariants.{Arrives}
 use Rattle.wi_world.specs.declared.run.Step.{Step}
 use Rattle.wi_world.specs.declared.run.Quantity.TheVariants.{Links, Hops, Distance, Failures, Tunnels}
 use Rattle.wi_world.specs.declared.world.State.{State}
@@ -18,7 +19,7 @@ use Rattle.wi_world.specs.Moving.{after_event, after_events, start_of, IsMovingR
 use Rattle.wi_world.specs.Runs.{trace_of, needs, verdict_of, hop_share, quantity_of, effort_of, is_less}
 use Rattle.wi_world.specs.Holds.{Question, Weighing, Holds}
 use Rattle.wi_world.proofs.MovingLaws.{moving_possible}
-use Rattle.wi_world.proofs.Samples.{l, t30, t31, s10, ip1, base, base_network, fiber, shared, shared_first, with_z, fiber_with_z, returning, same_link_twice, undefined_first, balanced, relabelling, untouched, looping, step, bounds, at_most, run, direct, around, around_to_z, around_back}
+use Rattle.wi_world.proofs.Samples.{l, t30, t31, s10, ip1, base, base_network, fiber, shared, shared_first, with_z, fiber_with_z, returning, same_link_twice, undefined_first, balanced, relabelling, untouched, looping, step, bounds, at_most, state, run, direct, around, around_to_z, around_back}
 
 -- The direct way, with nothing failed: three links, a label pushed and popped, effort 1 + 1 + 2 + 4. It moves though nothing
 -- may fail, and fits with no needs.
@@ -32,7 +33,7 @@ direct_possible : is_possible_run base (at_most 0) direct ≡ true
 direct_possible = refl
 
 direct_moves : IsMovingRun base (at_most 0) direct
-direct_moves = record { start = refl; events = Hop (step 0 0) ∷ Hop (step 0 0) ∷ []; allowed = refl; steps = refl }
+direct_moves = record { start = refl; events = Hop (step 0 0) ∷ Hop (step 0 0) ∷ []; last = state (l 4) (ip1 ∷ []) []; allowed = refl; steps = refl; ends = refl }
 
 direct_fits : verdict_of base (at_most 0) direct ≡ Fits []
 direct_fits = refl
@@ -93,17 +94,17 @@ around_effort = refl
 
 -- It moves: the link fails, the packet takes the second choice, the link is repaired, and the packet goes on.
 around_moves : IsMovingRun base (at_most 1) around
-around_moves = record { start = refl; events = Fail (l 1) ∷ Hop (step 1 0) ∷ Repair (l 1) ∷ Hop (step 0 0) ∷ Hop (step 0 0) ∷ []; allowed = refl; steps = refl }
+around_moves = record { start = refl; events = Fail (l 1) ∷ Hop (step 1 0) ∷ Repair (l 1) ∷ Hop (step 0 0) ∷ Hop (step 0 0) ∷ []; last = state (l 4) (ip1 ∷ []) []; allowed = refl; steps = refl; ends = refl }
 
 -- A packet that stays where it sets out: a run of one link and no step, which moves, is a trace, and fits with no needs.
 abbrev staying : Run
-staying = record { first = l 1; header = s10 ∷ ip1 ∷ []; steps = [] }
+staying = record { first = l 1; header = s10 ∷ ip1 ∷ []; steps = []; end = Arrives }
 
 staying_trace : is_trace base [] staying ≡ true
 staying_trace = refl
 
 staying_moves : IsMovingRun base (at_most 0) staying
-staying_moves = record { start = refl; events = []; allowed = refl; steps = refl }
+staying_moves = record { start = refl; events = []; last = state (l 1) (s10 ∷ ip1 ∷ []) []; allowed = refl; steps = refl; ends = refl }
 
 staying_places : trace_of base staying ≡ (l 1, s10 ∷ ip1 ∷ []) ∷ []
 staying_places = refl
@@ -149,7 +150,7 @@ to_z_possible : is_possible_run with_z (at_most 1) around_to_z ≡ true
 to_z_possible = refl
 
 to_z_moves : IsMovingRun with_z (at_most 1) around_to_z
-to_z_moves = record { start = refl; events = Fail (l 1) ∷ Hop (step 1 0) ∷ Hop (step 0 0) ∷ Repair (l 1) ∷ Fail (l 4) ∷ Hop (step 1 0) ∷ []; allowed = refl; steps = refl }
+to_z_moves = record { start = refl; events = Fail (l 1) ∷ Hop (step 1 0) ∷ Hop (step 0 0) ∷ Repair (l 1) ∷ Fail (l 4) ∷ Hop (step 1 0) ∷ []; last = state (l 5) (ip1 ∷ []) (l 4 ∷ []); allowed = refl; steps = refl; ends = refl }
 
 to_z_places : trace_of with_z around_to_z ≡ (l 0, ip1 ∷ []) ∷ (l 2, t30 ∷ s10 ∷ ip1 ∷ []) ∷ (l 3, s10 ∷ ip1 ∷ []) ∷ (l 5, ip1 ∷ []) ∷ []
 to_z_places = refl
@@ -211,7 +212,7 @@ abbrev after : ℕ → Option State
 after n = after_events returning (at_most 1) (start_of (at_most 1) around_back) (take n script)
 
 abbrev at : LinkId → List Entry → List LinkId → Option State
-at e header fails = Some (record { link = e; header = header; fails = fails })
+at e header fails = Some (state e header fails)
 
 script_starts : after 0 ≡ at (l 0) (ip1 ∷ []) []
 script_starts = refl
@@ -337,7 +338,7 @@ fiber_to_z_failures = refl
 
 -- Where both choices at a are one risk group, the second can never be used, whatever may fail.
 shared_never : (k : ℕ) → is_possible_run shared (at_most k) around ≡ false
-shared_never k = by_count (nat_le 1 k) (follows shared (is_possible shared (at_most k)) (l 2, t30 ∷ s10 ∷ ip1 ∷ []) (step 0 0 ∷ step 0 0 ∷ []))
+shared_never k = by_count (nat_le 1 k) (follows shared (is_possible shared (at_most k)) (λ place. true) (l 2, t30 ∷ s10 ∷ ip1 ∷ []) (step 0 0 ∷ step 0 0 ∷ []))
   where
     by_count : (few later : Bool) → (few && true && false && later) ≡ false
     by_count true later = refl
@@ -354,7 +355,7 @@ down_fits : verdict_of base (bounds 0 (l 1 ∷ []) []) around ≡ Fits (l 1 ∷ 
 down_fits = refl
 
 down_moves : IsMovingRun base (bounds 0 (l 1 ∷ []) []) around
-down_moves = record { start = refl; events = Hop (step 1 0) ∷ Hop (step 0 0) ∷ Hop (step 0 0) ∷ []; allowed = refl; steps = refl }
+down_moves = record { start = refl; events = Hop (step 1 0) ∷ Hop (step 0 0) ∷ Hop (step 0 0) ∷ []; last = state (l 4) (ip1 ∷ []) (l 1 ∷ []); allowed = refl; steps = refl; ends = refl }
 
 down_direct_not_possible : is_possible_run base (bounds 0 (l 1 ∷ []) []) direct ≡ false
 down_direct_not_possible = refl
@@ -451,7 +452,7 @@ first_possible = refl
 
 -- So the packet's own link fails under it, and it hops on; but no trace has a failed link.
 first_moves : IsMovingRun shared_first (at_most 1) around
-first_moves = record { start = refl; events = Fail (l 1) ∷ Hop (step 1 0) ∷ Hop (step 0 0) ∷ Hop (step 0 0) ∷ []; allowed = refl; steps = refl }
+first_moves = record { start = refl; events = Fail (l 1) ∷ Hop (step 1 0) ∷ Hop (step 0 0) ∷ Hop (step 0 0) ∷ []; last = state (l 4) (ip1 ∷ []) (l 0 ∷ l 1 ∷ []); allowed = refl; steps = refl; ends = refl }
 
 first_no_trace : is_trace shared_first (l 0 ∷ l 1 ∷ []) around ≡ false
 first_no_trace = refl
@@ -464,7 +465,7 @@ own_link_no_trace = refl
 
 -- A link that ends where it begins is a link, has a distance, and is no hop.
 abbrev unwinding : Run
-unwinding = record { first = l 0; header = t31 ∷ s10 ∷ ip1 ∷ []; steps = step 0 0 ∷ step 0 0 ∷ step 0 0 ∷ [] }
+unwinding = record { first = l 0; header = t31 ∷ s10 ∷ ip1 ∷ []; steps = step 0 0 ∷ step 0 0 ∷ step 0 0 ∷ []; end = Arrives }
 
 loop_places : trace_of looping unwinding ≡ (l 0, t31 ∷ s10 ∷ ip1 ∷ []) ∷ (l 0, t30 ∷ t30 ∷ s10 ∷ ip1 ∷ []) ∷ (l 0, t30 ∷ s10 ∷ ip1 ∷ []) ∷ (l 0, s10 ∷ ip1 ∷ []) ∷ []
 loop_places = refl

@@ -19,6 +19,9 @@ use Rattle.wi_net.specs.Net.{Net, all_links}
 use Rattle.wi_net.specs.Network.{is_link_of, is_risk_named, is_row_of, named_after, IsNetwork}
 use Rattle.wi_world.specs.declared.run.Step.{Step}
 use Rattle.wi_world.specs.declared.run.Run.{Run}
+use Rattle.wi_world.specs.declared.run.End.{End}
+use Rattle.wi_world.specs.declared.run.End.TheVariants.{Arrives, Inactive, Undefined}
+use Rattle.wi_world.specs.declared.world.State.{State}
 
 -- the link of a number
 abbrev pub l : ℕ → LinkId
@@ -147,6 +150,13 @@ shared_first = net_of (five_links (l 0) (l 2) (l 4)) base.rows
 pub shared_first_network : IsNetwork shared_first
 shared_first_network = sample_network shared_first.links shared_first.rows refl refl refl refl refl refl refl refl refl refl refl refl
 
+-- l0 and l2 are one risk group
+abbrev pub shared_second : Net
+shared_second = net_of (five_links (l 1) (l 0) (l 4)) base.rows
+
+pub shared_second_network : IsNetwork shared_second
+shared_second_network = sample_network shared_second.links shared_second.rows refl refl refl refl refl refl refl refl refl refl refl refl
+
 -- a sixth link, b to z, is the second choice of what came by c
 abbrev pub forked : LinkId → Net
 forked r4 =
@@ -166,14 +176,35 @@ fiber_with_z = forked (l 1)
 pub fiber_with_z_network : IsNetwork fiber_with_z
 fiber_with_z_network = sample_network fiber_with_z.links fiber_with_z.rows refl refl refl refl refl refl refl refl refl refl refl refl
 
--- a sixth link, c to a: what came to c goes back to a under the label 31, and from there to b
+-- a sixth link, c to a: what came to c goes back to a under the label 31
+abbrev back_at_a : LinkId → List (List Member) → Net
+back_at_a r5 groups =
+    net_of (link 0 0 1 1 (l 0) ∷ link 1 1 2 1 (l 1) ∷ link 2 1 3 2 (l 2) ∷ link 3 3 2 2 (l 3) ∷ link 4 2 4 1 (l 4) ∷ link 5 3 1 1 r5 ∷ [])
+    (row 5 t31 groups ∷ tables to_b_or_c (only 5 (swap t31 ∷ []) ∷ []) end_at_b)
+
+-- and from there to b
 abbrev pub returning : Net
-returning =
-    net_of (link 0 0 1 1 (l 0) ∷ link 1 1 2 1 (l 1) ∷ link 2 1 3 2 (l 2) ∷ link 3 3 2 2 (l 3) ∷ link 4 2 4 1 (l 4) ∷ link 5 3 1 1 (l 5) ∷ [])
-    (row 5 t31 (only 1 (Pop ∷ []) ∷ []) ∷ tables to_b_or_c (only 5 (swap t31 ∷ []) ∷ []) end_at_b)
+returning = back_at_a (l 5) (only 1 (Pop ∷ []) ∷ [])
 
 pub returning_network : IsNetwork returning
 returning_network = sample_network returning.links returning.rows refl refl refl refl refl refl refl refl refl refl refl refl
+
+-- or it would be swapped for an smpls label, and else goes round again
+abbrev undefined_or_again : List (List Member)
+undefined_or_again = only 1 (swap s10 ∷ []) ∷ only 2 (swap t30 ∷ []) ∷ []
+
+abbrev pub undefined_back : Net
+undefined_back = back_at_a (l 5) undefined_or_again
+
+pub undefined_back_network : IsNetwork undefined_back
+undefined_back_network = sample_network undefined_back.links undefined_back.rows refl refl refl refl refl refl refl refl refl refl refl refl
+
+-- where l1 and l5 are one risk group
+abbrev pub fiber_back : Net
+fiber_back = back_at_a (l 1) undefined_or_again
+
+pub fiber_back_network : IsNetwork fiber_back
+fiber_back_network = sample_network fiber_back.links fiber_back.rows refl refl refl refl refl refl refl refl refl refl refl refl
 
 -- both choices at a are l1: first with another ip label, else with an smpls label
 abbrev pub same_link_twice : Net
@@ -189,12 +220,33 @@ undefined_first = net_of base.links (tables (only 1 (push t30 ∷ []) ∷ only 2
 pub undefined_first_network : IsNetwork undefined_first
 undefined_first_network = sample_network undefined_first.links undefined_first.rows refl refl refl refl refl refl refl refl refl refl refl refl
 
+-- the second choice would push an smpls label on another
+abbrev pub undefined_second : Net
+undefined_second = net_of base.links (tables (only 1 (push s10 ∷ []) ∷ only 2 (push s10 ∷ push s10 ∷ []) ∷ []) end_at_c end_at_b)
+
+pub undefined_second_network : IsNetwork undefined_second
+undefined_second_network = sample_network undefined_second.links undefined_second.rows refl refl refl refl refl refl refl refl refl refl refl refl
+
+-- the second of three choices is l1 again, and would push an mpls label on an ip label
+abbrev pub undefined_again : Net
+undefined_again = net_of base.links (tables (only 1 (push s10 ∷ []) ∷ only 1 (push t30 ∷ []) ∷ only 2 (push s10 ∷ push t30 ∷ []) ∷ []) end_at_c end_at_b)
+
+pub undefined_again_network : IsNetwork undefined_again
+undefined_again_network = sample_network undefined_again.links undefined_again.rows refl refl refl refl refl refl refl refl refl refl refl refl
+
 -- both ways from a are of one group
 abbrev pub balanced : Net
 balanced = net_of base.links (tables ((member 1 (push s10 ∷ []) ∷ member 2 (push s10 ∷ push t30 ∷ []) ∷ []) ∷ []) end_at_c end_at_b)
 
 pub balanced_network : IsNetwork balanced
 balanced_network = sample_network balanced.links balanced.rows refl refl refl refl refl refl refl refl refl refl refl refl
+
+-- and the way to c would push an mpls label on an ip label
+abbrev pub undefined_beside : Net
+undefined_beside = net_of base.links (tables ((member 1 (push s10 ∷ []) ∷ member 2 (push t30 ∷ []) ∷ []) ∷ []) end_at_c end_at_b)
+
+pub undefined_beside_network : IsNetwork undefined_beside
+undefined_beside_network = sample_network undefined_beside.links undefined_beside.rows refl refl refl refl refl refl refl refl refl refl refl refl
 
 -- at c the label 30 is popped and 31 pushed, and at b two labels are popped
 abbrev pub relabelling : Net
@@ -203,12 +255,26 @@ relabelling = net_of base.links (row 3 t31 (only 4 (Pop ∷ Pop ∷ []) ∷ []) 
 pub relabelling_network : IsNetwork relabelling
 relabelling_network = sample_network relabelling.links relabelling.rows refl refl refl refl refl refl refl refl refl refl refl refl
 
+-- at c three labels are popped, and the last of them is an ip label
+abbrev pub undefined_third : Net
+undefined_third = net_of base.links (tables to_b_or_c (only 3 (Pop ∷ Pop ∷ Pop ∷ []) ∷ []) end_at_b)
+
+pub undefined_third_network : IsNetwork undefined_third
+undefined_third_network = sample_network undefined_third.links undefined_third.rows refl refl refl refl refl refl refl refl refl refl refl refl
+
 -- what comes from x goes to b with its header as it is
 abbrev pub untouched : Net
 untouched = net_of base.links (tables (only 1 [] ∷ []) end_at_c end_at_b)
 
 pub untouched_network : IsNetwork untouched
 untouched_network = sample_network untouched.links untouched.rows refl refl refl refl refl refl refl refl refl refl refl refl
+
+-- at y there is an entry without groups
+abbrev pub empty_at_y : Net
+empty_at_y = net_of base.links (row 4 ip1 [] ∷ base.rows)
+
+pub empty_at_y_network : IsNetwork empty_at_y
+empty_at_y_network = sample_network empty_at_y.links empty_at_y.rows refl refl refl refl refl refl refl refl refl refl refl refl
 
 -- one link from r to r: it takes 31 for two labels 30, and pops each of those
 abbrev pub looping : Net
@@ -255,9 +321,17 @@ bounds k down up = record { k = k; down = down; up = up }
 abbrev pub at_most : ℕ → Bounds
 at_most k = bounds k [] []
 
--- a run of a packet that comes from x
+-- where a packet is, and which links are failed
+abbrev pub state : LinkId → List Entry → List LinkId → State
+state e header fails = record { link = e; header = header; fails = fails }
+
+-- a run of a packet that comes from x, with its end
+abbrev pub run_to : List Step → End → Run
+run_to steps end = record { first = l 0; header = ip1 ∷ []; steps = steps; end = end }
+
+-- one that arrives
 abbrev pub run : List Step → Run
-run steps = record { first = l 0; header = ip1 ∷ []; steps = steps }
+run steps = run_to steps Arrives
 
 -- by b to y
 abbrev pub direct : Run
@@ -274,3 +348,29 @@ around_to_z = run (step 1 0 ∷ step 0 0 ∷ step 1 0 ∷ [])
 -- to c, back to a, and by b to y
 abbrev pub around_back : Run
 around_back = run (step 1 0 ∷ step 0 0 ∷ step 0 0 ∷ step 0 0 ∷ [])
+
+-- dropped where no group is active: at a, at b, at b after the way around, at c, and at y
+abbrev pub lost_at_a : Run
+lost_at_a = run_to [] Inactive
+
+abbrev pub lost_at_b : Run
+lost_at_b = run_to (step 0 0 ∷ []) Inactive
+
+abbrev pub lost_around : Run
+lost_around = run_to (step 1 0 ∷ step 0 0 ∷ []) Inactive
+
+abbrev pub lost_at_c : Run
+lost_at_c = run_to (step 1 0 ∷ []) Inactive
+
+abbrev pub lost_at_y : Run
+lost_at_y = run_to direct.steps Inactive
+
+-- dropped by the operations of a member: at a, at c, and at a once more after the way to c
+abbrev pub undefined_at_a : ℕ → ℕ → Run
+undefined_at_a j m = run_to [] (Undefined (step j m))
+
+abbrev pub undefined_at_c : Run
+undefined_at_c = run_to (step 1 0 ∷ []) (Undefined (step 0 0))
+
+abbrev pub undefined_after_c : Run
+undefined_after_c = run_to (step 1 0 ∷ step 0 0 ∷ []) (Undefined (step 0 0))

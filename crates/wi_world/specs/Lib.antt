@@ -2,4 +2,5 @@ pub mod Moves
 pub mod Moving
 pub mod Runs
 pub mod Holds
+pub mod Survival
 pub mod private

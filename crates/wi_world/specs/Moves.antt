@@ -1,6 +1,6 @@
 -- Where a packet goes: hops and traces under a set of failed links (AalWiNes, CoNEXT 2020), and hops that are possible
--- while links fail and are repaired.
-use Rattle.std.specs.Prelude.{◌≡◌, Bool, true, false, not, ◌&&◌, ◌==◌, nat_le, List, [], ◌∷◌, slice_get, Option}
+-- while links fail and are repaired; and where it is dropped.
+use Rattle.std.specs.Prelude.{◌≡◌, Bool, true, false, not, ◌&&◌, ◌==◌, nat_le, List, [], ◌∷◌, length, slice_get, Option, is_none}
 use Rattle.std.specs.Option.{option_map, option_map_or, option_and_then}
 use Rattle.wi_labels.specs.Header.{Entry, after_ops, is_valid_header}
 use Rattle.wi_net.specs.declared.parts.LinkId.{LinkId}
@@ -11,6 +11,8 @@ use Rattle.wi_net.specs.Net.{Net, is_link, labels_known, widened, risk_count, en
 use Rattle.wi_net.specs.Network.{IsNetwork}
 use Rattle.wi_world.specs.declared.run.Step.{Step}
 use Rattle.wi_world.specs.declared.run.Run.{Run}
+use Rattle.wi_world.specs.declared.run.End.{End}
+use Rattle.wi_world.specs.declared.run.End.TheVariants.{Arrives, Inactive, Undefined}
 
 -- the link that the packet is on, and its header
 abbrev pub Location : Type 0
@@ -59,22 +61,53 @@ may_be_up bounds links e = not (has links e) && not (has bounds.down e)
 abbrev pub is_possible : Net → Bounds → Location → Step → Bool
 is_possible net bounds at step = may_be_down net bounds (needed net at step) && by_link net at step (may_be_up bounds (needed net at step))
 
--- each step passes a test where the packet is, and leads on
-abbrev pub follows : Net → (Location → Step → Bool) → Location → List Step → Bool
-follows net test at [] = true
-follows net test at (step ∷ steps) = test at step && option_map_or (λ next. follows net test next steps) (moved net at step) false
+-- the step names a member one of whose operations isn't defined
+abbrev pub is_undefined : Net → Location → Step → Bool
+is_undefined net at step = option_map_or (λ member. is_none (through at.1 member)) (member_at net at step) false
+
+-- while just these links are failed, a packet may end so: by no active group, or by a member that a hop would take, but for its
+-- operations
+abbrev pub may_end : Net → List LinkId → Location → End → Bool
+may_end net fails at Arrives = true
+may_end net fails at Inactive = is_none (first_active fails (groups_at net at.0 at.1))
+may_end net fails at (Undefined step) = is_usable net fails at step && is_undefined net at step
+
+-- what must have failed for a packet to end so where these are its groups: the risk groups of the links of all of them, or of those
+-- before the step's
+abbrev pub before_end : Net → List (List Member) → End → List LinkId
+before_end net groups Arrives = []
+before_end net groups Inactive = before net groups (length groups)
+before_end net groups (Undefined step) = before net groups step.group
+
+abbrev pub needed_to_end : Net → Location → End → List LinkId
+needed_to_end net at end = before_end net (groups_at net at.0 at.1) end
+
+-- a packet may end so at some moment
+abbrev pub can_end : Net → Bounds → Location → End → Bool
+can_end net bounds at Arrives = true
+can_end net bounds at Inactive = may_be_down net bounds (needed_to_end net at Inactive)
+can_end net bounds at (Undefined step) = is_possible net bounds at step && is_undefined net at step
+
+-- each step passes a test where the packet is, and leads on; where they have led, the last test is passed
+abbrev pub follows : Net → (Location → Step → Bool) → (Location → Bool) → Location → List Step → Bool
+follows net test last at [] = last at
+follows net test last at (step ∷ steps) = test at step && option_map_or (λ next. follows net test last next steps) (moved net at step) false
 
 -- a packet may set out: on a link that isn't failed, with a valid header of labels of the network
 abbrev pub is_start : Net → List LinkId → LinkId → List Entry → Bool
 is_start net fails e header = is_link net e && not (has fails e) && is_valid_header header && labels_known net header
 
--- a trace under a set of failed links: a start, and then usable hops
+-- a trace under a set of failed links: a start, then usable hops, and an end that may be
 abbrev pub is_trace : Net → List LinkId → Run → Bool
-is_trace net fails run = is_start net fails run.first run.header && follows net (is_usable net fails) (run.first, run.header) run.steps
+is_trace net fails run =
+    is_start net fails run.first run.header
+    && follows net (is_usable net fails) (λ at. may_end net fails at run.end) (run.first, run.header) run.steps
 
--- a start, and then possible hops
+-- a start, then possible hops, and an end that can be
 abbrev pub is_possible_run : Net → Bounds → Run → Bool
-is_possible_run net bounds run = is_start net bounds.down run.first run.header && follows net (is_possible net bounds) (run.first, run.header) run.steps
+is_possible_run net bounds run =
+    is_start net bounds.down run.first run.header
+    && follows net (is_possible net bounds) (λ at. can_end net bounds at run.end) (run.first, run.header) run.steps
 
 -- failed links that the bounds allow: a union of risk groups, all of down, none of up, and at most k groups besides down
 pub record IsAllowed (net : Net) (bounds : Bounds) (fails : List LinkId) : Type 0 where

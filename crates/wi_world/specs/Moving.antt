@@ -1,5 +1,5 @@
 -- The moving world: links fail and are repaired while a packet travels.
-use Rattle.std.specs.Prelude.{◌≡◌, true, not, ◌&&◌, nat_lt, if◌then◌else◌, List, [], ◌∷◌, Option, Some, None, is_some}
+use Rattle.std.specs.Prelude.{◌≡◌, true, not, ◌&&◌, nat_lt, if◌then◌else◌, List, [], ◌∷◌, Option, Some, None}
 use Rattle.std.specs.Option.{option_map, option_and_then}
 use Rattle.wi_net.specs.declared.bounds.Bounds.{Bounds}
 use Rattle.wi_net.specs.LinkSet.{has, outside}
@@ -9,7 +9,7 @@ use Rattle.wi_world.specs.declared.run.Run.{Run}
 use Rattle.wi_world.specs.declared.world.State.{State}
 use Rattle.wi_world.specs.declared.world.Event.{Event}
 use Rattle.wi_world.specs.declared.world.Event.TheVariants.{Fail, Repair, Hop}
-use Rattle.wi_world.specs.Moves.{moved, is_usable, is_start}
+use Rattle.wi_world.specs.Moves.{moved, is_usable, is_start, may_end}
 
 -- what an event leaves, or nothing where it isn't allowed
 abbrev pub after_event : Net → Bounds → State → Event → Option State
@@ -42,9 +42,11 @@ hops (Hop step ∷ events) = step ∷ hops events
 abbrev pub start_of : Bounds → Run → State
 start_of bounds run = record { link = run.first; header = run.header; fails = bounds.down }
 
--- a run of the moving world: its steps are the hops of some course of allowed events
+-- a run of the moving world: its steps are the hops of some course of allowed events, and it may end so as things are then
 pub record IsMovingRun (net : Net) (bounds : Bounds) (run : Run) : Type 0 where
   pub start : is_start net bounds.down run.first run.header ≡ true
   pub events : List Event
-  pub allowed : is_some (after_events net bounds (start_of bounds run) events) ≡ true
+  pub last : State
+  pub allowed : after_events net bounds (start_of bounds run) events ≡ Some last
   pub steps : hops events ≡ run.steps
+  pub ends : may_end net last.fails (last.link, last.header) run.end ≡ true

@@ -1,5 +1,5 @@
 //! The moving world is defined by courses of events, and the laws say that none has to be looked for: a run moves where each
-//! hop is possible by itself. They also tie moving runs to failures that stay, so that a no on the first is a no on the others.
+//! hop, and its end, is possible by itself. They also tie moving runs to failures that stay, so that a no on the first is a no on the others.
 //! Each holds for every network and every bounds of it, and runs no code.
 ghost use Rattle.std.specs.Prelude.{◌≡◌, ℕ, true, List, []};
 ghost use Rattle.wi_net.specs.Net.{Net};
@@ -11,7 +11,7 @@ ghost use Rattle.wi_world.specs.Moves.{is_trace, is_possible_run, IsAllowed, IsB
 ghost use Rattle.wi_world.specs.Moving.{IsMovingRun};
 ghost use Rattle.wi_world.specs.Runs.{verdict_of};
 
-/// A run moves exactly where each of its steps is a possible hop: whatever the course of failures, repairs and hops.
+/// A run moves exactly where each of its steps is a possible hop and its end can be: whatever the course of failures, repairs and hops.
 pub fn moving_runs_are_possible_runs()
     ensures forwards { (net : Net) (bounds : Bounds) (run : Run) → IsBounded net bounds → IsMovingRun net bounds run → is_possible_run net bounds run ≡ true }
     ensures backwards { (net : Net) (bounds : Bounds) (run : Run) → IsBounded net bounds → is_possible_run net bounds run ≡ true → IsMovingRun net bounds run }

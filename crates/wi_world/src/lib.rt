@@ -11,5 +11,5 @@ pub use laws::{
     fitting_runs_are_traces, moving_runs_are_possible_runs, traces_are_moving_runs,
     without_failures,
 };
-pub use run::{Quantity, Run, Step};
+pub use run::{End, Quantity, Run, Step};
 pub use world::{Event, State};

@@ -1,5 +1,4 @@
 -- How far branches were opened.
-use Rattle.std.specs.List.{All}
 use Rattle.std.specs.Prelude.{◌≡◌, ℕ, ◌^◌, ◌<◌, ◌≤◌, true, false, List, [], ◌∷◌, ◌++◌, length, Option, Some, None, IfSome, option_map}
 use Rattle.wi_net.specs.declared.bounds.Bounds.{Bounds}
 use Rattle.wi_net.specs.Net.{Net}
@@ -11,7 +10,7 @@ use Rattle.wi_cert.specs.declared.closed.Closed.{Closed as Leaf}
 use Rattle.wi_trees.specs.Branches.{IsBranch, CanSplit, with_down, with_up, split_of}
 use Rattle.wi_build.specs.Problems.{Problem, IsAnswering, within}
 use Rattle.wi_weight.specs.Weights.{EachBelow}
-use Rattle.wi_decide.specs.Showing.{IsSmallStep}
+use Rattle.wi_decide.specs.Showing.{IsSmallRun}
 use Rattle.wi_decide.specs.declared.searching.LeastRun.{LeastRun}
 use Rattle.wi_decide.specs.declared.refused.SearchRefused.{SearchRefused}
 use Rattle.wi_decide.specs.declared.refused.SearchRefused.TheVariants as search
@@ -124,4 +123,4 @@ answer_with net whole (Some found) = record {
 
 -- a best run that can be shown, if there is one
 abbrev pub CanBeShown : Option LeastRun → Type 0
-CanBeShown best = IfSome best (λ found. EachBelow (2 ^ 64) (components found.weight) × All IsSmallStep found.run.steps)
+CanBeShown best = IfSome best (λ found. EachBelow (2 ^ 64) (components found.weight) × IsSmallRun found.run)

@@ -3,18 +3,21 @@ use Rattle.std.specs.Prelude.{ℕ, nat_lt, if◌then◌else◌, List, ◌++◌, 
 use Rattle.wi_weight.specs.declared.kinds.Pair.{Pair}
 use Rattle.wi_weight.specs.declared.kinds.Terms.{Terms}
 use Rattle.wi_weight.specs.declared.kinds.Effort.{Effort}
-use Rattle.wi_labels.specs.declared.label.Label.{Label}
-use Rattle.wi_net.specs.declared.parts.LinkId.{LinkId}
 use Rattle.wi_net.specs.declared.parts.Member.{Member}
+use Rattle.wi_net.specs.Net.{entry}
+use Rattle.wi_world.specs.declared.run.Step.{Step}
 use Rattle.wi_pds.specs.declared.rule.Rule.{Rule}
 use Rattle.wi_pds.specs.declared.rule.Word2.{Word2}
 use Rattle.wi_rules.specs.declared.spot.Spot.{Spot}
 use Rattle.wi_rules.specs.declared.spot.Spot.TheVariants as spot
 use Rattle.wi_rules.specs.declared.spot.Origin.TheVariants.{Nothing}
-use Rattle.wi_rules.specs.Rules.{Encoding, SpotRule, each_at, hop_rules, rules_of}
+use Rattle.wi_rules.specs.Rules.{Encoding, SpotRule, each_at, each_member, hop_rules, undefined_rules, rules_of}
 use Rattle.wi_rules.specs.Numbers.{layout_of, number, numbered}
 use Rattle.wi_build.specs.declared.head.Head.{Head}
 use Rattle.wi_build.specs.declared.head.Made.{Made}
+use Rattle.wi_build.specs.declared.head.Arrival.{Arrival}
+use Rattle.wi_build.specs.declared.head.Fate.{Fate}
+use Rattle.wi_build.specs.declared.head.Fate.TheVariants.{Travels, Lost}
 use Rattle.wi_build.specs.declared.head.Way.{Way}
 use Rattle.wi_build.specs.declared.head.Way.TheVariants as way
 use Rattle.wi_build.specs.Tags.{tag_of}
@@ -59,6 +62,15 @@ spot_on (way.Amid m i) q = spot.Mid m i q
 abbrev pub way_through : Member → ℕ → ℕ → Way
 way_through member m i = if nat_lt i (length member.ops) then way.Amid m i else way.OnLink member.link
 
--- the rules for the members of one group of an entry
-abbrev pub group_rules : Encoding → LinkId → ℕ → Label → ℕ → List Member → List SpotRule
-group_rules s e q l j group = each_at (λ i member. hop_rules s e q l (record { group = j; member = i }) member) 0 group
+-- the rules for one member of an entry, by what becomes of a packet that takes it
+abbrev pub member_rules : Encoding → Arrival → Fate → Step → Member → List SpotRule
+member_rules s at Travels = hop_rules s at.link at.state at.top
+member_rules s at Lost = undefined_rules s at.link at.top
+
+-- those for the members of one group
+abbrev pub group_rules : Encoding → Arrival → Fate → ℕ → List Member → List SpotRule
+group_rules s at fate j group = each_at (λ i member. member_rules s at fate (record { group = j; member = i }) member) 0 group
+
+-- those for the members of all groups
+abbrev pub fate_rules : Encoding → Arrival → Fate → List SpotRule
+fate_rules s at fate = each_member (member_rules s at fate) (entry s.net at.link at.top)

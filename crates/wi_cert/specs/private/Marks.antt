@@ -2,19 +2,21 @@
 use Rattle.std.specs.Prelude.{◌≡◌, ℕ, ◌+◌, List, [], ◌++◌, Option, Some, None, Result, Ok, Err, length, take}
 use Rattle.wi_cert.specs.declared.certificate.Place.{Place}
 use Rattle.wi_cert.specs.declared.certificate.Place.TheVariants as places
+use Rattle.wi_cert.specs.declared.shown.Dropped.{Dropped}
 use Rattle.wi_cert.specs.declared.shown.Shown.{Shown}
 use Rattle.wi_cert.specs.declared.shown.ShownMark.{ShownMark}
 use Rattle.wi_cert.specs.declared.shown.ShownPlace.{ShownPlace}
-use Rattle.wi_cert.specs.declared.shown.ShownPlace.TheVariants.{Terms, Answer, Weight, First, StepCount, Step}
+use Rattle.wi_cert.specs.declared.shown.ShownPlace.TheVariants.{Terms, Answer, Weight, First, StepCount, Step, Dropped as DroppedAt}
 use Rattle.wi_cert.specs.declared.closed.Closed.{Closed}
 use Rattle.wi_cert.specs.declared.closed.ClosedMark.{ClosedMark}
 use Rattle.wi_cert.specs.declared.closed.ClosedPlace.{ClosedPlace}
 use Rattle.wi_cert.specs.declared.closed.ClosedPlace.TheVariants.{HeadCount, Head, PairCount, Pair, RowCount, Row}
 use Rattle.wi_cert.specs.declared.draft.Mark.{Mark}
+use Rattle.wi_cert.specs.Shown.{dropped_lines}
 use Rattle.wi_cert.specs.Sheets.{Sheet, sheet}
 use Rattle.wi_cert.specs.Reading.{Reading, Fed}
 
--- how many lines stand before a place, but for those of the lists
+-- how many lines stand before a place in version 1, but for those of the lists
 abbrev pub shown_rank : ShownPlace → ℕ
 shown_rank Terms = 1
 shown_rank Answer = 2
@@ -22,6 +24,7 @@ shown_rank Weight = 3
 shown_rank First = 4
 shown_rank StepCount = 5
 shown_rank (Step n) = 6
+shown_rank DroppedAt = 6
 
 abbrev pub closed_rank : ClosedPlace → ℕ
 closed_rank HeadCount = 6
@@ -31,16 +34,21 @@ closed_rank (Pair n) = 8
 closed_rank RowCount = 8
 closed_rank (Row n) = 9
 
-abbrev pub rank : Place → ℕ
-rank places.Title = 0
-rank (places.Shown p) = shown_rank p
-rank (places.Closed p) = closed_rank p
-rank places.End = 9
-rank places.Done = 10
+-- how many lines say how the packet is dropped
+abbrev pub dropped_count : Option Dropped → ℕ
+dropped_count dropped = length (dropped_lines dropped)
+
+-- the same in either version: behind the steps one line more stands before a place in version 2
+abbrev pub rank : Place → Option Dropped → ℕ
+rank places.Title dropped = 0
+rank (places.Shown p) dropped = shown_rank p
+rank (places.Closed p) dropped = closed_rank p + dropped_count dropped
+rank places.End dropped = 9 + dropped_count dropped
+rank places.Done dropped = 10 + dropped_count dropped
 
 -- how many lines lead to the sheet
 abbrev pub line_count : Sheet → ℕ
-line_count s = rank s.place + length s.certificate.shown.steps + length s.certificate.closed.heads + length s.certificate.closed.pairs + length s.certificate.closed.rows
+line_count s = rank s.place s.certificate.shown.dropped + length s.certificate.shown.steps + length s.certificate.closed.heads + length s.certificate.closed.pairs + length s.certificate.closed.rows
 
 -- the reading with these bytes of the next line, where so many lines lead to a sheet
 abbrev pub reading : {S : Type 0} → (S → ℕ) → List ℕ → S → Reading S
@@ -57,7 +65,7 @@ Keeps (Ok None) old new = new ≡ old
 Keeps (Err e) old new = new ≡ old
 
 abbrev pub shown_mark : Shown → ShownMark
-shown_mark s = record { terms = s.terms; claim = s.claim; weight = length s.weight; first = length s.first; steps = length s.steps }
+shown_mark s = record { terms = s.terms; claim = s.claim; weight = length s.weight; first = length s.first; steps = length s.steps; dropped = s.dropped }
 
 abbrev pub closed_mark : Closed → ClosedMark
 closed_mark c = record { heads = length c.heads; pairs = length c.pairs; rows = length c.rows }
@@ -67,7 +75,7 @@ mark_of s = record { place = s.place; shown = shown_mark s.certificate.shown; cl
 
 -- back at the mark
 abbrev pub shown_back : ShownMark → Shown → Shown
-shown_back m s = record { terms = m.terms; claim = m.claim; weight = take m.weight s.weight; first = take m.first s.first; steps = take m.steps s.steps }
+shown_back m s = record { terms = m.terms; claim = m.claim; weight = take m.weight s.weight; first = take m.first s.first; steps = take m.steps s.steps; dropped = m.dropped }
 
 abbrev pub closed_back : ClosedMark → Closed → Closed
 closed_back m c = record { heads = take m.heads c.heads; pairs = take m.pairs c.pairs; rows = take m.rows c.rows }
@@ -103,6 +111,7 @@ IsUnreadShown Weight s = (s.weight ≡ []) × (s.first ≡ [])
 IsUnreadShown First s = s.first ≡ []
 IsUnreadShown StepCount s = Unit {0}
 IsUnreadShown (Step n) s = Unit {0}
+IsUnreadShown DroppedAt s = Unit {0}
 
 abbrev pub IsUnread : Place → Shown → Type 0
 IsUnread places.Title s = (s.weight ≡ []) × (s.first ≡ [])

@@ -1,7 +1,8 @@
 -- How many lines lead to a tree's sheet, and how many nodes may still come.
-use Rattle.std.specs.Prelude.{◌≡◌, ℕ, ◌+◌, ◌<◌, ◌≤◌, Bool, false, List, length, codes}
+use Rattle.std.specs.Prelude.{◌≡◌, ℕ, ◌+◌, ◌<◌, ◌≤◌, Bool, false, List, Option, length, codes}
 use Rattle.std.specs.List.{sum_by}
 use Rattle.std.specs.Str.{bytes_eq}
+use Rattle.wi_cert.specs.declared.shown.Dropped.{Dropped}
 use Rattle.wi_cert.specs.declared.shown.ShownPlace.{ShownPlace}
 use Rattle.wi_cert.specs.declared.shown.ShownPlace.TheVariants.{Answer}
 use Rattle.wi_cert.specs.declared.closed.Closed.{Closed}
@@ -10,17 +11,17 @@ use Rattle.wi_cert.specs.declared.tree.Node.TheVariants as kinds
 use Rattle.wi_cert.specs.declared.tree.TreePlace.{TreePlace}
 use Rattle.wi_cert.specs.declared.tree.TreePlace.TheVariants as places
 use Rattle.wi_cert.specs.Trees.{TreeSheet}
-use Rattle.wi_cert.specs.private.Marks.{shown_rank, closed_rank}
+use Rattle.wi_cert.specs.private.Marks.{shown_rank, closed_rank, dropped_count}
 
--- how many lines stand before a place, but for those of the lists and of the nodes
-abbrev pub tree_rank : TreePlace → ℕ
-tree_rank places.Title = 0
-tree_rank (places.Shown p) = shown_rank p
-tree_rank places.NodeCount = 6
-tree_rank (places.Node left due) = 7
-tree_rank (places.Leaf left due p) = closed_rank p + 2
-tree_rank places.End = 7
-tree_rank places.Done = 8
+-- how many lines stand before a place, but for those of the lists and of the nodes: behind the steps one more in version 2
+abbrev pub tree_rank : TreePlace → Option Dropped → ℕ
+tree_rank places.Title dropped = 0
+tree_rank (places.Shown p) dropped = shown_rank p
+tree_rank places.NodeCount dropped = 6 + dropped_count dropped
+tree_rank (places.Node left due) dropped = 7 + dropped_count dropped
+tree_rank (places.Leaf left due p) dropped = closed_rank p + 2 + dropped_count dropped
+tree_rank places.End dropped = 7 + dropped_count dropped
+tree_rank places.Done dropped = 8 + dropped_count dropped
 
 -- how many items a leaf's lists have
 abbrev pub leaf_items : Closed → ℕ
@@ -35,7 +36,7 @@ nodes_line_count nodes = sum_by node_line_count nodes
 
 -- how many lines lead to the sheet
 abbrev pub tree_line_count : TreeSheet → ℕ
-tree_line_count s = tree_rank s.place + length s.tree.shown.steps + nodes_line_count s.tree.nodes + leaf_items s.leaf
+tree_line_count s = tree_rank s.place s.tree.shown.dropped + length s.tree.shown.steps + nodes_line_count s.tree.nodes + leaf_items s.leaf
 
 -- at a place, with so many nodes: there is room for those to come, and they are no fewer than the trees that they make
 abbrev pub HasRoom : TreePlace → ℕ → Type 0

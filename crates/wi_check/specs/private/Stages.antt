@@ -53,7 +53,7 @@ pub record AreChecked (problem : Problem) (t : TreeCertificate) (n : ℕ) (left 
   pub rest : drop n (branches_of problem t) ≡ branched problem.net left (drop n t.nodes)
   pub whole : makes_trees (length left) (drop n t.nodes) ≡ true
   pub parts : All (IsBranch problem.net problem.bounds) left
-  pub none : NoneInTree problem t (8 + 3 * n)
+  pub none : NoneInTree problem t (9 + 3 * n)
 
 -- nothing speaks against a node of a branch, and these branches are left, the children of a split first
 abbrev pub IsNodeChecked : Problem → Shown → Bounds → Node → List Bounds → List Bounds → Type 0

@@ -11,20 +11,23 @@ use Rattle.wi_net.specs.declared.parts.LinkId.{LinkId}
 use Rattle.wi_net.specs.Net.{Net}
 use Rattle.wi_world.specs.declared.run.Step.{Step}
 use Rattle.wi_world.specs.declared.run.Run.{Run}
+use Rattle.wi_world.specs.declared.run.End.{End}
+use Rattle.wi_world.specs.declared.run.End.TheVariants.{Arrives}
 use Rattle.wi_pds.specs.declared.rule.Rule.{Rule}
 use Rattle.wi_pds.specs.declared.rule.RuleId.{RuleId}
 use Rattle.wi_rules.specs.declared.spot.Origin.{Origin}
-use Rattle.wi_rules.specs.declared.spot.Origin.TheVariants.{Pushed, SetOut, Hop}
+use Rattle.wi_rules.specs.declared.spot.Origin.TheVariants.{Pushed, SetOut, Hop, Ending}
 use Rattle.wi_decide.specs.Spelled.{origin}
 
--- a run as far as rules have told of it: the labels of its first header from the bottom, its first link, its steps
+-- a run as far as rules have told of it: the labels of its first header from the bottom, its first link, its steps, its end
 pub record Spelled : Type 0 where
   pub from_bottom : List Entry
   pub first : Option LinkId
   pub steps : List Step
+  pub end : End
 
 abbrev pub unspelled : Spelled
-unspelled = record { from_bottom = []; first = None; steps = [] }
+unspelled = record { from_bottom = []; first = None; steps = []; end = Arrives }
 
 -- a label with its class in the network
 abbrev pub classed : Net → Label → Entry
@@ -35,6 +38,7 @@ abbrev pub with_origin : Net → Spelled → Origin → Spelled
 with_origin net s (Pushed l) = record s { from_bottom = s.from_bottom ++ classed net l ∷ [] }
 with_origin net s (SetOut e) = record s { first = Some e }
 with_origin net s (Hop step) = record s { steps = s.steps ++ step ∷ [] }
+with_origin net s (Ending end) = record s { end = end }
 with_origin net s o = s
 
 -- the rule that an id names
@@ -60,3 +64,4 @@ pub record IsSpelledRun (s : Spelled) (run : Run) : Type 0 where
   pub first : s.first ≡ Some run.first
   pub header : run.header ≡ reverse s.from_bottom
   pub steps : run.steps ≡ s.steps
+  pub end : run.end ≡ s.end

@@ -1,4 +1,4 @@
--- What a hop adds to each quantity, and how risk groups are counted member by member.
+-- What a link, a hop or an end adds to each quantity, and how risk groups are counted member by member.
 use Rattle.std.specs.Prelude.{ℕ, Bool, not, ◌&&◌, ◌||◌, ◌==◌, List}
 use Rattle.std.specs.List.{list_any}
 use Rattle.wi_net.specs.declared.parts.LinkId.{LinkId}
@@ -10,7 +10,7 @@ use Rattle.wi_quantity.specs.declared.share.Shares.{Shares}
 
 -- what is added to a quantity
 abbrev pub share_of : Shares → Quantity → ℕ
-share_of shares Links = 1
+share_of shares Links = shares.links
 share_of shares Hops = shares.hops
 share_of shares Distance = shares.distance
 share_of shares Failures = shares.failures

@@ -13,6 +13,7 @@ use Rattle.wi_syntax.specs.Names.{Named}
 use Rattle.wi_syntax.specs.Grammar.{IsQueryText}
 use Rattle.wi_syntax.specs.declared.written.Written.{Written}
 use Rattle.wi_query.specs.Sets.{SymbolMarks, is_label_of, is_link_of}
+use Rattle.wi_query.specs.Last.{last_signs, is_dropped}
 use Rattle.wi_query.specs.Meaning.{AreSignsOf, HasAutomata, known_links}
 use Rattle.wi_query.specs.Faults.{is_large}
 use Rattle.wi_query.specs.declared.fault.QueryFault.{QueryFault}
@@ -24,7 +25,8 @@ use Rattle.wi_query.specs.declared.query.Query.{Query}
 pub record AreParts (net : Net) (w : Written) (parts : Parts) : Type 0 where
   pub first : AreSignsOf (is_label_of net) w.first parts.first
   pub path : AreSignsOf (is_link_of net) w.path parts.path
-  pub last : AreSignsOf (is_label_of net) w.last parts.last
+  pub last : AreSignsOf (is_label_of net) (last_signs w.last) parts.last
+  pub drops : parts.drops ≡ is_dropped w.last
   pub down : parts.down ≡ known_links net w.down
   pub up : parts.up ≡ known_links net w.up
 
@@ -71,6 +73,7 @@ pub record IsMadeOf (parts : Parts) (number : Named) (query : Query) : Type 0 wh
   pub first : query.first.regex ≡ parts.first
   pub path : query.path.regex ≡ parts.path
   pub last : query.last.regex ≡ parts.last
+  pub drops : query.drops ≡ parts.drops
   pub automata : HasAutomata query
   pub bounds : AreBoundsOf number parts.down parts.up query.bounds
 

@@ -15,6 +15,8 @@ use Rattle.wi_syntax.specs.declared.written.LinkAtom.TheVariants as link
 use Rattle.wi_syntax.specs.declared.written.Sign.{Sign}
 use Rattle.wi_syntax.specs.declared.written.Sign.TheVariants as sign
 use Rattle.wi_syntax.specs.declared.written.Known.{Known}
+use Rattle.wi_syntax.specs.declared.written.Last.{Last as LastPart}
+use Rattle.wi_syntax.specs.declared.written.Last.TheVariants as ending
 use Rattle.wi_syntax.specs.declared.written.Written.{Written}
 use Rattle.wi_syntax.specs.declared.parser.Stage.{Stage}
 use Rattle.wi_syntax.specs.declared.parser.Stage.TheVariants as stage
@@ -67,6 +69,7 @@ pub record Parse : Type 0 where
   pub first : Phrasing LabelAtom
   pub path : Phrasing LinkAtom
   pub last : Phrasing LabelAtom
+  pub drop_at : Option ℕ
   pub names : NameListing
   pub pairs : PairListing
   pub number : Option Named
@@ -81,6 +84,7 @@ start = record {
   first = no_phrasing;
   path = no_phrasing;
   last = no_phrasing;
+  drop_at = None;
   names = no_names;
   pairs = no_pairs;
   number = None;
@@ -110,12 +114,21 @@ after_in_labels h p (token.Mark OpenSquare) = Some (record p { stage = stage.Lab
 after_in_labels h p (token.Mark Greater) = if is_whole (phrase_of h p) then Some (record p { stage = stage_after h }) else None
 after_in_labels h p (token.Mark m) = option_map (with_phrase h p) (after_sign (phrase_of h p) m)
 
+-- a word without quotation marks
+abbrev pub is_keyword : Named → List ℕ → Bool
+is_keyword n word = not n.quoted && bytes_eq n.text word
+
+-- at a word behind the path, which stands in place of the last header
+abbrev pub after_behind_path : Parse → Named → Option Parse
+after_behind_path p n =
+    if is_whole p.path && is_keyword n (codes "drop") then Some (record p { stage = stage.Number; drop_at = Some n.at }) else None
+
 -- in an expression over links
 abbrev pub with_path : Parse → Phrasing LinkAtom → Parse
 with_path p e = record p { stage = stage.Links; path = e }
 
 abbrev pub after_in_links : Parse → Token → Option Parse
-after_in_links p (token.Word n) = None
+after_in_links p (token.Word n) = after_behind_path p n
 after_in_links p (token.Mark Dot) = Some (with_path p (with_atom p.path link.Any))
 after_in_links p (token.Mark OpenSquare) = Some (record p { stage = stage.LinkList owner.Path; pairs = no_pairs })
 after_in_links p (token.Mark Less) = if is_whole p.path then Some (record p { stage = stage.Labels Last }) else None
@@ -134,10 +147,6 @@ with_list owner.Up p l = record p { stage = stage.BehindUp; up = Some (record { 
 abbrev pub with_pairs : Owner → Parse → PairListing × Bool → Parse
 with_pairs o p (l, false) = record p { pairs = l }
 with_pairs o p (l, true) = with_list o (record p { pairs = no_pairs }) l
-
--- a word without quotation marks
-abbrev pub is_keyword : Named → List ℕ → Bool
-is_keyword n word = not n.quoted && bytes_eq n.text word
 
 abbrev pub after_at_number : Parse → Token → Option Parse
 after_at_number p (token.Word n) = if not n.quoted && is_number n.text then Some (record p { stage = stage.BehindNumber; number = Some n }) else None
@@ -179,6 +188,11 @@ after_at stage.BehindUp p t = None
 abbrev pub after : Parse → Token → Option Parse
 after p t = after_at p.stage p t
 
+-- the last header that was read, or the word in its place
+abbrev pub last_of : Option ℕ → Phrasing LabelAtom → LastPart
+last_of None header = ending.Header header.signs
+last_of (Some at) header = ending.Dropped at
+
 -- the query may end
 abbrev pub may_end : Stage → Bool
 may_end stage.BehindNumber = true
@@ -191,7 +205,7 @@ finish p =
     if may_end p.stage then option_map (λ n. record {
       first = p.first.signs;
       path = p.path.signs;
-      last = p.last.signs;
+      last = last_of p.drop_at p.last;
       number = n;
       down = p.down;
       up = p.up;

@@ -18,7 +18,7 @@ use Rattle.wi_syntax.specs.declared.places.PairPlace.TheVariants as pair
 use Rattle.wi_syntax.specs.declared.parser.Stage.{Stage}
 use Rattle.wi_syntax.specs.declared.parser.Stage.TheVariants as stage
 use Rattle.wi_syntax.specs.declared.written.Written.{Written}
-use Rattle.wi_syntax.specs.private.Parsing.{Parse, start, after, finish}
+use Rattle.wi_syntax.specs.private.Parsing.{Parse, is_whole, start, after, finish}
 
 -- the mark that a byte is
 abbrev pub mark_of : ℕ → Option Mark
@@ -53,15 +53,16 @@ abbrev pub begins : List ℕ → List ℕ → Bool
 begins s word = bytes_eq s (take (length s) word)
 
 -- these plain characters begin a word that may come next where no name may
-abbrev pub may_begin : Stage → List ℕ → Bool
-may_begin stage.Number s = is_number s
-may_begin stage.BehindNumber s = begins s (codes "down") || begins s (codes "up")
-may_begin stage.BehindDown s = begins s (codes "up")
-may_begin _ s = false
+abbrev pub may_begin : Parse → Stage → List ℕ → Bool
+may_begin p stage.Links s = is_whole p.path && begins s (codes "drop")
+may_begin p stage.Number s = is_number s
+may_begin p stage.BehindNumber s = begins s (codes "down") || begins s (codes "up")
+may_begin p stage.BehindDown s = begins s (codes "up")
+may_begin p _ s = false
 
 -- what is begun may come next, when it is finished
 abbrev pub admits : Parse → Named → Bool
-admits p n = takes_names p p.stage || (not n.quoted && may_begin p.stage n.text)
+admits p n = takes_names p p.stage || (not n.quoted && may_begin p p.stage n.text)
 
 -- all that was read: how many bytes, the tokens that are finished, and the name that is begun
 pub record Reading : Type 0 where

@@ -1,10 +1,10 @@
-use Rattle.std.proofs.Common.{◌≡◌, ◌≤◌, ◌+◌, ◌*◌, ◌^◌, ℕ, List, Bool, Some, Result, Ok, get_or, drop, sym, ap, subst, ◌∙◌, arith}
+use Rattle.std.proofs.Common.{◌≡◌, ◌≤◌, ◌+◌, ◌*◌, ◌^◌, ℕ, List, Bool, Some, Result, Ok, get_or, drop, sym, ap, subst, arith}
 use Rattle.wi_base.specs.declared.no_memory.NoMemory.{NoMemory}
 use Rattle.wi_weight.specs.Weights.{EachBelow, plus}
 use Rattle.wi_world.specs.declared.run.Step.{Step}
 use Rattle.wi_world.specs.Moves.{moved}
 use Rattle.wi_quantity.specs.Weighing.{components, steps_weight}
-use Rattle.wi_check.proofs.WeightLemmas.{weight_next, work_next, header_next, small_next}
+use Rattle.wi_check.proofs.WeightLemmas.{weight_next, work_next, small_next}
 use Rattle.wi_check.proofs.weighed.weighed_after.Goals as goal
 
 abbrev leads : Bool → Result Bool NoMemory
@@ -23,10 +23,9 @@ loop-step-preserved c =
     let sum = components c.loop-step.weight in
     let share = components c.in_ok-share.share in
     record {
-      weight = subst (λ (w : List ℕ). plus w (steps_weight net vector c.follow.new.at (drop (i + 1) steps)) ≡ plus (components c.args.first) (steps_weight net vector c.args.at steps)) (sym c.added-weight.ensures)
-          (weight_next net vector c.loop-step.at c.follow.new.at steps i d within on sum share _ c.in_ok-share.ensures.weight kept.weight);
+      weight = subst (λ (w : List ℕ). plus w (steps_weight net vector c.args.end c.follow.new.at (drop (i + 1) steps)) ≡ plus (components c.args.first) (steps_weight net vector c.args.end c.args.at steps)) (sym c.added-weight.ensures)
+          (weight_next net vector c.args.end c.loop-step.at c.follow.new.at steps i d within on sum share _ c.in_ok-share.ensures.weight kept.weight);
       small = subst (λ (w : List ℕ). EachBelow ((i + 1 + 1) * 2 ^ 64) w) (sym c.added-weight.ensures) (small_next i sum share kept.small c.in_ok-share.ensures.small);
-      work = work_next net vector c.loop-step.at c.follow.new.at steps i d within on c.loop-step.work c.in_ok-share.done _ c.in_ok-share.ensures.work kept.work;
+      work = work_next net vector c.args.end c.loop-step.at c.follow.new.at steps i d within on c.loop-step.work c.in_ok-share.done _ c.in_ok-share.ensures.work kept.work;
       few = (let before : c.loop-step.work ≤ 8 * i = kept.few in let more : c.in_ok-share.done ≤ 8 = c.in_ok-share.ensures.few in omega (arith, before, more));
-      header = sym (header_next net vector c.loop-step.at c.follow.new.at steps i d within on) ∙ kept.header;
     }

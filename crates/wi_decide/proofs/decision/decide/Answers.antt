@@ -7,13 +7,13 @@ use Rattle.wi_decide.proofs.decision.decide.Goals as goal
 pub shown_of-requires-clause-fits : goal.shown_of-requires-clause-fits
 shown_of-requires-clause-fits c = answer_small c.in_ok-searched.searched.found c.in_ok-answer.answer.weight c.in_ok-searched.ensures.small c.in_ok-answer.ensures.weight
 
-pub shown_of-requires-clause-steps : goal.shown_of-requires-clause-steps
-shown_of-requires-clause-steps c = small_answer c.args.problem.now c.keeps.ensures.problem c.in_ok-answer.answer c.in_ok-answer.ensures.decided
+pub shown_of-requires-clause-numbers : goal.shown_of-requires-clause-numbers
+shown_of-requires-clause-numbers c = small_answer c.args.problem.now c.keeps.ensures.problem c.in_ok-answer.answer c.in_ok-answer.ensures.decided
 
 pub returns-clause-made : goal.returns-clause-made
 returns-clause-made c =
-    made_by c.args.problem.now c.in_ok-answer.answer c.in_ok-searched.searched.found c.in_ok-shown.shown c.in_ok-searched.searched.closed c.terms.result
-    c.keeps.ensures.problem c.keeps.ensures.vector c.terms.ensures
+    made_by c.args.problem.now c.in_ok-answer.answer c.in_ok-searched.searched.found c.in_ok-shown.shown c.in_ok-searched.searched.closed
+    c.keeps.ensures.problem c.keeps.ensures.vector
     c.in_ok-searched.ensures.closed c.in_ok-answer.ensures.decided c.in_ok-answer.ensures.weight c.in_ok-shown.ensures
 
 pub returns-clause-accepted : goal.returns-clause-accepted

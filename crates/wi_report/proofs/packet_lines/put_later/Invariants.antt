@@ -5,7 +5,7 @@ use Rattle.wi_report.proofs.packet_lines.put_later.Given as goal
 
 abbrev pub invariant-loop-i : goal.invariant-loop-i
 invariant-loop-i l = record {
-  link : is_link l.net l.link ≡ true;
-  header : labels_known l.net l.header ≡ true;
-  text : l.text ++ later_packets l.net (l.i + 2) (l.link, l.header) (drop l.i l.steps) ≡ l.initial.text ++ later_packets l.net 2 (l.initial.link, l.initial.header) l.steps;
+  link : is_link l.net l.at.0 ≡ true;
+  header : labels_known l.net l.at.1 ≡ true;
+  text : l.text ++ later_packets l.net (l.i + 2) l.at (drop l.i l.steps) ≡ l.initial.text ++ later_packets l.net 2 l.initial.at l.steps;
 }

@@ -5,7 +5,7 @@ use Rattle.wi_report.proofs.reports.put_steps.Given as goal
 
 abbrev pub invariant-loop-step : goal.invariant-loop-step
 invariant-loop-step l = record {
-  link : is_link l.net l.link ≡ true;
-  header : labels_known l.net l.header ≡ true;
-  text : l.text ++ steps_shown l.net (l.link, l.header) (drop l.step-index l.steps) ≡ l.initial.text ++ steps_shown l.net (l.initial.link, l.initial.header) l.steps;
+  link : is_link l.net l.at.0 ≡ true;
+  header : labels_known l.net l.at.1 ≡ true;
+  text : l.text ++ steps_shown l.net l.end l.at (drop l.step-index l.steps) ≡ l.initial.text ++ steps_shown l.net l.end l.initial.at l.steps;
 }

@@ -7,8 +7,5 @@ returns c = search rules
 pub returns-then-contains : goal.returns-then-contains
 returns-then-contains c = search rules
 
-pub returns-then-count-bounds : goal.returns-then-count-bounds
-returns-then-count-bounds c = search rules
-
 pub returns-in-Some : goal.returns-in-Some
 returns-in-Some c = search rules

@@ -11,5 +11,5 @@ overflow_cast-i c = let room = group_room _ _ _ _ _ c.keeps.ensures.problem.netw
 pub overflow_add-first : goal.overflow_add-first
 overflow_add-first c = let room = group_room _ _ _ _ _ c.keeps.ensures.problem.network c.requires.group in omega arith
 
-pub push_hop-requires-clause-member : goal.push_hop-requires-clause-member
-push_hop-requires-clause-member c = member_of_group _ _ _ _ _ _ _ c.requires.group c.loop-i-test.true c.index-members-i.is
+pub push_member-requires-clause-member : goal.push_member-requires-clause-member
+push_member-requires-clause-member c = member_of_group _ _ _ _ _ _ _ c.requires.group c.loop-i-test.true c.index-members-i.is

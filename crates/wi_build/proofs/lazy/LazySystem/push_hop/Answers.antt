@@ -1,16 +1,8 @@
-use Rattle.std.proofs.Common.{◌≡◌, Some, ◌∙◌}
+use Rattle.std.proofs.Common.{◌≡◌, Some}
 use Rattle.wi_rules.specs.Rules.{first_written}
-use Rattle.wi_build.specs.private.Needs.{may_be_up}
-use Rattle.wi_build.specs.Encodings.{encoding_of}
-use Rattle.wi_build.proofs.RowLemmas.{on_ok, none_made}
-use Rattle.wi_build.proofs.HopLemmas.{member_known, no_hop, hop_row, needs_few}
+use Rattle.wi_build.proofs.RowLemmas.{on_ok}
+use Rattle.wi_build.proofs.HopLemmas.{member_known, hop_row, needs_few}
 use Rattle.wi_build.proofs.lazy.LazySystem.push_hop.Goals as goal
-
-pub returns-then-not-may_be_up : goal.returns-then-not-may_be_up
-returns-then-not-may_be_up c =
-    let up : c.may_be_up.result ≡ may_be_up c.args.self.now.net c.args.self.now.bounds c.args.needs.now c.args.member.now.link = cc in
-    none_made (encoding_of c.args.self.now) c.args.head _ _
-    (no_hop c.args.self.now c.args.at c.args.needs.now c.args.step c.args.number c.args.member.now c.keeps.ensures.problem c.requires.needs c.requires.member c.may_be_up.result up c.if-not-may_be_up.true)
 
 pub first_written-requires-clause-ops : goal.first_written-requires-clause-ops
 first_written-requires-clause-ops c = rw c.as_slice.ensures (member_known _ _ _ _ _ c.keeps.ensures.problem.network c.requires.member).ops
@@ -27,9 +19,8 @@ push_each-requires c = let known = member_known _ _ _ _ _ c.keeps.ensures.proble
 
 pub returns : goal.returns
 returns c =
-    let up : may_be_up c.args.self.now.net c.args.self.now.bounds c.args.needs.now c.args.member.now.link ≡ c.may_be_up.result = cc in
     let written : first_written c.args.self.now.net c.args.member.now.ops c.args.at.top.0 ≡ Some c.in-Some.word = cc in
     on_ok c.push_each.result _ _
     (hop_row c.args.self.now c.args.at c.args.needs.now c.args.step c.args.number c.args.member.now c.keeps.ensures.problem c.requires.needs c.requires.member
-    c.args.head c.in-Some.word c.hop_weight.result c.len.result c.through.result _ _ _ (up ∙ c.if-not-may_be_up.false) written c.len.ensures c.hop_weight.ensures c.path_after-states.ensures c.through.ensures)
+    c.args.head c.in-Some.word c.hop_weight.result c.len.result c.through.result _ _ _ c.requires.taken written c.len.ensures c.hop_weight.ensures c.path_after-states.ensures c.through.ensures)
     c.push_each.ensures

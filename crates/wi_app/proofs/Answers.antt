@@ -19,6 +19,7 @@ use Rattle.wi_build.specs.Problems.{Problem, asks, weighs}
 use Rattle.wi_accept.specs.Answers.{IsDecided}
 use Rattle.wi_report.specs.Reports.{IsKnownRun}
 use Rattle.wi_base.specs.Shelf.{ShelfSeen}
+use Rattle.wi_words.specs.declared.Content.{Content}
 use Rattle.wi_app.specs.Decided.{IsReported, status_for}
 use Rattle.wi_app.specs.Wanted.{EndsAnswered}
 
@@ -72,5 +73,5 @@ word_ends problem Yes status w run verdict h is = inl (inl is)
 word_ends problem No status w run verdict h is = inl (inr is)
 word_ends problem Inconclusive status w run verdict h is = inr (is, may_fail problem.net (asks problem) (weighs problem) w run verdict h)
 
-pub answer_ends : (printed : Problem → Answer → List ℕ) (problem : Problem) (file : Option (List ℕ)) (shelf : ShelfSeen) (status : ℕ) (text : List ℕ) → IsReported printed problem file shelf status text → EndsAnswered problem status
-answer_ends printed problem file shelf status text r = word_ends problem r.answer.word status (option_map components r.answer.weight) r.answer.run r.answer.verdict r.holds r.status_is
+pub answer_ends : (content : Content) (problem : Problem) (file : Option (List ℕ)) (shelf : ShelfSeen) (status : ℕ) (text : List ℕ) → IsReported content problem file shelf status text → EndsAnswered problem status
+answer_ends content problem file shelf status text r = word_ends problem r.answer.word status (option_map components r.answer.weight) r.answer.run r.answer.verdict r.holds r.status_is

@@ -1,5 +1,5 @@
 -- From what is found of a problem to a command that asks something of a network.
-use Rattle.std.proofs.Common.{◌≡◌, ℕ, true, inr, List, Option, None, Result, Ok, Err, subst}
+use Rattle.std.proofs.Common.{◌≡◌, ℕ, true, inr, List, Option, Result, Ok, Err, subst}
 use Rattle.std.specs.Prelude.{IfErr, IfOk}
 use Rattle.wi_base.specs.Shelf.{ShelfSeen}
 use Rattle.wi_net.specs.Net.{Net}
@@ -7,15 +7,14 @@ use Rattle.wi_query.specs.Meaning.{HasAutomata}
 use Rattle.wi_query.specs.declared.query.Query.{Query}
 use Rattle.wi_quantity.specs.declared.vector.Part.{Part}
 use Rattle.wi_build.specs.Problems.{Problem, IsProblem, problem_of}
-use Rattle.wi_words.specs.Commands.{Asking, Wanted, Packets, Ask}
+use Rattle.wi_words.specs.Commands.{Asking, Wanted, Ask}
 use Rattle.wi_outcome.specs.declared.printed.Printed.{Printed}
 use Rattle.wi_outcome.specs.declared.refusal.Refusal.{Refusal}
 use Rattle.wi_files.specs.Asked.{IsAsked}
 use Rattle.wi_files.specs.Networks.{HoldsNetwork}
-use Rattle.wi_files.specs.Shelves.{OthersStand, StandBut}
 use Rattle.wi_app.specs.Asked.{ForAsked, FromAsked}
 use Rattle.wi_app.specs.Run.{FromCommand, IsAnswered}
-use Rattle.wi_app.specs.Wanted.{FromWanted, IsGiven, IsStoredFor}
+use Rattle.wi_app.specs.Wanted.{FromWanted, IsGiven}
 
 -- it is a problem, where the query has its automata, as each query of the program has
 pub asked_problem : (net : Net) (text : List ℕ) (weights : Option (List ℕ)) (query : Query) (vector : List (List Part)) → IsAsked net text weights query vector → HasAutomata query → IsProblem (problem_of net query vector)
@@ -44,7 +43,3 @@ pub asking_refused : {T : Type 0} (r : Result T Refusal) (asking : Asking) (want
 asking_refused (Ok x) asking wanted old later new net same holds cause = tt
 asking_refused (Err refusal) asking wanted old later new net same holds cause =
     inr (net, holds, subst (λ (s : ShelfSeen). FromAsked (FromWanted wanted s new) s new net asking.query asking.weights refusal) same cause)
-
--- where each file stands but that of no name, all do
-pub no_other : (old new : ShelfSeen) → OthersStand None old new → StandBut (IsStoredFor Packets) old new
-no_other old new stand name outside = stand name (λ none. cc)

@@ -42,7 +42,8 @@ use Rattle.wi_accept.proofs.OneReading.{accept_the_same, accept_trees_the_same}
 use Rattle.wi_gen.specs.Ring.{net_of, ring_of}
 use Rattle.wi_gen.specs.Texts.{query_text, weights_text}
 use Rattle.wi_report.specs.Summaries.{summary_of}
-use Rattle.wi_words.specs.Commands.{Wanted, Verify, Check, Exact, CheckExact, Tolerate, Packets, Command, Ask, Play, Gen, Protect, Stack, command_of}
+use Rattle.wi_words.specs.declared.Content.{Content}
+use Rattle.wi_words.specs.Commands.{Wanted, Verify, Check, Exact, CheckExact, Tolerate, Command, Ask, Play, Gen, Protect, Stack, Draw, command_of}
 use Rattle.wi_wire.specs.declared.refused.StackRefused.{StackRefused}
 use Rattle.wi_wire.specs.declared.refused.StackRefused.TheVariants.{Cut, Reserved, Memory as StackMemory}
 use Rattle.wi_outcome.specs.Edges.{Prints, Says, SaysWhy, kept}
@@ -59,7 +60,7 @@ use Rattle.wi_files.specs.Shelves.{IsCalm}
 use Rattle.wi_files.proofs.Causes.{longer}
 use Rattle.wi_app.specs.Asked.{FromAsked}
 use Rattle.wi_app.specs.Certificates.{FromCertificate, FromStore, IsBelievedFile, IsCertificate, IsCertified, IsStored, IsTooLargeToWrite}
-use Rattle.wi_app.specs.Decided.{EndsUndecided, FromDecision, IsReported, packets_in, report_in, status_for}
+use Rattle.wi_app.specs.Decided.{EndsUndecided, FromDecision, IsReported, printed_by, status_for}
 use Rattle.wi_app.specs.Exact.{EndsUnsplit, FromSplitting, FromTree, FromTreeStore, IsBelievedTreeFile, IsTreeTooLarge}
 use Rattle.wi_app.specs.Generated.{FromRing, IsSummary, IsSummed}
 use Rattle.wi_app.specs.Run.{AreAnswered, CanBeAnswered, Completes, FromCommand, FromWords, IsAnswered, IsStatus, TellsFor}
@@ -86,10 +87,10 @@ kept_stored : (file : Option (List ℕ)) (shelf : ShelfSeen) (problem : Problem)
 kept_stored None shelf problem answer c is kept = tt
 kept_stored (Some name) shelf problem answer c is kept = (kept.0, record { certificate = c; is = is; text = kept.1; short = kept.2 }, kept.3)
 
-pub decided_reported : (r : Result Printed Refusal) (prints : Problem → Answer → List ℕ) (problem : Problem) (file : Option (List ℕ)) (shelf : ShelfSeen) (answer : Answer) (c : Certificate) → IsCertified problem answer c
-    → IfOk r (λ printed. printed.status ≡ status_for answer.word) → IfOk r (λ printed. printed.text ≡ prints problem answer) → IfOk r (λ _. IsKept file shelf c) → IfOk r (λ printed. IsReported prints problem file shelf printed.status printed.text)
-decided_reported (Err refusal) prints problem file shelf answer c is status text kept = tt
-decided_reported (Ok printed) prints problem file shelf answer c is status text kept = record {
+pub decided_reported : (r : Result Printed Refusal) (content : Content) (problem : Problem) (file : Option (List ℕ)) (shelf : ShelfSeen) (answer : Answer) (c : Certificate) → IsCertified problem answer c
+    → IfOk r (λ printed. printed.status ≡ status_for answer.word) → IfOk r (λ printed. printed.text ≡ printed_by content problem answer) → IfOk r (λ _. IsKept file shelf c) → IfOk r (λ printed. IsReported content problem file shelf printed.status printed.text)
+decided_reported (Err refusal) content problem file shelf answer c is status text kept = tt
+decided_reported (Ok printed) content problem file shelf answer c is status text kept = record {
   answer = answer;
   holds = is.holds;
   shown = is.shown;
@@ -102,22 +103,6 @@ pub decided_refused : (r : Result Printed Refusal) (old new : ShelfSeen) (proble
     → IfErr r (λ refusal. IsNotKept old new file c refusal) → IfErr r (λ refusal. FromAnswer FromDecision (FromStore file) old new problem refusal)
 decided_refused (Ok printed) old new problem file answer c is cause = tt
 decided_refused (Err refusal) old new problem file answer c is cause = inr (record { answer = answer; certificate = c; is = is; unkept = cause })
-
--- ---- packets
-
--- where there is no name to store under, no store is refused
-unstored : (old new : ShelfSeen) (problem : Problem) (c : Certificate) (refusal : Refusal) → IsNotKept old new None c refusal → FromWanted Packets old new problem refusal
-unstored old new problem c NotWritten cause = let none : None ≡ Some cause.1.0 = cause.1.1 in cc
-unstored old new problem c (CannotWrite named said) cause = let none : None ≡ Some named.now = cause.0 in cc
-unstored old new problem c Memory cause = (tt, cause)
-unstored old new problem c refusal cause = elim cause [ ]
-
-pub packets_refused : (r : Result Printed Refusal) (old new : ShelfSeen) (problem : Problem) → IfErr r (λ refusal. FromAnswer FromDecision (FromStore None) old new problem refusal) → IfErr r (λ refusal. FromWanted Packets old new problem refusal)
-packets_refused (Ok printed) old new problem cause = tt
-packets_refused (Err refusal) old new problem cause = elim cause [
-  | inl unshown ↦ unshown
-  | inr store ↦ unstored old new problem store.certificate refusal store.unkept
-]
 
 -- ---- gen
 
@@ -207,6 +192,7 @@ words_memory held (Some (Play name script k)) = inl refl
 words_memory held (Some (Gen seed size)) = (refl, tt)
 words_memory held (Some (Protect name)) = inl refl
 words_memory held (Some (Stack hex)) = (refl, tt)
+words_memory held (Some (Draw name)) = refl
 
 -- ---- where all is fine, only memory is wanting
 
@@ -378,7 +364,7 @@ tree_wants old new net text file given q r v u tree refusal t calm asked good ag
 -- what is wanted of a problem, and can be given of the same one, ends as it may
 wanted_ends : (wanted : Wanted) (old new : ShelfSeen) (net : Net) (text : List ℕ) (given : Option (List ℕ)) (q r : Query) (v u : List (List Part)) (refusal : Refusal) → old.told ≡ true → IsCalm old new
     → IsAsked net text given q v → CanBeGiven wanted old (problem_of net q v) → IsAsked net text given r u → FromWanted wanted old new (problem_of net r u) refusal → Ends (IsStatusFor wanted (problem_of net r u)) refusal
-wanted_ends (Verify file) old new net text given q r v u refusal t calm asked can again cause =
+wanted_ends (Verify content file) old new net text given q r v u refusal t calm asked can again cause =
     let problem = problem_of net r u in
     answer_due FromDecision (FromStore file) (EndsAnswered problem) (EndsUndecided problem) (IsTooLargeToWrite problem) file old new problem refusal
     (λ unshown. undecided_due problem refusal unshown) (λ store. store_due old new file problem refusal calm store) cause
@@ -392,9 +378,6 @@ wanted_ends (Tolerate most file) old new net text given q r v u refusal t calm a
     let problem = problem_of net r u in
     answer_due (FromTolerating most) (FromTreesStore most file) EndsExactly (EndsUntold problem most) (AreTreesTooLarge problem most) file old new problem refusal
     (λ unshown. untold_due most problem refusal unshown) (λ store. trees_due most file old new problem refusal calm store) cause
-wanted_ends Packets old new net text given q r v u refusal t calm asked can again cause =
-    let problem = problem_of net r u in
-    ends_as (EndsUndecided problem) (IsStatusFor Packets problem) refusal (λ status due. inr due) (undecided_due problem refusal cause.0)
 
 -- a script that can be played has no fault
 good_script : (net : Net) (k : ℕ) (bytes text : List ℕ) (refused : ScriptRefused) → IsPlay net k bytes text → IsBadScript net k bytes refused → status_of (Script refused) ≡ 11
@@ -461,6 +444,7 @@ refused_ends old new (Protect name) refusal t can calm (inr cause) = elim (plan_
   | inr due ↦ (rw due.0 refl, inr (inr (due.0, (cause.0, cause.1 t, due.1))))
 ]
 refused_ends old new (Stack hex) refusal t can calm cause = stack_ends old hex refusal cause.1
+refused_ends old new (Draw name) refusal t can calm cause = wanting (IsStatus old (Draw name)) refusal (network_wants old new name refusal can.0 t can.1 calm cause)
 
 -- so a command that can be answered ends with one of its statuses, or memory runs out
 ended : (held : ShelfSeen) (command : Command) (status result : ℕ) → IsStatus held command status → (result ≡ status) ⊎ (result ≡ 11) → IsStatus held command result ⊎ (result ≡ 11)
@@ -485,12 +469,11 @@ refused_completes words shelf_old shelf_new out_old out_new err_old err_new resu
 
 -- what is printed has a status of the command
 given_ends : (wanted : Wanted) (old new : ShelfSeen) (problem : Problem) (status : ℕ) (text : List ℕ) → IsGiven wanted old new problem status text → IsStatusFor wanted problem status
-given_ends (Verify file) old new problem status text given = inl (answer_ends report_in problem file new status text given)
+given_ends (Verify content file) old new problem status text given = inl (answer_ends content problem file new status text given)
 given_ends (Check file) old new problem status text given = given.2
 given_ends (Exact file) old new problem status text given = inl (exact_answer_ends problem file new status text given)
 given_ends (CheckExact file) old new problem status text given = given.2
 given_ends (Tolerate most file) old new problem status text given = inl (tolerance_ends problem most file old new status text given)
-given_ends Packets old new problem status text given = inl (answer_ends packets_in problem None new status text given)
 
 answered_ends : (old new : ShelfSeen) (command : Command) (status : ℕ) (text : List ℕ) → TellsFor old command → IsAnswered old new command status text → IsStatus old command status
 answered_ends old new (Ask asking wanted) status text t answer =
@@ -500,6 +483,7 @@ answered_ends old new (Play name script k) status text t answer = answer.1
 answered_ends old new (Gen seed size) status text t answer = inl answer.1
 answered_ends old new (Protect name) status text t answer = inl answer.1
 answered_ends old new (Stack hex) status text t answer = inl answer.1
+answered_ends old new (Draw name) status text t answer = answer.1
 
 pub answered_completes : (words : List (List ℕ)) (shelf_old shelf_new : ShelfSeen) (out_old out_new err_old err_new : SinkSeen) (result status : ℕ) (text : List ℕ)
     → AreAnswered shelf_old shelf_new (command_of words) status text → Prints status text out_old out_new err_old err_new result → Completes words shelf_old shelf_new out_old out_new err_old err_new result

@@ -1,5 +1,5 @@
 -- A status of 1 is a no, and where dropped packets are asked for a no is survival.
-use Rattle.std.proofs.Common.{◌≡◌, ◌⊎◌, inl, inr, ℕ, List, Option, Some, None, refl, sym, subst, ◌∙◌, arith}
+use Rattle.std.proofs.Common.{◌≡◌, inl, inr, ℕ, List, Option, Some, None, refl, subst, ◌∙◌, arith}
 use Rattle.std.specs.Prelude.{option_map}
 use Rattle.wi_base.specs.Shelf.{ShelfSeen}
 use Rattle.wi_base.specs.Sink.{SinkSeen}
@@ -17,7 +17,8 @@ use Rattle.wi_accept.specs.Answers.{IsDecided}
 use Rattle.wi_accept.specs.Trees.{IsDecidedExactly}
 use Rattle.wi_trees.specs.Trees.{HoldsExactly}
 use Rattle.wi_branch.proofs.ToleranceLaws.{no_says}
-use Rattle.wi_words.specs.Commands.{Asking, Ask, Verify, Exact, Packets, Wanted, command_of}
+use Rattle.wi_words.specs.declared.Content.{Content}
+use Rattle.wi_words.specs.Commands.{Asking, Ask, Verify, Exact, Wanted, command_of}
 use Rattle.wi_outcome.specs.Edges.{Prints}
 use Rattle.wi_outcome.specs.declared.refusal.Refusal.TheVariants.{CannotPrint, Memory}
 use Rattle.wi_app.specs.Decided.{IsReported, status_for}
@@ -59,8 +60,8 @@ exactly_no problem answer holds is =
     (subst (λ word. HoldsExactly problem.net (asks problem) (weighs problem) word (option_map components answer.weight) answer.run answer.verdict) is holds)
 
 -- ---- which is survival
-reported_survives : (printed : Problem → Answer → List ℕ) (problem : Problem) (file : Option (List ℕ)) (shelf : ShelfSeen) (status : ℕ) (text : List ℕ) → IsProblem problem → 1 ≡ status → IsReported printed problem file shelf status text → IsSurvived problem × IsSurvivedMoving problem
-reported_survives printed problem file shelf status text k one r =
+reported_survives : (content : Content) (problem : Problem) (file : Option (List ℕ)) (shelf : ShelfSeen) (status : ℕ) (text : List ℕ) → IsProblem problem → 1 ≡ status → IsReported content problem file shelf status text → IsSurvived problem × IsSurvivedMoving problem
+reported_survives content problem file shelf status text k one r =
     let no = decided_no problem r.answer r.holds (no_for r.answer.word (one ∙ r.status_is)) in
     (λ drops. (traces problem k drops).0 no.traces, λ drops. (moving problem k drops).0 no.moving)
 
@@ -81,15 +82,10 @@ said_of_1 words asking wanted P shelf after out printed err said is follows does
   | inr refused ↦ (let high = why_high refused.refusal err said 1 refused.said in absurd (omega (arith, high)))
 ]
 
-pub verified_survives : (words : List (List ℕ)) (asking : Asking) (file : Option (List ℕ)) (shelf after : ShelfSeen) (out printed err said : SinkSeen) → command_of words ≡ Some (Ask asking (Verify file)) → Does words shelf after out printed err said 1
+pub verified_survives : (words : List (List ℕ)) (asking : Asking) (content : Content) (file : Option (List ℕ)) (shelf after : ShelfSeen) (out printed err said : SinkSeen) → command_of words ≡ Some (Ask asking (Verify content file)) → Does words shelf after out printed err said 1
     → ForAsking shelf asking (λ problem. IsSurvived problem × IsSurvivedMoving problem)
-verified_survives words asking file shelf after out printed err said is does =
-    said_of_1 words asking (Verify file) (λ problem. IsSurvived problem × IsSurvivedMoving problem) shelf after out printed err said is (λ problem status text k one r. reported_survives _ problem file after status text k one r) does
-
-pub packets_survive : (words : List (List ℕ)) (asking : Asking) (shelf after : ShelfSeen) (out printed err said : SinkSeen) → command_of words ≡ Some (Ask asking Packets) → Does words shelf after out printed err said 1
-    → ForAsking shelf asking (λ problem. IsSurvived problem × IsSurvivedMoving problem)
-packets_survive words asking shelf after out printed err said is does =
-    said_of_1 words asking Packets (λ problem. IsSurvived problem × IsSurvivedMoving problem) shelf after out printed err said is (λ problem status text k one r. reported_survives _ problem None after status text k one r) does
+verified_survives words asking content file shelf after out printed err said is does =
+    said_of_1 words asking (Verify content file) (λ problem. IsSurvived problem × IsSurvivedMoving problem) shelf after out printed err said is (λ problem status text k one r. reported_survives content problem file after status text k one r) does
 
 pub exact_survives : (words : List (List ℕ)) (asking : Asking) (file : Option (List ℕ)) (shelf after : ShelfSeen) (out printed err said : SinkSeen) → command_of words ≡ Some (Ask asking (Exact file)) → Does words shelf after out printed err said 1 → ForAsking shelf asking IsSurvived
 exact_survives words asking file shelf after out printed err said is does =

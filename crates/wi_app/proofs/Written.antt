@@ -36,6 +36,7 @@ use Rattle.wi_cert.proofs.WritingLemmas.{text_parts}
 use Rattle.wi_accept.specs.Answers.{IsDecided, answer_of, labels_of, run_of, steps_of}
 use Rattle.wi_accept.proofs.AcceptedLemmas.{answer_holds}
 use Rattle.wi_decide.specs.Refusals.{IsUnrefused}
+use Rattle.wi_words.specs.declared.Content.{Content}
 use Rattle.wi_words.specs.Commands.{Asking, Command, Ask, Verify, Check, Exact, CheckExact, command_of}
 use Rattle.wi_accept.specs.Trees.{IsDecidedExactly}
 use Rattle.wi_netjson.specs.declared.fault.NetFault.TheVariants as network_fault
@@ -53,7 +54,7 @@ use Rattle.wi_files.specs.Networks.{HoldsNetwork}
 use Rattle.wi_files.specs.Shelves.{IsCalm, OthersStand}
 use Rattle.wi_app.specs.Asked.{ForAsked}
 use Rattle.wi_app.specs.Certificates.{IsBelieved, IsBelievedFile, IsStored}
-use Rattle.wi_app.specs.Decided.{IsReported, report_in}
+use Rattle.wi_app.specs.Decided.{IsReported}
 use Rattle.wi_app.specs.Exact.{IsBelievedTreeFile, IsReportedExactly, IsTreeBelieved}
 use Rattle.wi_app.specs.Run.{AreAnswered, CanBeAnswered, Completes, Does, IsAnswered, IsStatus, TellsFor}
 
@@ -150,17 +151,17 @@ text_short problem answer c bytes is holds due shows written short =
 
 -- ---- what was stored can be checked
 
-can_check : (old new : ShelfSeen) (asking : Asking) (file : List ℕ) (status : ℕ) (report : List ℕ) → asking.network ≢ file → old.told ≡ true → OthersStand (Some file) old new
-    → IsAnswered old new (Ask asking (Verify (Some file))) status report → CanBeAnswered new (Ask asking (Check file))
-can_check old new asking file status report apart told stand answer = (answer.0, subst (λ f. HoldsNetwork f answer.0) (sym (stand asking.network other)) (answer.1 told), (asked.0, asked.1, asked.2, (certificate, in_file)))
+can_check : (old new : ShelfSeen) (asking : Asking) (content : Content) (file : List ℕ) (status : ℕ) (report : List ℕ) → asking.network ≢ file → old.told ≡ true → OthersStand (Some file) old new
+    → IsAnswered old new (Ask asking (Verify content (Some file))) status report → CanBeAnswered new (Ask asking (Check file))
+can_check old new asking content file status report apart told stand answer = (answer.0, subst (λ f. HoldsNetwork f answer.0) (sym (stand asking.network other)) (answer.1 told), (asked.0, asked.1, asked.2, (certificate, in_file)))
   where
-    asked : ForAsked answer.0 asking.query asking.weights (λ problem. IsReported report_in problem (Some file) new status report)
+    asked : ForAsked answer.0 asking.query asking.weights (λ problem. IsReported content problem (Some file) new status report)
     asked = answer.2
 
     problem : Problem
     problem = problem_of answer.0 asked.0 asked.1
 
-    reported : IsReported report_in problem (Some file) new status report
+    reported : IsReported content problem (Some file) new status report
     reported = asked.4
 
     stored : IsStored (Some file) new problem reported.answer
@@ -238,14 +239,14 @@ answered_then words later command next shelf between after out printed err said 
   | inr refused ↦ (let high = why_high refused.refusal err said status refused.said in absurd (omega (arith, high, low)))
 ]
 
-pub written_accepted : (verifying checking : List (List ℕ)) (asking : Asking) (file : List ℕ) (shelf between after : ShelfSeen) (out printed err said later_out later_printed later_err later_said : SinkSeen) (status result : ℕ)
-    → command_of verifying ≡ Some (Ask asking (Verify (Some file))) → command_of checking ≡ Some (Ask asking (Check file)) → asking.network ≢ file
+pub written_accepted : (verifying checking : List (List ℕ)) (asking : Asking) (content : Content) (file : List ℕ) (shelf between after : ShelfSeen) (out printed err said later_out later_printed later_err later_said : SinkSeen) (status result : ℕ)
+    → command_of verifying ≡ Some (Ask asking (Verify content (Some file))) → command_of checking ≡ Some (Ask asking (Check file)) → asking.network ≢ file
     → shelf.told ≡ true → between.told ≡ true → OthersStand (Some file) shelf between → Does verifying shelf between out printed err said status → status < 3
     → Completes checking between after later_out later_printed later_err later_said result → IsCalm between after → later_printed.faults ≡ later_out.faults → later_said.faults ≡ later_err.faults
     → (result ≡ 0) ⊎ (result ≡ 11)
-written_accepted verifying checking asking file shelf between after out printed err said later_out later_printed later_err later_said status result verifies checks apart told still stand does low completes calm no_fault silent =
-    status_0 (answered_then verifying checking (Ask asking (Verify (Some file))) (Ask asking (Check file)) shelf between after out printed err said later_out later_printed later_err later_said status result verifies checks still
-    (λ status report answer. can_check shelf between asking file status report apart told stand answer) does low completes calm no_fault silent)
+written_accepted verifying checking asking content file shelf between after out printed err said later_out later_printed later_err later_said status result verifies checks apart told still stand does low completes calm no_fault silent =
+    status_0 (answered_then verifying checking (Ask asking (Verify content (Some file))) (Ask asking (Check file)) shelf between after out printed err said later_out later_printed later_err later_said status result verifies checks still
+    (λ status report answer. can_check shelf between asking content file status report apart told stand answer) does low completes calm no_fault silent)
   where
     status_0 : IsStatus between (Ask asking (Check file)) result ⊎ (result ≡ 11) → (result ≡ 0) ⊎ (result ≡ 11)
     status_0 (inl is) = inl is.2.4

@@ -10,6 +10,9 @@ use Rattle.wi_accept.specs.Answers.{IsDecided}
 use Rattle.wi_decide.specs.Refusals.{IsOverflowing, IsTooLong, IsUnrefused}
 use Rattle.wi_report.specs.Reports.{report_of}
 use Rattle.wi_report.specs.Packets.{packets_of}
+use Rattle.wi_draw.specs.Drawings.{answer_drawn}
+use Rattle.wi_words.specs.declared.Content.{Content}
+use Rattle.wi_words.specs.declared.Content.TheVariants.{Report, Packets, Drawing}
 use Rattle.wi_outcome.specs.declared.refusal.Refusal.{Refusal}
 use Rattle.wi_outcome.specs.declared.refusal.Refusal.TheVariants.{Memory, Overflow, TooLong}
 use Rattle.wi_app.specs.Certificates.{IsStored}
@@ -28,15 +31,25 @@ report_in problem answer = report_of problem.net problem.bounds (length problem.
 abbrev pub packets_in : Problem → Answer → List ℕ
 packets_in problem answer = report_in problem answer ++ packets_of problem.net answer.run
 
+-- the network, and the run that the answer shows over it
+abbrev pub drawing_in : Problem → Answer → List ℕ
+drawing_in problem answer = answer_drawn problem.net problem.bounds (length problem.vector) answer
+
+-- what is printed of an answer
+abbrev pub printed_by : Content → Problem → Answer → List ℕ
+printed_by Report = report_in
+printed_by Packets = packets_in
+printed_by Drawing = drawing_in
+
 -- the text, by what is printed, of an answer to a problem that holds and can be shown, with its status; its certificate stands under
 -- the name, if there is one
-pub record IsReported (printed : Problem → Answer → List ℕ) (problem : Problem) (file : Option (List ℕ)) (shelf : ShelfSeen) (status : ℕ) (text : List ℕ) : Type 0 where
+pub record IsReported (content : Content) (problem : Problem) (file : Option (List ℕ)) (shelf : ShelfSeen) (status : ℕ) (text : List ℕ) : Type 0 where
   pub answer : Answer
   pub holds : IsDecided problem answer
   pub shown : IsUnrefused problem answer
   pub stored : IsStored file shelf problem answer
   pub status_is : status ≡ status_for answer.word
-  pub text_is : text ≡ printed problem answer
+  pub text_is : text ≡ printed_by content problem answer
 
 -- there is an answer, but a summary's weight doesn't fit, or else the least run is too long
 abbrev pub FromDecision : Problem → Refusal → Type 0

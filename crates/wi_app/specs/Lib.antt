@@ -4,6 +4,7 @@ pub mod Decided
 pub mod Exact
 pub mod Tolerance
 pub mod Wanted
+pub mod Drawn
 pub mod Generated
 pub mod Run
 pub mod Surviving

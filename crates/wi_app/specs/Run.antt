@@ -6,7 +6,7 @@ use Rattle.wi_net.specs.Net.{Net}
 use Rattle.wi_query.specs.declared.query.Query.{Query}
 use Rattle.wi_quantity.specs.declared.vector.Part.{Part}
 use Rattle.wi_build.specs.Problems.{Problem, problem_of}
-use Rattle.wi_words.specs.Commands.{Asking, Command, Ask, Play, Gen, Protect, Stack, command_of}
+use Rattle.wi_words.specs.Commands.{Asking, Command, Ask, Play, Gen, Protect, Stack, Draw, command_of}
 use Rattle.wi_outcome.specs.Edges.{Prints, SaysWhy, Untouched}
 use Rattle.wi_outcome.specs.declared.refusal.Refusal.{Refusal}
 use Rattle.wi_outcome.specs.declared.refusal.Refusal.TheVariants.{Memory, Usage}
@@ -18,6 +18,7 @@ use Rattle.wi_files.specs.Scripts.{FromPlaying, IsPlay, IsPlayed}
 use Rattle.wi_files.specs.Shelves.{IsCalm, IsLeft}
 use Rattle.wi_app.specs.Asked.{ForAsked, FromAsked}
 use Rattle.wi_app.specs.Decided.{EndsUndecided}
+use Rattle.wi_app.specs.Drawn.{IsDrawn}
 use Rattle.wi_app.specs.Generated.{ForRing, FromRing, IsSummary}
 use Rattle.wi_app.specs.Wanted.{CanBeGiven, FromWanted, IsGiven, IsStatusFor, IsStoredFor}
 
@@ -33,6 +34,7 @@ IsAnswered old new (Play name script k) status text = IsPlayed old name script k
 IsAnswered old new (Gen seed size) status text = IsSummary seed size text × (status ≡ 0)
 IsAnswered old new (Protect name) status text = IsProtected old name text × (status ≡ 0)
 IsAnswered old new (Stack hex) status text = IsShownHex hex text × (status ≡ 0)
+IsAnswered old new (Draw name) status text = IsDrawn old name text × (status ≡ 0)
 
 -- no words are answered but those of a command
 abbrev pub AreAnswered : ShelfSeen → ShelfSeen → Option Command → ℕ → List ℕ → Type 0
@@ -55,6 +57,7 @@ FromCommand old new (Play name script k) refusal = FromPlaying old new name scri
 FromCommand old new (Gen seed size) refusal = IsCalm old new × FromRing seed size refusal
 FromCommand old new (Protect name) refusal = FromProtecting old new name refusal
 FromCommand old new (Stack hex) refusal = IsCalm old new × FromHex hex refusal
+FromCommand old new (Draw name) refusal = FromNetwork old new name refusal
 
 -- the words are the cause, which are no command, or what they ask for
 abbrev pub FromWords : ShelfSeen → ShelfSeen → Option Command → Refusal → Type 0
@@ -86,8 +89,8 @@ Does words shelf_old shelf_new out_old out_new err_old err_new result =
     IsDone words shelf_old shelf_new out_old out_new err_old err_new result ⊎ IsRefused words shelf_old shelf_new out_old out_new err_old err_new result
 
 -- a command can be answered: a network's file is held, texts are a query of it and weights, and what is wanted of their problem can be
--- given; or a script is held, too, that can be played; or the network's file has a plan or none. A ring can always be generated, and any
--- text read as bytes
+-- given; or a script is held, too, that can be played; or the network's file has a plan or none, or is drawn. A ring can always be
+-- generated, and any text read as bytes
 abbrev pub CanBeAnswered : ShelfSeen → Command → Type 0
 CanBeAnswered shelf (Ask asking wanted) =
     (net : Net) × HoldsNetwork (shelf.file asking.network) net
@@ -96,6 +99,7 @@ CanBeAnswered shelf (Play name script k) = (net : Net) × HoldsNetwork (shelf.fi
 CanBeAnswered shelf (Gen seed size) = Unit {0}
 CanBeAnswered shelf (Protect name) = (net : Net) × HoldsNetwork (shelf.file name) net
 CanBeAnswered shelf (Stack hex) = Unit {0}
+CanBeAnswered shelf (Draw name) = (net : Net) × HoldsNetwork (shelf.file name) net
 
 -- the statuses with which a command may end that can be answered
 abbrev pub IsStatus : ShelfSeen → Command → ℕ → Type 0
@@ -104,6 +108,7 @@ IsStatus shelf (Play name script k) status = status ≡ 0
 IsStatus shelf (Gen seed size) status = (status ≡ 0) ⊎ ForRing seed size (λ problem. EndsUndecided problem status)
 IsStatus shelf (Protect name) status = (status ≡ 0) ⊎ ((status ≡ 15) × ((bytes : List ℕ) × (shelf.file name ≡ Some bytes) × HasNoProtection bytes))
 IsStatus shelf (Stack hex) status = (status ≡ 0) ⊎ ((status ≡ 16) × ShowsNoStack hex)
+IsStatus shelf (Draw name) status = status ≡ 0
 
 -- the shelf tells what it holds, where a command reads a file
 abbrev pub TellsFor : ShelfSeen → Command → Type 0

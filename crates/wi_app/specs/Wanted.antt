@@ -1,33 +1,32 @@
 -- What is wanted of a problem: how it is given, why it isn't, and with what status it may end.
-use Rattle.std.specs.Prelude.{◌≡◌, ◌⊎◌, ℕ, ◌<◌, List, Option, Some, None}
+use Rattle.std.specs.Prelude.{◌≡◌, ◌⊎◌, ℕ, ◌<◌, List, Option, Some}
 use Rattle.wi_base.specs.Shelf.{ShelfSeen}
 use Rattle.wi_build.specs.Problems.{Problem}
 use Rattle.wi_cert.specs.declared.certificate.Certificate.{Certificate}
 use Rattle.wi_cert.specs.declared.tree.TreeCertificate.{TreeCertificate}
 use Rattle.wi_accept.specs.Answers.{word_of}
 use Rattle.wi_report.specs.Reports.{accepted_text}
-use Rattle.wi_words.specs.Commands.{Wanted, Verify, Check, Exact, CheckExact, Tolerate, Packets}
+use Rattle.wi_words.specs.Commands.{Wanted, Verify, Check, Exact, CheckExact, Tolerate}
 use Rattle.wi_outcome.specs.declared.refusal.Refusal.{Refusal}
 use Rattle.wi_files.specs.Certificates.{IsNamed}
 use Rattle.wi_files.specs.Shelves.{IsCalm, IsOfTwo}
 use Rattle.wi_app.specs.Certificates.{FromCertificate, FromStore, IsBelievedFile, IsTooLargeToWrite}
-use Rattle.wi_app.specs.Decided.{EndsUndecided, FromDecision, IsReported, packets_in, report_in}
+use Rattle.wi_app.specs.Decided.{EndsUndecided, FromDecision, IsReported}
 use Rattle.wi_app.specs.Exact.{EndsUnsplit, FromSplitting, FromTree, FromTreeStore, IsBelievedTreeFile, IsReportedExactly, IsTreeTooLarge}
 use Rattle.wi_app.specs.Tolerance.{AreTreesTooLarge, EndsUntold, FromTolerating, FromTreesStore, IsToldWith}
 
 -- ---- given. Old and new are the shelf before and after
 -- what is printed of a problem, with its status: over the files that the shelf holds, and with what it then holds
 abbrev pub IsGiven : Wanted → ShelfSeen → ShelfSeen → Problem → ℕ → List ℕ → Type 0
-IsGiven (Verify file) old new problem status text = IsReported report_in problem file new status text
+IsGiven (Verify content file) old new problem status text = IsReported content problem file new status text
 IsGiven (Check file) old new problem status text = (c : Certificate) × IsBelievedFile old problem file c × (status ≡ 0) × (text ≡ accepted_text (word_of c.shown.claim))
 IsGiven (Exact file) old new problem status text = IsReportedExactly problem file new status text
 IsGiven (CheckExact file) old new problem status text = (t : TreeCertificate) × IsBelievedTreeFile old problem file t × (status ≡ 0) × (text ≡ accepted_text (word_of t.shown.claim))
 IsGiven (Tolerate most file) old new problem status text = IsToldWith problem most file old new status text
-IsGiven Packets old new problem status text = IsReported packets_in problem None new status text
 
 -- something may be stored under a name
 abbrev pub IsStoredFor : Wanted → List ℕ → Type 0
-IsStoredFor (Verify file) under = file ≡ Some under
+IsStoredFor (Verify content file) under = file ≡ Some under
 IsStoredFor (Exact file) under = file ≡ Some under
 IsStoredFor (Tolerate most file) under = IsOfTwo file under
 IsStoredFor wanted under = ⊥
@@ -39,12 +38,11 @@ FromAnswer Unshown Unstored old new problem refusal = (Unshown problem refusal �
 
 -- the problem is the cause, or its answer's store; or the file that is held against it
 abbrev pub FromWanted : Wanted → ShelfSeen → ShelfSeen → Problem → Refusal → Type 0
-FromWanted (Verify file) old new problem refusal = FromAnswer FromDecision (FromStore file) old new problem refusal
+FromWanted (Verify content file) old new problem refusal = FromAnswer FromDecision (FromStore file) old new problem refusal
 FromWanted (Check file) old new problem refusal = FromCertificate old new problem file refusal
 FromWanted (Exact file) old new problem refusal = FromAnswer FromSplitting (FromTreeStore file) old new problem refusal
 FromWanted (CheckExact file) old new problem refusal = FromTree old new problem file refusal
 FromWanted (Tolerate most file) old new problem refusal = FromAnswer (FromTolerating most) (FromTreesStore most file) old new problem refusal
-FromWanted Packets old new problem refusal = FromDecision problem refusal × IsCalm old new
 
 -- ---- the status
 -- what is held against the problem, if anything is, is believed
@@ -66,9 +64,8 @@ MayEnd Answered Unshown Large file status = Answered ⊎ Unshown ⊎ ((status �
 
 -- the statuses with which it may end
 abbrev pub IsStatusFor : Wanted → Problem → ℕ → Type 0
-IsStatusFor (Verify file) problem status = MayEnd (EndsAnswered problem status) (EndsUndecided problem status) (IsTooLargeToWrite problem) file status
+IsStatusFor (Verify content file) problem status = MayEnd (EndsAnswered problem status) (EndsUndecided problem status) (IsTooLargeToWrite problem) file status
 IsStatusFor (Check file) problem status = status ≡ 0
 IsStatusFor (Exact file) problem status = MayEnd (EndsExactly status) (EndsUnsplit problem status) (IsTreeTooLarge problem) file status
 IsStatusFor (CheckExact file) problem status = status ≡ 0
 IsStatusFor (Tolerate most file) problem status = MayEnd (EndsExactly status) (EndsUntold problem most status) (AreTreesTooLarge problem most) file status
-IsStatusFor Packets problem status = EndsAnswered problem status ⊎ EndsUndecided problem status

@@ -7,6 +7,7 @@ ghost use Rattle.wi_files.specs.Shelves.{IsCalm, IsLeft, StandBut};
 ghost use Rattle.wi_app.specs.Run.{AreAnswered, FromCommand, FromWords, IsAnswered, IsStoredBy};
 
 use crate::ask::ask;
+use crate::draw::draw;
 use crate::ring::summary_of_ring;
 use std::alloc::Global;
 use wi_base::Shelf;
@@ -53,5 +54,6 @@ fn answer_to<'a, S: Shelf>(
         Command::Gen { seed, size } => summary_of_ring(alloc, seed, size),
         Command::Protect { plan } => protect(alloc, plan, shelf),
         Command::Stack { hex } => stack(alloc, hex),
+        Command::Draw { network } => draw(alloc, network, shelf),
     }
 }

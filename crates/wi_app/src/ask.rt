@@ -12,7 +12,7 @@ use crate::check::check;
 use crate::check_exact::check_exact;
 use crate::exact::exact;
 use crate::tolerate::tolerate;
-use crate::verify::{Content, verify};
+use crate::verify::verify;
 use std::alloc::Global;
 use wi_base::Shelf;
 use wi_build::Problem;
@@ -79,15 +79,15 @@ fn give<'a, S: Shelf>(
     ensures refused { IfErr result (FromWanted (wanted_shown wanted.entry) (S.seen shelf.old) (S.seen shelf.new) problem.now) }
 {
     match wanted {
-        Wanted::Verify { certificate } => {
-            verify(alloc, problem, Content::Report, certificate, shelf)
-        }
+        Wanted::Verify {
+            content,
+            certificate,
+        } => { verify(alloc, problem, content, certificate, shelf) }
         Wanted::Check { certificate } => check(alloc, problem, certificate, shelf),
         Wanted::Exact { certificate } => exact(alloc, problem, certificate, shelf),
         Wanted::CheckExact { certificate } => { check_exact(alloc, problem, certificate, shelf) }
         Wanted::Tolerate { most, certificate } => {
             tolerate(alloc, problem, most, certificate, shelf)
         }
-        Wanted::Packets => { verify(alloc, problem, Content::ReportAndPackets, None, shelf) }
     }
 }

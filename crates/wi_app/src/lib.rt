@@ -7,6 +7,7 @@ mod ask;
 mod check;
 mod check_exact;
 mod decided;
+mod draw;
 mod exact;
 mod laws;
 mod ring;

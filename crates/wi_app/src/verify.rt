@@ -1,35 +1,28 @@
 //! The report is made before the certificate is stored, and both before anything is printed: so whatever is refused has stored
-//! nothing, and what is printed has its certificate. What `packets` prints is made here, too: it asks the same, and prints more of the
-//! same answer.
+//! nothing, and what is printed has its certificate. What `packets` and `draw` print is made here, too: they ask the same, and print
+//! another text of the same answer.
 ghost use Rattle.std.specs.Prelude.{◌≡◌, option_map, IfOk, IfErr, IfSome};
 ghost use Rattle.wi_cert.specs.Text.{IsWritable};
 ghost use Rattle.wi_report.specs.Reports.{IsKnownRun};
 ghost use Rattle.wi_files.specs.Certificates.{IsKept, IsNotKept};
 ghost use Rattle.wi_files.specs.Shelves.{IsCalm, IsLeft, OthersStand};
 ghost use Rattle.wi_app.specs.Certificates.{FromStore};
-ghost use Rattle.wi_app.specs.Decided.{FromDecision, IsReported, status_for};
+ghost use Rattle.wi_app.specs.Decided.{FromDecision, IsReported, printed_by, status_for};
 ghost use Rattle.wi_app.specs.Wanted.{FromAnswer};
-ghost use Rattle.wi_app.specs.private.Stages.{printed_by};
 
 use crate::decided::decided;
 use std::alloc::Global;
 use wi_base::{NoMemory, Shelf};
 use wi_build::Problem;
 use wi_cert::Certificate;
+use wi_draw::answer_drawing;
 use wi_files::store_certificate;
 use wi_outcome::{Printed, Refusal};
-use wi_report::{packets as report_and_packets, report};
+use wi_report::{packets, report};
 use wi_text::Text;
 use wi_trace::Answer;
+use wi_words::Content;
 use wi_world::Word;
-
-/// What is printed of an answer.
-#[derive(Clone, Copy)]
-pub enum Content {
-    Report,
-    /// The report, and then the packets of the run that it shows.
-    ReportAndPackets,
-}
 
 /// What is printed of the answer to a problem, or why there is none. Its certificate is stored under a name, if there is one.
 pub fn verify<'a, S: Shelf>(
@@ -43,7 +36,7 @@ pub fn verify<'a, S: Shelf>(
     ensures others { OthersStand (option_map (λ s. s.now) file.entry) (S.seen shelf.old) (S.seen shelf.new) }
     ensures left { IfErr result (λ refusal. IsLeft refusal (S.seen shelf.old) (S.seen shelf.new)) }
     ensures calm { IfOk result (λ _. IsCalm (S.seen shelf.old) (S.seen shelf.new)) }
-    ensures reported { IfOk result (λ printed. IsReported (printed_by content) problem.now (option_map (λ s. s.now) file.entry) (S.seen shelf.new) printed.status printed.text) }
+    ensures reported { IfOk result (λ printed. IsReported content problem.now (option_map (λ s. s.now) file.entry) (S.seen shelf.new) printed.status printed.text) }
     ensures refused { IfErr result (FromAnswer FromDecision (FromStore (option_map (λ s. s.now) file.entry)) (S.seen shelf.old) (S.seen shelf.new) problem.now) }
 {
     let (answer, certificate) = decided(alloc, problem)?;
@@ -95,7 +88,8 @@ fn text_by(
 {
     match content {
         Content::Report => report(alloc, problem, answer),
-        Content::ReportAndPackets => report_and_packets(alloc, problem, answer),
+        Content::Packets => packets(alloc, problem, answer),
+        Content::Drawing => answer_drawing(alloc, problem, answer),
     }
 }
 

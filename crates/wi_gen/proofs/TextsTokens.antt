@@ -15,6 +15,7 @@ use Rattle.wi_syntax.specs.Tokens.{spelling, is_word, IsToken}
 -- what a token may be at a byte, before the rest of a text
 abbrev pub is_token : ℕ → Token → List ℕ → Bool
 is_token at (token.Mark m) rest = true
+is_token at (token.AnyEnd n) rest = n == at
 is_token at (token.Word n) rest = (n.at == at) && is_word n rest
 
 -- white space, these bytes and the rest begin with a token
@@ -43,6 +44,7 @@ are_tokens at (t ∷ ts) text =
 
 token_is : (at : ℕ) (t : Token) (rest : List ℕ) → is_token at t rest ≡ true → IsToken at t rest
 token_is at (token.Mark m) rest is = tt
+token_is at (token.AnyEnd n) rest is = eqb-true n at is
 token_is at (token.Word n) rest is = let parts = and_parts (n.at == at) (is_word n rest) is in (eqb-true n.at at parts.0, parts.1)
 
 first_is : (at : ℕ) (t : Token) (ts : List Token) (text space behind bytes rest : List ℕ)

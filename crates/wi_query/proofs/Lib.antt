@@ -10,4 +10,8 @@ pub mod Known
 pub mod Numbers
 pub mod Queries
 pub mod Fine
+pub mod Linkless
+pub mod Behind
+pub mod Giving
 pub mod Alike
+pub mod Strictly

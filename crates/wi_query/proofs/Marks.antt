@@ -115,7 +115,7 @@ abbrev Finder : Type 0
 Finder = RouterId → List ℕ → Option LinkId
 
 pub end_known : (net : Net) (find : Finder) (end : End) (p : EndMeant) → end_meant net find end ≡ Some p → unknown_in_end net find end ≡ []
-end_known net find end.Any p e = refl
+end_known net find (end.Any at) p e = refl
 end_known net find (end.Router router) p e = go (find_router net router.text) e
   where
     go : (o : Option RouterId) → option_map end_meant_by.At o ≡ Some p → unless (is_some o) ARouter router ≡ []
@@ -133,12 +133,12 @@ end_known net find (end.Interface router interface) p e = go (find_router net ro
 
 -- whether it is the end of a link, from which this router is reached
 abbrev is_end : Net → Finder → End → RouterId → ℕ → Bool
-is_end net find end.Any router x = true
+is_end net find (end.Any at) router x = true
 is_end net find (end.Router name) router x = is_router_named net name router
 is_end net find (end.Interface name interface) router x = is_interface_named net find name interface x
 
 placed_end : (net : Net) (find : Finder) (end : End) (p : EndMeant) (router : RouterId) (x : ℕ) → end_meant net find end ≡ Some p → is_at p router x ≡ is_end net find end router x
-placed_end net find end.Any p router x e = let is : p ≡ end_meant_by.Any = cc in rw is refl
+placed_end net find (end.Any at) p router x e = let is : p ≡ end_meant_by.Any = cc in rw is refl
 placed_end net find (end.Router name) p router x e = go (find_router net name.text) e
   where
     go : (o : Option RouterId) → option_map end_meant_by.At o ≡ Some p → is_at p router x ≡ option_map_or (λ (id : RouterId). id.0 == router.0) o false
@@ -151,12 +151,12 @@ placed_end net find (end.Interface name interface) p router x e = go (option_and
     go None e = cc
 
 from_end : (net : Net) (end : End) (x : ℕ) (l : Link) → slice_get net.links x ≡ Some l → comes_from net end x ≡ is_end net (find_out net) end l.from x
-from_end net end.Any x l e = refl
+from_end net (end.Any at) x l e = refl
 from_end net (end.Router router) x l e = rw e refl
 from_end net (end.Interface router interface) x l e = refl
 
 to_end : (net : Net) (end : End) (x : ℕ) (l : Link) → slice_get net.links x ≡ Some l → goes_to net end x ≡ is_end net (find_in net) end l.to x
-to_end net end.Any x l e = refl
+to_end net (end.Any at) x l e = refl
 to_end net (end.Router router) x l e = rw e refl
 to_end net (end.Interface router interface) x l e = refl
 
@@ -190,7 +190,7 @@ link_at [] x low = absurd (omega (arith, low))
 link_at (l ∷ links) zero low = (l, refl)
 link_at (l ∷ links) (suc x) low = link_at links x (omega (arith, low))
 
-between_pair : (net : Net) (pair : Pair) (ends : Ends) (x : ℕ) → x < length net.links → ends_meant net pair ≡ Some ends → is_between net ends x ≡ is_link_between net pair x
+pub between_pair : (net : Net) (pair : Pair) (ends : Ends) (x : ℕ) → x < length net.links → ends_meant net pair ≡ Some ends → is_between net ends x ≡ is_link_between net pair x
 between_pair net pair ends x low e =
     let m = both_meant net pair ends e in
     let at = link_at net.links x low in

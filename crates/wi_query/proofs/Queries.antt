@@ -97,7 +97,7 @@ no_links : (links : List LinkId) → filter (λ e. false) links ≡ []
 no_links [] = refl
 no_links (e ∷ links) = no_links links
 
-known_union : (net : Net) (known : Option Known) → widened net (known_links net known) ≡ known_links net known
+pub known_union : (net : Net) (known : Option Known) → widened net (known_links net known) ≡ known_links net known
 known_union net None = no_links (all_links net)
 known_union net (Some known) = widened_again net _
 

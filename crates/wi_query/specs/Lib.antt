@@ -4,4 +4,6 @@ pub mod Last
 pub mod Unknown
 pub mod Meaning
 pub mod Faults
+pub mod Linked
+pub mod Given
 pub mod private

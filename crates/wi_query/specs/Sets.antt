@@ -64,12 +64,12 @@ is_interface_named net find router interface x = option_map_or (λ e. e.0 == x) 
 
 -- where a link comes from, and where it goes to
 abbrev pub comes_from : Net → End → ℕ → Bool
-comes_from net end.Any x = true
+comes_from net (end.Any at) x = true
 comes_from net (end.Router router) x = option_map_or (λ l. is_router_named net router l.from) (slice_get net.links x) false
 comes_from net (end.Interface router interface) x = is_interface_named net (find_out net) router interface x
 
 abbrev pub goes_to : Net → End → ℕ → Bool
-goes_to net end.Any x = true
+goes_to net (end.Any at) x = true
 goes_to net (end.Router router) x = option_map_or (λ l. is_router_named net router l.to) (slice_get net.links x) false
 goes_to net (end.Interface router interface) x = is_interface_named net (find_in net) router interface x
 

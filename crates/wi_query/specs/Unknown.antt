@@ -41,7 +41,7 @@ unknown_in_label_atom net (label.List except names) = flat_map (unknown_label ne
 
 -- an interface is known if a link leaves, or reaches, its router by it; where the router isn't known, that is told
 abbrev pub unknown_in_end : Net → (RouterId → List ℕ → Option LinkId) → End → List Unknown
-unknown_in_end net find end.Any = []
+unknown_in_end net find (end.Any at) = []
 unknown_in_end net find (end.Router router) = unless (is_some (find_router net router.text)) ARouter router
 unknown_in_end net find (end.Interface router interface) =
     elim (find_router net router.text) [

@@ -2,3 +2,5 @@
 pub mod Names
 pub mod Frames
 pub mod Parts
+pub mod Lookups
+pub mod Giving

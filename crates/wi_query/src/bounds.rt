@@ -67,8 +67,8 @@ fn failures(number: &Name) -> Result<u32, QueryFault>
     }
 }
 
-// The least link that is in both sets.
-fn shared(down: &FailSet, up: &FailSet) -> Option<LinkId>
+/// The least link that is in both sets.
+pub(crate) fn shared(down: &FailSet, up: &FailSet) -> Option<LinkId>
     ensures { result ≡ shared down.now up.now }
 {
     for i in 0..down.len() {

@@ -8,10 +8,18 @@ ghost use Rattle.wi_query.specs.declared.fault.QueryFault.TheVariants.{Memory};
 ghost use Rattle.wi_query.specs.declared.query.Query.{Query};
 ghost use Rattle.wi_query.specs.Meaning.{IsQuery, AskTheSame};
 ghost use Rattle.wi_query.specs.Faults.{IsFault};
+ghost use Rattle.wi_query.specs.declared.strict.StrictFault.{StrictFault};
+ghost use Rattle.wi_query.specs.declared.strict.StrictFault.TheVariants.{InQuery};
+ghost use Rattle.wi_query.specs.Linked.{IsStrictQuery, IsStrictFault};
 
 /// The text of a query has no fault.
 pub fn a_query_has_no_fault()
     ensures { (net : Net) (text : List ℕ) (query : Query) (fault : QueryFault) → IsQuery net text query → IsFault net text fault → fault ≡ Memory }
+{}
+
+/// Nor has one whose pairs all mean links a fault where each pair has to.
+pub fn a_strict_query_has_no_fault()
+    ensures { (net : Net) (text : List ℕ) (query : Query) (fault : StrictFault) → IsStrictQuery net text query → IsStrictFault net text fault → fault ≡ InQuery Memory }
 {}
 
 /// The signs of an expression are those of one tree, so they mean one language.

@@ -5,15 +5,21 @@ mod atoms;
 mod bounds;
 mod expression;
 mod fault;
+mod given;
 mod laws;
 mod names;
 mod parts;
 mod query;
+mod strict;
 mod symbols;
 mod tree;
 
 pub use expression::Expression;
 pub use fault::QueryFault;
-pub use laws::{a_query_has_no_fault, a_text_asks_one_thing, signs_have_one_tree};
+pub use given::read_given;
+pub use laws::{
+    a_query_has_no_fault, a_strict_query_has_no_fault, a_text_asks_one_thing, signs_have_one_tree,
+};
 pub use query::{Query, read_query};
+pub use strict::{StrictFault, read_strictly};
 pub use symbols::SymbolSet;

@@ -1,12 +1,13 @@
 //! Each name is looked up once, before any label or link is held against it: what it stands for is then a number, a class, or
 //! all. So an atom compares numbers, and not texts. It takes a small value for each name of a list.
-ghost use Rattle.std.specs.Prelude.{◌≡◌, ◌<◌, ◌&&◌, ◌∷◌, [], Some, None, IfOk, IfErr, OnErr, length, string_bytes};
+ghost use Rattle.std.specs.Prelude.{◌≡◌, ◌<◌, ◌&&◌, ◌∷◌, [], Some, None, IfSome, IfOk, IfErr, OnErr, length, string_bytes};
 ghost use Rattle.std.specs.List.{flat_map, list_any};
 ghost use Rattle.wi_labels.specs.Header.{same_class};
 ghost use Rattle.wi_net.specs.Finding.{find_router};
 ghost use Rattle.wi_query.specs.Sets.{class_of_word, class_named};
 ghost use Rattle.wi_query.specs.Unknown.{ARouter, unknown_label, unknown_in_end, unknown_in_pair};
 ghost use Rattle.wi_query.specs.private.Names.{IsFirst, label_meant, is_meant, finder, end_meant, ends_meant, is_at, is_between, AreMeant};
+ghost use Rattle.wi_query.specs.private.Lookups.{one_by, one_between, IsThere, has_link};
 
 use crate::fault::QueryFault;
 use std::alloc::Global;
@@ -144,7 +145,8 @@ fn router_named(alloc: Global, net: &Network, name: &Name) -> Result<RouterId, Q
 
 // The link that leaves, or reaches, a router by an interface.
 fn link_by(net: &Network, side: Side, router: RouterId, interface: &str) -> Option<LinkId>
-    ensures { result ≡ finder net.now side router interface.now }
+    ensures value { result ≡ finder net.now side router interface.now }
+    ensures there { IsThere net.now result }
 {
     match side {
         Side::Source => net.find_out(router, interface),
@@ -158,7 +160,7 @@ fn end_of(alloc: Global, net: &Network, side: Side, end: &End) -> Result<EndMean
     ensures refused { IfErr result (IsFirst (unknown_in_end net.now (finder net.now side) end.now)) }
 {
     match end {
-        End::Any => Ok(EndMeant::Any),
+        End::Any(_) => Ok(EndMeant::Any),
         End::Router(router) => Ok(EndMeant::At(router_named(alloc, net, router)?)),
         End::Interface(router, interface) => {
             let id = router_named(alloc, net, router)?;
@@ -181,6 +183,31 @@ fn ends_of(alloc: Global, net: &Network, pair: &Pair) -> Result<Ends, QueryFault
     let source = end_of(alloc, net, Side::Source, &pair.from)?;
     let target = end_of(alloc, net, Side::Target, &pair.to)?;
     Ok(Ends { source, target })
+}
+
+// What an end stands for, where the network has its names.
+fn end_known(net: &Network, side: Side, end: &End) -> Option<EndMeant>
+    ensures found { result ≡ end_meant net.now (finder net.now side) end.now }
+    ensures there { IfSome result (λ meant. IsThere net.now (one_by meant)) }
+{
+    match end {
+        End::Any(_) => Some(EndMeant::Any),
+        End::Router(router) => Some(EndMeant::At(net.find_router(router.as_str())?)),
+        End::Interface(router, interface) => {
+            let id = net.find_router(router.as_str())?;
+            Some(EndMeant::By(link_by(net, side, id, interface.as_str())?))
+        }
+    }
+}
+
+/// What both ends of a pair stand for, where the network has its names.
+pub(crate) fn ends_known(net: &Network, pair: &Pair) -> Option<Ends>
+    ensures found { result ≡ ends_meant net.now pair.now }
+    ensures there { IfSome result (λ ends. IsThere net.now (one_between ends)) }
+{
+    let source = end_known(net, Side::Source, &pair.from)?;
+    let target = end_known(net, Side::Target, &pair.to)?;
+    Some(Ends { source, target })
 }
 
 /// What each of some pairs stands for, or the first name in them that stands for nothing.
@@ -217,6 +244,49 @@ pub(crate) fn is_between(net: &Network, ends: Ends, link: LinkId) -> bool
 {
     let at = net.link(link);
     is_at(ends.source, at.from, link) && is_at(ends.target, at.to, link)
+}
+
+// The one link that may have an end, where the end stands for one.
+fn one_by(meant: EndMeant) -> Option<LinkId>
+    ensures { result ≡ one_by meant }
+{
+    match meant {
+        EndMeant::By(link) => Some(link),
+        EndMeant::Any | EndMeant::At(_) => None,
+    }
+}
+
+// The one link that may have both ends, where an end stands for one.
+fn one_between(ends: Ends) -> Option<LinkId>
+    ensures { result ≡ one_between ends }
+{
+    match one_by(ends.source) {
+        Some(link) => Some(link),
+        None => one_by(ends.target),
+    }
+}
+
+// Whether some link of the network is one that both ends stand for.
+fn any_link(net: &Network, ends: Ends) -> bool
+    ensures { result ≡ has_link net.now ends }
+{
+    for x in 0..net.counts().links {
+        if is_between(net, ends, LinkId(x)) {
+            return true;
+        }
+    }
+    false
+}
+
+/// Whether some link is one that a pair stands for. Where an end is an interface, only its link is asked.
+pub(crate) fn has_link(net: &Network, ends: Ends) -> bool
+    requires { IsThere net.now (one_between ends) }
+    ensures { result ≡ has_link net.now ends }
+{
+    match one_between(ends) {
+        Some(link) => is_between(net, ends, link),
+        None => any_link(net, ends),
+    }
 }
 
 /// Whether a label is one that some name stands for.

@@ -1,8 +1,8 @@
 //! The steps stand in the order in which faults are told: length, form, names, positions, number, links known both down and up.
 //! A text of more than 4,096 bytes is refused before it is read, which bounds how many atoms there are and how deep expressions
 //! nest.
-ghost use Rattle.std.specs.Prelude.{◌≡◌, false, nat_lt, length, IfOk, IfErr};
-ghost use Rattle.wi_syntax.specs.Grammar.{IsNumber};
+ghost use Rattle.std.specs.Prelude.{◌≡◌, ℕ, List, false, nat_lt, length, IfOk, IfErr};
+ghost use Rattle.wi_syntax.specs.Grammar.{IsNumber, IsWritten};
 ghost use Rattle.wi_query.specs.Meaning.{HasAutomata, IsQuery};
 ghost use Rattle.wi_query.specs.Faults.{IsShort, IsFault};
 ghost use Rattle.wi_query.specs.private.Parts.{AreCounted, IsMadeOf, IsWrong, IsNoQuery};
@@ -16,7 +16,7 @@ use wi_net::{Bounds, Network};
 use wi_syntax::{Name, SyntaxRefused, Written, read_written};
 
 /// The most bytes that a query's text may have.
-const LENGTH_LIMIT: usize = 4096;
+pub(crate) const LENGTH_LIMIT: usize = 4096;
 
 /// What is asked of a network: the languages of the first header, of the links and of the last header, whether the packet is to be
 /// dropped, and what may fail.
@@ -44,8 +44,8 @@ impl Query {
     }
 }
 
-// The query as it is written.
-fn written_in(alloc: Global, text: &str) -> Result<Written, QueryFault>
+/// The query as it is written.
+pub(crate) fn written_in(alloc: Global, text: &str) -> Result<Written, QueryFault>
     ensures written { IfOk result (λ written. IsShort text.now written) }
     ensures refused { IfErr result (λ fault. IsNoQuery text.now fault) }
 {
@@ -110,12 +110,25 @@ fn query_of(alloc: Global, parts: Parts, number: &Name) -> Result<Query, QueryFa
     }
 }
 
+/// The query that is written.
+pub(crate) fn query_written(
+    alloc: Global,
+    net: &Network,
+    written: &Written,
+) -> Result<Query, QueryFault>
+    requires { IsWritten written.now }
+    ensures read { IfOk result (λ query. (text : List ℕ) → IsShort text written.now → IsQuery net.now text query) }
+    ensures refused { IfErr result (λ fault. (text : List ℕ) → IsShort text written.now → IsFault net.now text fault) }
+{
+    let parts = parts_of(alloc, net, written)?;
+    query_of(alloc, parts, &written.number)
+}
+
 /// The query that a text is of a network.
 pub fn read_query(alloc: Global, net: &Network, text: &str) -> Result<Query, QueryFault>
     ensures read { IfOk result (λ query. IsQuery net.now text.now query) }
     ensures refused { IfErr result (λ fault. IsFault net.now text.now fault) }
 {
     let written = written_in(alloc, text)?;
-    let parts = parts_of(alloc, net, &written)?;
-    query_of(alloc, parts, &written.number)
+    query_written(alloc, net, &written)
 }

@@ -95,10 +95,13 @@ moving_line false = codes "moving: no\n"
 abbrev pub nodes_line : ℕ → Bool → List ℕ
 nodes_line nodes found = codes "nodes: " ++ decimal nodes ++ codes "\n"
 
+-- what a run weighs, and how it fares
+abbrev pub fare_shown : Net → Bounds → ℕ → Pair Terms Effort → Run → Verdict → List ℕ
+fare_shown net bounds terms w run verdict = weight_shown terms w ++ verdict_shown net bounds.k (needs net bounds run) verdict
+
 -- a run with what it weighs and how it fares, with this line before its links; where there is none, the line alone
 abbrev pub found_shown : (Bool → List ℕ) → Net → Bounds → ℕ → Option (Pair Terms Effort) → Option Run → Option Verdict → List ℕ
-found_shown line net bounds terms (Some w) (Some run) (Some verdict) =
-    weight_shown terms w ++ verdict_shown net bounds.k (needs net bounds run) verdict ++ line true ++ links_listed net run
+found_shown line net bounds terms (Some w) (Some run) (Some verdict) = fare_shown net bounds terms w run verdict ++ line true ++ links_listed net run
 found_shown line net bounds terms _ _ _ = line false
 
 -- the answer's word
@@ -110,6 +113,15 @@ word_shown Inconclusive = codes "inconclusive"
 -- the line of an answer's word
 abbrev pub answer_line : Word → List ℕ
 answer_line word = codes "answer: " ++ word_shown word ++ codes "\n"
+
+-- what a report says of a run before the line of how the answer was found, if one is shown
+abbrev pub found_fare : Net → Bounds → ℕ → Option (Pair Terms Effort) → Option Run → Option Verdict → List ℕ
+found_fare net bounds terms (Some w) (Some run) (Some verdict) = fare_shown net bounds terms w run verdict
+found_fare net bounds terms _ _ _ = []
+
+-- what a report says before the line of how the answer was found
+abbrev pub heading_of : Net → Bounds → ℕ → Answer → List ℕ
+heading_of net bounds terms a = answer_line a.word ++ found_fare net bounds terms a.weight a.run a.verdict
 
 -- the report on an answer with a line that depends on whether a run is shown, where runs are weighed by so many terms
 abbrev pub report_with : (Bool → List ℕ) → Net → Bounds → ℕ → Answer → List ℕ

@@ -9,7 +9,7 @@ ghost use Rattle.wi_world.specs.Moves.{AreBounds};
 ghost use Rattle.wi_world.specs.Runs.{needs};
 ghost use Rattle.wi_quantity.specs.Weighing.{components};
 ghost use Rattle.wi_report.specs.Shown.{link_shown, links_shown, place_shown};
-ghost use Rattle.wi_report.specs.Reports.{IsKnownRun, answer_line, numbers_shown, terms_shown, weight_shown, verdict_shown, member_shown, step_shown, undefined_operation, inactive_shown, undefined_shown, end_shown, steps_shown, run_shown, links_listed, found_shown, word_shown, report_with, report_of, exact_report_of, accepted_text};
+ghost use Rattle.wi_report.specs.Reports.{IsKnownRun, answer_line, numbers_shown, terms_shown, weight_shown, verdict_shown, member_shown, step_shown, undefined_operation, inactive_shown, undefined_shown, end_shown, steps_shown, run_shown, links_listed, fare_shown, found_fare, found_shown, heading_of, word_shown, report_with, report_of, exact_report_of, accepted_text};
 ghost use Rattle.wi_report.specs.private.Modes.{mode_line};
 
 use crate::shown::{put_counted, put_known, put_links, put_location};
@@ -119,6 +119,41 @@ fn put_word(word: Word, text: &mut Text) -> Result<(), NoMemory>
     }
 }
 
+/// Adds what a report on an answer to a problem says before the line of how the answer was found: the lines `answer:` and, where the
+/// answer shows a run, `weight:`, `effort:`, and `failed:` or `needs:` and `cause:`.
+pub fn put_heading(
+    alloc: Global,
+    problem: &Problem<'_>,
+    answer: &Answer,
+    text: &mut Text,
+) -> Result<(), NoMemory>
+    ensures { OnOk result (text.new ≡ text.old ++ heading_of problem.now.net problem.now.bounds (length problem.now.vector) answer.now) }
+{
+    put_answered(answer.word, text)?;
+    match (&answer.weight, &answer.run, &answer.verdict) {
+        (Some(weight), Some(run), Some(verdict)) => {
+            put_fare(alloc, problem, weight, run, verdict, text)
+        }
+        _ => Ok(()),
+    }
+}
+
+// Adds what a run weighs, and how it fares.
+fn put_fare(
+    alloc: Global,
+    problem: &Problem<'_>,
+    weight: &Weight,
+    run: &Run,
+    verdict: &Verdict,
+    text: &mut Text,
+) -> Result<(), NoMemory>
+    ensures { OnOk result (text.new ≡ text.old ++ fare_shown problem.now.net problem.now.bounds (length problem.now.vector) weight.now run.now verdict.now) }
+{
+    problem.keeps();
+    put_weight(problem.terms(), weight, text)?;
+    put_verdict(alloc, problem.net(), problem.bounds(), run, verdict, text)
+}
+
 // Adds what an answer shows besides its word.
 fn put_found(
     mode: Mode,
@@ -130,14 +165,11 @@ fn put_found(
     requires { IfSome answer.now.run (IsKnownRun problem.now.net) }
     ensures { OnOk result (text.new ≡ text.old ++ found_shown (mode_line mode) problem.now.net problem.now.bounds (length problem.now.vector) answer.now.weight answer.now.run answer.now.verdict) }
 {
-    problem.keeps();
-    let net = problem.net();
     match (&answer.weight, &answer.run, &answer.verdict) {
         (Some(weight), Some(run), Some(verdict)) => {
-            put_weight(problem.terms(), weight, text)?;
-            put_verdict(alloc, net, problem.bounds(), run, verdict, text)?;
+            put_fare(alloc, problem, weight, run, verdict, text)?;
             put_mode(mode, true, text)?;
-            put_listed(net, run, text)
+            put_listed(problem.net(), run, text)
         }
         _ => put_mode(mode, false, text),
     }
@@ -342,8 +374,8 @@ fn put_step_line(net: &Network, at: &Location, step: Step, text: &mut Text) -> R
     text.put("\n")
 }
 
-// Adds the line of how a packet is dropped, if it is.
-fn put_end(net: &Network, at: &Location, end: End, text: &mut Text) -> Result<(), NoMemory>
+/// Adds the line of how a packet is dropped where it is, if it is: `dropped:` and by what.
+pub fn put_end(net: &Network, at: &Location, end: End, text: &mut Text) -> Result<(), NoMemory>
     ensures { OnOk result (text.new ≡ text.old ++ end_shown net.now end at.now) }
 {
     match end {

@@ -27,8 +27,8 @@ pub(crate) fn put_counted(
     text.put(after)
 }
 
-// Adds the labels of a header, top first, each after a space.
-fn put_header(net: &Network, header: &Header, text: &mut Text) -> Result<(), NoMemory>
+/// Adds the labels of a header, top first, each after a space.
+pub fn put_header(net: &Network, header: &Header, text: &mut Text) -> Result<(), NoMemory>
     requires { labels_known net.now header.now ≡ true }
     ensures { OnOk result (text.new ≡ text.old ++ header_shown net.now header.now) }
 {
@@ -86,9 +86,9 @@ fn put_more(net: &Network, links: &FailSet, text: &mut Text) -> Result<(), NoMem
     Ok(())
 }
 
-/// Adds a link, or nothing where the network hasn't it.
+/// Adds a link as `A.i#B.j`, or nothing where the network hasn't it.
 #[tactic(auto, using(crate::proofs::ShownLemmas::unknown_link))]
-pub(crate) fn put_known(net: &Network, link: LinkId, text: &mut Text) -> Result<(), NoMemory>
+pub fn put_known(net: &Network, link: LinkId, text: &mut Text) -> Result<(), NoMemory>
     ensures { OnOk result (text.new ≡ text.old ++ link_shown net.now link) }
 {
     if link.0 < net.counts().links {

@@ -12,6 +12,8 @@ mod certificates;
 #[cfg(test)]
 mod doubles;
 #[cfg(test)]
+mod drawings;
+#[cfg(test)]
 mod drops;
 #[cfg(test)]
 mod edges;

@@ -1,11 +1,9 @@
 -- A script is its lines one after another.
-use Rattle.std.proofs.Common.{◌≡◌, ℕ, zero, suc, ◌+◌, ◌<◌, ◌≤◌, inl, inr, Bool, true, false, cond, not, ◌-◌, add-one, nat_eq, nat_lt, take, drop, List, [], ◌∷◌, ◌++◌, Some, None, Result, Ok, Err, length, position, refl, sym, ap, subst, ◌∙◌, arith}
-use Rattle.std.specs.Prelude.{◌==◌}
-use Rattle.std.specs.List.{position_or_len}
+use Rattle.std.proofs.Common.{◌≡◌, ℕ, inl, inr, List, [], ◌∷◌, ◌++◌, Some, Result, Ok, Err, length, refl, sym, ap, subst, ◌∙◌, arith}
 use Rattle.std.specs.Result.{IfErr, IsErrAnd}
-use Rattle.std.proofs.lemmas.Bool.{eqb-true, ltb-true, ltb-false}
-use Rattle.std.proofs.lemmas.List.{append_assoc, take_rest}
-use Rattle.std.proofs.lemmas.Option.{none-some, cond_some}
+use Rattle.std.proofs.lemmas.List.{append_assoc}
+use Rattle.wi_text.specs.Lines.{IsCutAt, lines_bytes}
+use Rattle.wi_text.proofs.LineLemmas.{lines_append, bytes_append}
 use Rattle.wi_labels.specs.Header.{Entry}
 use Rattle.wi_net.specs.declared.parts.LinkId.{LinkId}
 use Rattle.wi_net.specs.Net.{Net}
@@ -13,62 +11,10 @@ use Rattle.wi_world.specs.declared.world.Event.{Event}
 use Rattle.wi_script.specs.declared.script.Script.{Script}
 use Rattle.wi_script.specs.declared.script.ScriptRefused.{ScriptRefused}
 use Rattle.wi_script.specs.declared.script.ScriptRefused.TheVariants.{BadLine, Memory}
-use Rattle.wi_script.specs.Scripts.{Happens, AllHappen, AreLines, lines_bytes, is_one_line, IsFaultLine, IsNoScript}
-use Rattle.wi_script.specs.private.Meaning.{IsStart, IsEvent, IsCutAt, AreEvents, IsNoEvent, IsRest}
+use Rattle.wi_script.specs.Scripts.{Happens, AllHappen, IsFaultLine, IsNoScript}
+use Rattle.wi_script.specs.private.Meaning.{IsStart, IsEvent, AreEvents, IsNoEvent, IsRest}
 
--- ---- a line
-
-abbrev feed : ℕ → Bool
-feed b = b == 10
-
-found : (bytes : List ℕ) (n : ℕ) → position_or_len feed bytes ≡ n → n < length bytes → (bytes ≡ take n bytes ++ 10 ∷ drop (suc n) bytes) × (is_one_line (take n bytes) ≡ true)
-found [] n is within = absurd (omega arith)
-found (b ∷ bytes) n is within = by (nat_eq b 10) refl n is within (found bytes (position_or_len feed bytes) refl)
-  where
-    by : (t : Bool) → nat_eq b 10 ≡ t → (n : ℕ) → cond (not t) (1 + position_or_len feed bytes) 0 ≡ n → n < length (b ∷ bytes)
-        → (position_or_len feed bytes < length bytes → (bytes ≡ take (position_or_len feed bytes) bytes ++ 10 ∷ drop (suc (position_or_len feed bytes)) bytes) × (is_one_line (take (position_or_len feed bytes) bytes) ≡ true))
-        → (b ∷ bytes ≡ take n (b ∷ bytes) ++ 10 ∷ drop (suc n) (b ∷ bytes)) × (is_one_line (take n (b ∷ bytes)) ≡ true)
-    by true here zero is within below = (ap (λ x. x ∷ bytes) (eqb-true b 10 here), refl)
-    by true here (suc n) is within below = absurd (omega arith)
-    by false here zero is within below = absurd (omega arith)
-    by false here (suc n) is within below =
-        let same : position_or_len feed bytes ≡ n = omega arith in
-        let more = rw same at (below (omega arith)) in
-        (ap (λ x. b ∷ x) more.0, rw here more.1)
-
-unfound : (bytes : List ℕ) → length bytes ≤ position_or_len feed bytes → is_one_line bytes ≡ true
-unfound [] past = refl
-unfound (b ∷ bytes) past = by (nat_eq b 10) refl past (unfound bytes)
-  where
-    by : (t : Bool) → nat_eq b 10 ≡ t → length (b ∷ bytes) ≤ cond (not t) (1 + position_or_len feed bytes) 0 → (length bytes ≤ position_or_len feed bytes → is_one_line bytes ≡ true) → is_one_line (b ∷ bytes) ≡ true
-    by true here past below = absurd (omega arith)
-    by false here past below = rw here (below (omega arith))
-
-pub cut_none : (bytes : List ℕ) → None ≡ position feed bytes → is_one_line bytes ≡ true
-cut_none bytes e = by (nat_lt (position_or_len feed bytes) (length bytes)) refl e
-  where
-    by : (t : Bool) → nat_lt (position_or_len feed bytes) (length bytes) ≡ t → None ≡ cond t (Some (position_or_len feed bytes)) None → is_one_line bytes ≡ true
-    by true is e = absurd (none-some (position_or_len feed bytes) e)
-    by false is e = unfound bytes (ltb-false (position_or_len feed bytes) (length bytes) is)
-
-pub cut_some : (bytes : List ℕ) (n : ℕ) → Some n ≡ position feed bytes → (bytes ≡ take n bytes ++ 10 ∷ take (length bytes - (n + 1)) (drop (n + 1) bytes)) × (is_one_line (take n bytes) ≡ true)
-cut_some bytes n e =
-    let parts : (nat_lt (position_or_len feed bytes) (length bytes) ≡ true) × (position_or_len feed bytes ≡ n) = cond_some (nat_lt (position_or_len feed bytes) (length bytes)) (position_or_len feed bytes) n (sym e) in
-    let cut = found bytes n parts.1 (subst (λ x. x < length bytes) parts.1 (ltb-true (position_or_len feed bytes) (length bytes) parts.0)) in
-    (cut.0 ∙ ap (λ x. take n bytes ++ 10 ∷ x) (rw (← add-one n) (sym (take_rest bytes (n + 1)))), cut.1)
-
--- ---- lists of lines
-
-lines_append : (before : List (List ℕ)) (line : List ℕ) → AreLines before → is_one_line line ≡ true → AreLines (before ++ line ∷ [])
-lines_append [] line are is = (is, tt)
-lines_append (first ∷ before) line are is = (are.0, lines_append before line are.1 is)
-
-bytes_append : (before : List (List ℕ)) (line rest : List ℕ) → lines_bytes (before ++ line ∷ []) ++ rest ≡ lines_bytes before ++ (line ++ 10 ∷ rest)
-bytes_append [] line rest = append_assoc line (10 ∷ []) rest
-bytes_append (first ∷ before) line rest =
-    append_assoc first (10 ∷ lines_bytes (before ++ line ∷ [])) rest
-    ∙ ap (λ x. first ++ 10 ∷ x) (bytes_append before line rest)
-    ∙ sym (append_assoc first (10 ∷ lines_bytes before) (line ++ 10 ∷ rest))
+-- ---- lists of events
 
 happen_append : (net : Net) (before : List (List ℕ)) (events : List Event) (line : List ℕ) (event : Event) → AllHappen net before events → Happens net line event → AllHappen net (before ++ line ∷ []) (events ++ event ∷ [])
 happen_append net [] [] line event all here = (here, tt)

@@ -1,7 +1,9 @@
 -- A text is a script in one way, and no script where a line has a fault; and one line of it has the first fault.
-use Rattle.std.proofs.Common.{◌≡◌, ℕ, ◌+◌, inl, inr, Bool, true, false, nat_eq, map, List, [], ◌∷◌, ◌++◌, length, Option, Some, None, refl, sym, ap, ap₂, subst, ◌∙◌}
+use Rattle.std.proofs.Common.{◌≡◌, ℕ, ◌+◌, inl, inr, Bool, true, false, map, List, [], ◌∷◌, ◌++◌, length, Option, Some, None, refl, sym, ap, subst, ◌∙◌}
 use Rattle.std.proofs.lemmas.Bool.{true≢false}
-use Rattle.std.proofs.lemmas.List.{append-nil, append_assoc}
+use Rattle.std.proofs.lemmas.List.{append-nil}
+use Rattle.wi_text.specs.Lines.{AreLines, lines_bytes, is_one_line}
+use Rattle.wi_text.proofs.LineLemmas.{Begun, Same, Shorter, Longer, begun, ends, lines_begin, no_feed, not_nothing}
 use Rattle.wi_labels.specs.Header.{Entry, is_valid_header}
 use Rattle.wi_net.specs.declared.parts.LinkId.{LinkId}
 use Rattle.wi_net.specs.Net.{Net}
@@ -10,48 +12,8 @@ use Rattle.wi_script.specs.declared.script.Script.{Script}
 use Rattle.wi_script.specs.declared.script.ScriptCause.{ScriptCause}
 use Rattle.wi_script.specs.declared.script.ScriptCause.TheVariants.{NotAnEvent, UnknownName, BadHeader, AlreadyFailed, NotFailed, TooManyFailed, NoSuchGroup, NoSuchMember, NotFirstActive, LinkFailed, Undefined}
 use Rattle.wi_script.specs.Lines.{Name, At}
-use Rattle.wi_script.specs.Scripts.{label_of, event_of, Begins, Happens, AllHappen, AreLines, lines_bytes, is_one_line, IsScript, IsCause, AreFine, is_first, IsFaultLine, IsBadLine}
+use Rattle.wi_script.specs.Scripts.{label_of, event_of, Begins, Happens, AllHappen, IsScript, IsCause, AreFine, is_first, IsFaultLine, IsBadLine}
 use Rattle.wi_script.proofs.Outcomes.{written_one_way}
-
--- ---- lines
-
-not_nothing : (line rest : List ℕ) → [] ≡ line ++ 10 ∷ rest → ⊥
-not_nothing [] rest e = cc
-not_nothing (b ∷ line) rest e = cc
-
-no_feed : (left right : List ℕ) → is_one_line (left ++ 10 ∷ right) ≡ true → ⊥
-no_feed [] right is = cc
-no_feed (b ∷ left) right is = by (nat_eq b 10) refl (no_feed left right)
-  where
-    by : (t : Bool) → nat_eq b 10 ≡ t → (is_one_line (left ++ 10 ∷ right) ≡ true → ⊥) → ⊥
-    by true here below = true≢false (sym (rw here at is))
-    by false here below = below (rw here at is)
-
--- a line ends at the first line feed
-ends : (a b r s : List ℕ) → is_one_line a ≡ true → is_one_line b ≡ true → a ++ 10 ∷ r ≡ b ++ 10 ∷ s → (a ≡ b) × (r ≡ s)
-ends [] [] r s one other e = (refl, cc)
-ends [] (y ∷ b) r s one other e = let feed : 10 ≡ y = cc in let bad : false ≡ true = rw (← feed) at other in absurd (true≢false (sym bad))
-ends (x ∷ a) [] r s one other e = let feed : x ≡ 10 = cc in let bad : false ≡ true = rw feed at one in absurd (true≢false (sym bad))
-ends (x ∷ a) (y ∷ b) r s one other e =
-    let rest = ends a b r s (later x a one) (later y b other) cc in
-    let same : x ≡ y = cc in
-    (rw (same, rest.0) refl, rest.1)
-  where
-    later : (x : ℕ) (a : List ℕ) → is_one_line (x ∷ a) ≡ true → is_one_line a ≡ true
-    later x a one = by (nat_eq x 10) refl
-      where
-        by : (t : Bool) → nat_eq x 10 ≡ t → is_one_line a ≡ true
-        by true here = absurd (true≢false (sym (rw here at one)))
-        by false here = rw here at one
-
--- lines that begin a text begin its lines
-lines_begin : (all before : List (List ℕ)) (left : List ℕ) → AreLines all → AreLines before → lines_bytes all ≡ lines_bytes before ++ left → (more : List (List ℕ)) × (all ≡ before ++ more) × (left ≡ lines_bytes more) × AreLines more
-lines_begin all [] left are some e = (all, refl, sym e, are)
-lines_begin [] (y ∷ before) left are some e = absurd (not_nothing y (lines_bytes before ++ left) (e ∙ append_assoc y (10 ∷ lines_bytes before) left))
-lines_begin (x ∷ all) (y ∷ before) left are some e =
-    let cut = ends x y (lines_bytes all) (lines_bytes before ++ left) are.0 some.0 (e ∙ append_assoc y (10 ∷ lines_bytes before) left) in
-    let later = lines_begin all before left are.1 some.1 cut.1 in
-    (later.0, ap₂ (λ (z : List ℕ) (zs : List (List ℕ)). z ∷ zs) cut.0 later.1, later.2, later.3)
 
 -- ---- what a line means
 
@@ -185,43 +147,6 @@ script_fine net text s n cause a b =
     left before (line ∷ more) rest is e are f = no_fault net before line more (lines_bytes more) rest cause (subst (AreFine net) is fine) are.0 e f
 
 -- ---- one first fault
-
--- of two ways to begin a text with lines, either the lines are the same, or those of one go on where the other's end
-record GoOn (before longer : List (List ℕ)) (left : List ℕ) : Type 0 where
-  line : List ℕ
-  after : List (List ℕ)
-  rest : List ℕ
-  longer_is : longer ≡ before ++ line ∷ after
-  left_is : left ≡ line ++ 10 ∷ rest
-  one : is_one_line line ≡ true
-
-go_on : (x y : List ℕ) (before longer : List (List ℕ)) (left : List ℕ) → x ≡ y → GoOn before longer left → GoOn (x ∷ before) (y ∷ longer) left
-go_on x y before longer left same g = record {
-  line = g.line;
-  after = g.after;
-  rest = g.rest;
-  longer_is = ap₂ (λ (z : List ℕ) (zs : List (List ℕ)). z ∷ zs) (sym same) g.longer_is;
-  left_is = g.left_is;
-  one = g.one;
-}
-
-data Begun (a b : List (List ℕ)) (r s : List ℕ) : Type 0 where
-  Same : a ≡ b → r ≡ s → Begun a b r s
-  Shorter : GoOn a b r → Begun a b r s
-  Longer : GoOn b a s → Begun a b r s
-
-begun_more : (x y : List ℕ) (a b : List (List ℕ)) (r s : List ℕ) → x ≡ y → Begun a b r s → Begun (x ∷ a) (y ∷ b) r s
-begun_more x y a b r s same (Same lines left) = Same (ap₂ (λ (z : List ℕ) (zs : List (List ℕ)). z ∷ zs) same lines) left
-begun_more x y a b r s same (Shorter g) = Shorter (go_on x y a b r same g)
-begun_more x y a b r s same (Longer g) = Longer (go_on y x b a s (sym same) g)
-
-begun : (a b : List (List ℕ)) (r s : List ℕ) → AreLines a → AreLines b → lines_bytes a ++ r ≡ lines_bytes b ++ s → Begun a b r s
-begun [] [] r s one other e = Same refl e
-begun [] (y ∷ b) r s one other e = Shorter (record { line = y; after = b; rest = lines_bytes b ++ s; longer_is = refl; left_is = e ∙ append_assoc y (10 ∷ lines_bytes b) s; one = other.0 })
-begun (x ∷ a) [] r s one other e = Longer (record { line = x; after = a; rest = lines_bytes a ++ r; longer_is = refl; left_is = sym e ∙ append_assoc x (10 ∷ lines_bytes a) r; one = one.0 })
-begun (x ∷ a) (y ∷ b) r s one other e =
-    let cut = ends x y (lines_bytes a ++ r) (lines_bytes b ++ s) one.0 other.0 (sym (append_assoc x (10 ∷ lines_bytes a) r) ∙ e ∙ append_assoc y (10 ∷ lines_bytes b) s) in
-    begun_more x y a b r s cut.0 (begun a b r s one.1 other.1 cut.1)
 
 -- a line has one cause
 cause_first : (net : Net) (text : List ℕ) (c d : ScriptCause) → IsCause net true text c → IsCause net true text d → c ≡ d

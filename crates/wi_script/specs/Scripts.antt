@@ -3,6 +3,7 @@ use Rattle.std.specs.Prelude.{◌≡◌, ◌≢◌, ℕ, ◌+◌, ◌-◌, ◌^�
 use Rattle.std.specs.Option.{option_map, option_and_then}
 use Rattle.std.specs.Str.Parse.{digits_value}
 use Rattle.wi_labels.specs.Header.{Entry, is_valid_header}
+use Rattle.wi_text.specs.Lines.{AreLines, lines_bytes, is_one_line}
 use Rattle.wi_net.specs.declared.parts.LinkId.{LinkId}
 use Rattle.wi_net.specs.Net.{Net}
 use Rattle.wi_net.specs.Finding.{find_label, find_router, find_out, find_in}
@@ -54,20 +55,6 @@ abbrev pub AllHappen : Net → List (List ℕ) → List Event → Type 0
 AllHappen net [] [] = Unit {0}
 AllHappen net (text ∷ texts) (event ∷ events) = Happens net text event × AllHappen net texts events
 AllHappen net _ _ = ⊥
-
--- the lines of a script, each with its line feed
-abbrev pub lines_bytes : List (List ℕ) → List ℕ
-lines_bytes [] = []
-lines_bytes (line ∷ lines) = line ++ 10 ∷ lines_bytes lines
-
--- no line feed in a text
-abbrev pub is_one_line : List ℕ → Bool
-is_one_line [] = true
-is_one_line (b ∷ text) = if b == 10 then false else is_one_line text
-
-abbrev pub AreLines : List (List ℕ) → Type 0
-AreLines [] = Unit {0}
-AreLines (line ∷ lines) = (is_one_line line ≡ true) × AreLines lines
 
 -- the bytes are a script
 pub record IsScript (net : Net) (text : List ℕ) (script : Script) : Type 0 where

@@ -1,9 +1,9 @@
-//! Bytes are cut at line feeds before they are taken for text, so that a line that isn't UTF-8 is a fault of that line, and
-//! those before it are read. An event is kept for each line behind the first.
-ghost use Rattle.std.specs.Prelude.{◌≡◌, ◌==◌, ◌++◌, ◌∷◌, [], ℕ, List, IfOk, IfErr, OnOk, option_map, position};
+//! Bytes are cut into lines before they are taken for text, so that a line that isn't UTF-8 is a fault of that line, and those
+//! before it are read. An event is kept for each line behind the first.
+ghost use Rattle.std.specs.Prelude.{◌≡◌, ◌++◌, ◌∷◌, [], IfOk, IfErr, OnOk};
 ghost use Rattle.wi_script.specs.Scripts.{IsScript, IsNoScript};
 ghost use Rattle.wi_script.specs.Known.{IsScriptOf};
-ghost use Rattle.wi_script.specs.private.Meaning.{IsStart, IsEvent, IsCutAt, IsRest};
+ghost use Rattle.wi_script.specs.private.Meaning.{IsStart, IsEvent, IsRest};
 
 use crate::meaning::{read_event, read_start};
 use crate::script::{Script, ScriptCause, ScriptRefused};
@@ -12,6 +12,7 @@ use std::str::from_utf8;
 use wi_base::{Listed, NoMemory};
 use wi_labels::Header;
 use wi_net::{LinkId, Network};
+use wi_text::next_line;
 use wi_world::Event;
 
 /// The script that bytes are on a network: lines of UTF-8, each ended by a line feed. The first is `at LINK LABEL ..`, with
@@ -80,19 +81,4 @@ fn one_line(net: &Network, line: &[u8]) -> Result<Event, ScriptCause>
         Ok(text) => read_event(net, text),
         Err(_) => Err(ScriptCause::NotAnEvent),
     }
-}
-
-// A line without its line feed, and what stands behind it.
-fn next_line<'a>(bytes: &'a [u8]) -> Option<(&'a [u8], &'a [u8])>
-    ensures { IsCutAt bytes.now (option_map {U = List ℕ × List ℕ} (λ r. (r.0.now, r.1.now)) result) }
-{
-    let end = line_end(bytes)?;
-    Some((&bytes[..end], &bytes[end + 1..]))
-}
-
-// Where the first line feed is.
-fn line_end(bytes: &[u8]) -> Option<usize>
-    ensures { result ≡ position (λ b. b == 10) bytes.now }
-{
-    bytes.iter().position(|byte| *byte == b'\n')
 }

@@ -185,43 +185,43 @@ pairs_end o p e items = with_pairs o (in_pairs o p no_pairs) (pairs_at e items p
 
 -- the place behind a pair
 abbrev behind_pair : End → End → PairPlace
-behind_pair from end.Any = pair.Whole (record { from = from; to = end.Any })
+behind_pair from (end.Any at) = pair.Whole (record { from = from; to = end.Any at })
 behind_pair from (end.Router n) = pair.ToRouter from n
 behind_pair from (end.Interface n i) = pair.Whole (record { from = from; to = end.Interface n i })
 
 to_end : (o : Owner) (p : Parse) (e : Bool) (items : List Pair) (from to : End) (rest : List Token)
     → after_all (in_pairs o p (pairs_at e items (pair.ToDue from))) (end_tokens to rest) ≡ after_all (in_pairs o p (pairs_at e items (behind_pair from to))) rest
-to_end o p e items from end.Any rest = refl
+to_end o p e items from (end.Any at) rest = refl
 to_end o p e items from (end.Router n) rest = refl
 to_end o p e items from (end.Interface n i) rest = refl
 
 from_due : (o : Owner) (p : Parse) (e : Bool) (items : List Pair) (from : End) (rest : List Token)
     → after_all (in_pairs o p (pairs_at e items pair.Due)) (end_tokens from (token.Mark Hash ∷ rest)) ≡ after_all (in_pairs o p (pairs_at e items (pair.ToDue from))) rest
-from_due o p e items end.Any rest = refl
+from_due o p e items (end.Any at) rest = refl
 from_due o p e items (end.Router n) rest = refl
 from_due o p e items (end.Interface n i) rest = refl
 
 from_opened : (o : Owner) (p : Parse) (e : Bool) (items : List Pair) (from : End) (rest : List Token)
     → after_all (in_pairs o p (pairs_at e items pair.Opened)) (end_tokens from (token.Mark Hash ∷ rest)) ≡ after_all (in_pairs o p (pairs_at e items (pair.ToDue from))) rest
-from_opened o p e items end.Any rest = refl
+from_opened o p e items (end.Any at) rest = refl
 from_opened o p e items (end.Router n) rest = refl
 from_opened o p e items (end.Interface n i) rest = refl
 
 pair_comma : (o : Owner) (p : Parse) (e : Bool) (items : List Pair) (from to : End) (rest : List Token)
     → after_all (in_pairs o p (pairs_at e items (behind_pair from to))) (token.Mark Comma ∷ rest) ≡ after_all (in_pairs o p (pairs_at e (items ++ record { from = from; to = to } ∷ []) pair.Due)) rest
-pair_comma o p e items from end.Any rest = refl
+pair_comma o p e items from (end.Any at) rest = refl
 pair_comma o p e items from (end.Router n) rest = refl
 pair_comma o p e items from (end.Interface n i) rest = refl
 
 pair_close : (o : Owner) (p : Parse) (e : Bool) (items : List Pair) (from to : End) (rest : List Token)
     → after_all (in_pairs o p (pairs_at e items (behind_pair from to))) (token.Mark CloseSquare ∷ rest) ≡ after_all (pairs_end o p e (items ++ record { from = from; to = to } ∷ [])) rest
-pair_close owner.Path p e items from end.Any rest = refl
+pair_close owner.Path p e items from (end.Any at) rest = refl
 pair_close owner.Path p e items from (end.Router n) rest = refl
 pair_close owner.Path p e items from (end.Interface n i) rest = refl
-pair_close owner.Down p e items from end.Any rest = refl
+pair_close owner.Down p e items from (end.Any at) rest = refl
 pair_close owner.Down p e items from (end.Router n) rest = refl
 pair_close owner.Down p e items from (end.Interface n i) rest = refl
-pair_close owner.Up p e items from end.Any rest = refl
+pair_close owner.Up p e items from (end.Any at) rest = refl
 pair_close owner.Up p e items from (end.Router n) rest = refl
 pair_close owner.Up p e items from (end.Interface n i) rest = refl
 

@@ -17,10 +17,10 @@ use Rattle.wi_syntax.specs.declared.token.Token.TheVariants as token
 use Rattle.wi_syntax.specs.declared.written.Written.{Written}
 use Rattle.wi_syntax.specs.Tokens.{mark_byte, spelling, IsToken}
 use Rattle.wi_syntax.specs.Grammar.{plain}
-use Rattle.wi_syntax.specs.private.Parsing.{Parse, after, after_all, finish}
+use Rattle.wi_syntax.specs.private.Parsing.{Parse, after, after_all, token_of, finish}
 use Rattle.wi_syntax.specs.private.Reading.{Reading, reading, keep, behind, longer, begin, after_plain, end_quoted, after_quoted, after_byte, after_bytes, finished}
 use Rattle.wi_syntax.proofs.Options.{then_some}
-use Rattle.wi_syntax.proofs.Words.{admits_front}
+use Rattle.wi_syntax.proofs.Words.{admits_front, mark_there, end_there}
 
 -- ---- bytes
 
@@ -33,7 +33,7 @@ not_quote b e = grind (arith, nat_tests)
 pub space_goes : (at : ℕ) (p : Parse) (b : ℕ) → is_space b ≡ true → after_byte (reading at p None) b ≡ Some (reading (at + 1) p None)
 space_goes at p b e = rw (plain_space b e, e) refl
 
-pub mark_goes : (at : ℕ) (p : Parse) (m : Mark) → after_byte (reading at p None) (mark_byte m) ≡ behind (at + 1) (after p (token.Mark m))
+pub mark_goes : (at : ℕ) (p : Parse) (m : Mark) → after_byte (reading at p None) (mark_byte m) ≡ behind (at + 1) (after p (token_of p at m))
 mark_goes at p Less = refl
 mark_goes at p Greater = refl
 mark_goes at p OpenRound = refl
@@ -142,7 +142,8 @@ opened at = record { at = at; quoted = true; text = [] }
 
 pub token_goes : (at : ℕ) (p q : Parse) (t : Token) (rest : List ℕ) (w : Written) → IsToken at t rest → after p t ≡ Some q → Ends (after_bytes (reading (at + length (spelling t)) q None) rest) w
     → Ends (after_bytes (reading at p None) (spelling t ++ rest)) w
-token_goes at p q (token.Mark m) rest w is e ends = ends_by _ _ w (one_byte (reading at p None) (reading (at + 1) q None) (mark_byte m) rest (mark_goes at p m ∙ ap (behind (at + 1)) e)) ends
+token_goes at p q (token.Mark m) rest w is e ends = ends_by _ _ w (one_byte (reading at p None) (reading (at + 1) q None) (mark_byte m) rest (mark_goes at p m ∙ ap (λ z. behind (at + 1) (after p z)) (mark_there p q at m e) ∙ ap (behind (at + 1)) e)) ends
+token_goes at p q (token.AnyEnd n) rest w is e ends = ends_by _ _ w (one_byte (reading at p None) (reading (at + 1) q None) 46 rest (mark_goes at p Dot ∙ ap (λ z. behind (at + 1) (after p z)) (ap (λ z. token_of p z Dot) (sym is) ∙ end_there p q n e) ∙ ap (behind (at + 1)) e)) ends
 token_goes at p q (token.Word n) rest w is e ends = by_quote n.quoted refl
   where
     plain_word : n.quoted ≡ false → (s : List ℕ) → n.text ≡ s → is_plain_name s ≡ true → begins_with is_plain rest ≡ false → Ends (after_bytes (reading (at + length s) q None) rest) w → Ends (after_bytes (reading at p None) (s ++ rest)) w

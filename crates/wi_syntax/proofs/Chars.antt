@@ -13,7 +13,7 @@ use Rattle.wi_text.specs.Characters.{is_space, is_plain}
 use Rattle.wi_syntax.specs.Names.{Named}
 use Rattle.wi_syntax.specs.declared.token.Token.TheVariants as token
 use Rattle.wi_syntax.specs.Grammar.{plain}
-use Rattle.wi_syntax.specs.private.Parsing.{Parse, after}
+use Rattle.wi_syntax.specs.private.Parsing.{Parse, after, token_of}
 use Rattle.wi_syntax.specs.private.Reading.{Reading, reading, mark_of, keep, behind, longer, begin, after_plain, end_quoted, after_quoted, after_quoted_char, after_byte, after_char, after_bytes}
 use Rattle.wi_syntax.proofs.Bytes.{quoted_go}
 
@@ -58,10 +58,10 @@ not_quote b h = ne_eqb b 34 (λ e. (let k : b ≡ 34 = e in omega arith))
 -- nothing begins with a character that isn't ASCII
 high_begins : (at next : ℕ) (p : Parse) (b : ℕ) → 128 ≤ b → begin at next p b ≡ None
 high_begins at next p b h =
-    ap (λ z. if z then keep next p (plain at (b ∷ [])) else if is_space b then Some (reading next p None) else if b == 34 then keep next p (record { at = at; quoted = true; text = [] }) else option_and_then (λ m. behind next (after p (token.Mark m))) (mark_of b)) (high_plain b h)
-    ∙ ap (λ z. if z then Some (reading next p None) else if b == 34 then keep next p (record { at = at; quoted = true; text = [] }) else option_and_then (λ m. behind next (after p (token.Mark m))) (mark_of b)) (high_space b h)
-    ∙ ap (λ z. if z then keep next p (record { at = at; quoted = true; text = [] }) else option_and_then (λ m. behind next (after p (token.Mark m))) (mark_of b)) (not_quote b h)
-    ∙ ap (option_and_then (λ m. behind next (after p (token.Mark m)))) (high_mark b h)
+    ap (λ z. if z then keep next p (plain at (b ∷ [])) else if is_space b then Some (reading next p None) else if b == 34 then keep next p (record { at = at; quoted = true; text = [] }) else option_and_then (λ m. behind next (after p (token_of p at m))) (mark_of b)) (high_plain b h)
+    ∙ ap (λ z. if z then Some (reading next p None) else if b == 34 then keep next p (record { at = at; quoted = true; text = [] }) else option_and_then (λ m. behind next (after p (token_of p at m))) (mark_of b)) (high_space b h)
+    ∙ ap (λ z. if z then keep next p (record { at = at; quoted = true; text = [] }) else option_and_then (λ m. behind next (after p (token_of p at m))) (mark_of b)) (not_quote b h)
+    ∙ ap (option_and_then (λ m. behind next (after p (token_of p at m)))) (high_mark b h)
 
 high_ends : (at next : ℕ) (p : Parse) (n : Named) (b : ℕ) → 128 ≤ b → after_plain at next p n b ≡ None
 high_ends at next p n b h = ap (λ z. if z then keep next p (longer n (b ∷ [])) else option_and_then (λ q. begin at next q b) (after p (token.Word n))) (high_plain b h) ∙ nowhere (after p (token.Word n))

@@ -35,6 +35,7 @@ use Rattle.wi_syntax.specs.Grammar.{plain}
 use Rattle.wi_syntax.specs.private.Lists.{NameListing, PairListing, no_known, with_item, after_name, after_pair, whole_pair, after_in_names, after_in_pairs}
 use Rattle.wi_syntax.specs.private.Parsing.{Parse, is_whole, with_atom, phrase_of, with_phrase, with_path, with_names, with_pairs, is_keyword, after_at, after, after_before_up, last_of, may_end, finish}
 use Rattle.wi_syntax.specs.private.Reading.{reading, is_name_due, is_word_due, takes_names, begins, may_begin, admits, longer, behind, after_bytes}
+use Rattle.wi_syntax.proofs.Words.{mark_there}
 use Rattle.wi_syntax.proofs.Bytes.{Ends, ends_by, one_byte, mark_goes, space_goes, plains_go, plain_ends, quoted_goes, quote_ends, token_goes}
 
 -- some text leads from a byte on to the end of a query
@@ -47,7 +48,7 @@ Completable p = (at : ℕ) → Completes at p
 by_mark : (p q : Parse) (m : Mark) → after p (token.Mark m) ≡ Some q → Completable q → Completable p
 by_mark p q m e k at =
     let later = k (at + 1) in
-    (mark_byte m ∷ later.0, later.1, ends_by _ _ later.1 (one_byte (reading at p None) (reading (at + 1) q None) (mark_byte m) later.0 (mark_goes at p m ∙ ap (behind (at + 1)) e)) later.2)
+    (mark_byte m ∷ later.0, later.1, ends_by _ _ later.1 (one_byte (reading at p None) (reading (at + 1) q None) (mark_byte m) later.0 (mark_goes at p m ∙ ap (λ z. behind (at + 1) (after p z)) (mark_there p q at m e) ∙ ap (behind (at + 1)) e)) later.2)
 
 -- the name "a", between quotation marks
 abbrev letter : ℕ → Named
@@ -58,6 +59,13 @@ by_word p k at =
     let next = k at in
     let later = next.2 (at + length (spelling (token.Word (letter at)))) in
     (spelling (token.Word (letter at)) ++ later.0, later.1, token_goes at p next.0 (token.Word (letter at)) later.0 later.1 (refl, refl) next.1 later.2)
+
+-- any router, as an end of a pair
+by_end : (p : Parse) → ((at : ℕ) → (q : Parse) × (after p (token.AnyEnd at) ≡ Some q) × Completable q) → Completable p
+by_end p k at =
+    let next = k at in
+    let later = next.2 (at + 1) in
+    (46 ∷ later.0, later.1, token_goes at p next.0 (token.AnyEnd at) later.0 later.1 refl next.1 later.2)
 
 ended : (p : Parse) (w : Written) → finish p ≡ Some w → Completable p
 ended p w e at = ([], w, (reading at p None, refl, e))
@@ -139,7 +147,7 @@ names_any h p name.Due is l = by_word p (λ at. (
 abbrev is_element : Token → Bool
 is_element (token.Word n) = true
 is_element (token.Mark Hash) = true
-is_element (token.Mark Dot) = true
+is_element (token.AnyEnd at) = true
 is_element _ = false
 
 -- where the list of an owner is due
@@ -162,7 +170,8 @@ pair_token o p t place is e ok = ap (λ z. after_at z p t) is ∙ ap (option_map
     in_pairs : (l : PairListing) (t : Token) (place : PairPlace) → is_element t ≡ true → after_pair l.place t ≡ Some place → after_in_pairs l t ≡ Some (record { except = l.except; items = l.items; place = place }, false)
     in_pairs l (token.Word n) place ok e = rw e refl
     in_pairs l (token.Mark Hash) place ok e = rw e refl
-    in_pairs l (token.Mark Dot) place ok e = rw e refl
+    in_pairs l (token.AnyEnd at) place ok e = rw e refl
+    in_pairs l (token.Mark Dot) place ok e = cc
     in_pairs l (token.Mark Less) place ok e = cc
     in_pairs l (token.Mark Greater) place ok e = cc
     in_pairs l (token.Mark OpenRound) place ok e = cc
@@ -194,9 +203,9 @@ has_again owner.Up p place h = h
 
 to_due : (o : Owner) (p : Parse) (from : End) → p.stage ≡ stage.LinkList o → HasNumber (stage.LinkList o) p → p.pairs.place ≡ pair.ToDue from → Completable p
 to_due o p from is h e =
-    let x : Pair = record { from = from; to = end.Any } in
-    by_mark p (with_place p (pair.Whole x)) Dot (pair_token o p (token.Mark Dot) (pair.Whole x) is (rw e refl) refl)
-    (pairs_whole o (with_place p (pair.Whole x)) x is (has_again o p (pair.Whole x) h) refl)
+    by_end p (λ at.
+    (let x : Pair = record { from = from; to = end.Any at } in
+    (with_place p (pair.Whole x), pair_token o p (token.AnyEnd at) (pair.Whole x) is (rw e refl) refl, pairs_whole o (with_place p (pair.Whole x)) x is (has_again o p (pair.Whole x) h) refl)))
 
 hash_due : (o : Owner) (p : Parse) (from : End) → p.stage ≡ stage.LinkList o → HasNumber (stage.LinkList o) p → p.pairs.place ≡ pair.HashDue from → Completable p
 hash_due o p from is h e =
@@ -204,8 +213,16 @@ hash_due o p from is h e =
     (to_due o (with_place p (pair.ToDue from)) from is (has_again o p (pair.ToDue from) h) refl)
 
 pairs_at : (o : Owner) (p : Parse) (place : PairPlace) → p.stage ≡ stage.LinkList o → HasNumber (stage.LinkList o) p → p.pairs.place ≡ place → Completable p
-pairs_at o p pair.Opened is h e = by_mark p (with_place p (pair.HashDue end.Any)) Dot (pair_token o p (token.Mark Dot) (pair.HashDue end.Any) is (rw e refl) refl) (hash_due o (with_place p (pair.HashDue end.Any)) end.Any is (has_again o p (pair.HashDue end.Any) h) refl)
-pairs_at o p pair.Due is h e = by_mark p (with_place p (pair.HashDue end.Any)) Dot (pair_token o p (token.Mark Dot) (pair.HashDue end.Any) is (rw e refl) refl) (hash_due o (with_place p (pair.HashDue end.Any)) end.Any is (has_again o p (pair.HashDue end.Any) h) refl)
+pairs_at o p pair.Opened is h e = by_end p (λ at. (
+  with_place p (pair.HashDue (end.Any at)),
+  pair_token o p (token.AnyEnd at) (pair.HashDue (end.Any at)) is (rw e refl) refl,
+  hash_due o (with_place p (pair.HashDue (end.Any at))) (end.Any at) is (has_again o p (pair.HashDue (end.Any at)) h) refl,
+))
+pairs_at o p pair.Due is h e = by_end p (λ at. (
+  with_place p (pair.HashDue (end.Any at)),
+  pair_token o p (token.AnyEnd at) (pair.HashDue (end.Any at)) is (rw e refl) refl,
+  hash_due o (with_place p (pair.HashDue (end.Any at))) (end.Any at) is (has_again o p (pair.HashDue (end.Any at)) h) refl,
+))
 pairs_at o p (pair.FromRouter n) is h e = by_mark p (with_place p (pair.ToDue (end.Router n))) Hash (pair_token o p (token.Mark Hash) (pair.ToDue (end.Router n)) is (rw e refl) refl) (to_due o (with_place p (pair.ToDue (end.Router n))) (end.Router n) is (has_again o p (pair.ToDue (end.Router n)) h) refl)
 pairs_at o p (pair.FromInterfaceDue n) is h e = by_word p (λ at. (
   with_place p (pair.HashDue (end.Interface n (letter at))),

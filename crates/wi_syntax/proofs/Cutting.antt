@@ -16,7 +16,7 @@ use Rattle.wi_syntax.specs.declared.token.Token.TheVariants as token
 use Rattle.wi_syntax.specs.declared.written.Written.{Written}
 use Rattle.wi_syntax.specs.Tokens.{mark_byte, spelling, IsToken}
 use Rattle.wi_syntax.specs.Grammar.{plain}
-use Rattle.wi_syntax.specs.private.Parsing.{Parse, after, after_all, finish}
+use Rattle.wi_syntax.specs.private.Parsing.{Parse, after, after_all, takes_ends, token_of, finish}
 use Rattle.wi_syntax.specs.private.Reading.{Reading, reading, mark_of, admits, keep, behind, longer, begin, after_plain, end_quoted, after_quoted, after_bytes, finished}
 use Rattle.wi_syntax.proofs.Options.{then_some}
 
@@ -95,6 +95,47 @@ quoted_before at p text w g =
     (refl, and_from (nat_lt 0 (length g.more)) (list_all is_name_byte g.more) (lt-ltb 0 (length g.more) g.some) g.named)
     g.word (moved (at + 1 + length g.more + 1) (at + suc (length (g.more ++ 34 ∷ []))) g.next g.rest w (omega arith) g.leads)
 
+-- the token that a mark is has its byte alone, and may be there
+one_mark : (p : Parse) (at : ℕ) (m : Mark) → spelling (token_of p at m) ≡ mark_byte m ∷ []
+one_mark p at Dot = go (takes_ends p p.stage)
+  where
+    go : (b : Bool) → spelling (if b then token.AnyEnd at else token.Mark Dot) ≡ 46 ∷ []
+    go true = refl
+    go false = refl
+one_mark p at Less = refl
+one_mark p at Greater = refl
+one_mark p at OpenRound = refl
+one_mark p at CloseRound = refl
+one_mark p at OpenSquare = refl
+one_mark p at CloseSquare = refl
+one_mark p at Hash = refl
+one_mark p at Comma = refl
+one_mark p at Caret = refl
+one_mark p at Star = refl
+one_mark p at Plus = refl
+one_mark p at Question = refl
+one_mark p at Bar = refl
+
+is_mark : (p : Parse) (at : ℕ) (m : Mark) (rest : List ℕ) → IsToken at (token_of p at m) rest
+is_mark p at Dot rest = go (takes_ends p p.stage)
+  where
+    go : (b : Bool) → IsToken at (if b then token.AnyEnd at else token.Mark Dot) rest
+    go true = refl
+    go false = tt
+is_mark p at Less rest = tt
+is_mark p at Greater rest = tt
+is_mark p at OpenRound rest = tt
+is_mark p at CloseRound rest = tt
+is_mark p at OpenSquare rest = tt
+is_mark p at CloseSquare rest = tt
+is_mark p at Hash rest = tt
+is_mark p at Comma rest = tt
+is_mark p at Caret rest = tt
+is_mark p at Star rest = tt
+is_mark p at Plus rest = tt
+is_mark p at Question rest = tt
+is_mark p at Bar rest = tt
+
 -- the byte of a mark is the mark
 abbrev IsMarkOf : ℕ → Option Mark → Type 0
 IsMarkOf b o = (m : Mark) → o ≡ Some m → mark_byte m ≡ b
@@ -160,17 +201,18 @@ from_behind at (Some q) text w ih f = (q, refl, ih at q None f.0 w f.1 f.2)
 between : (at : ℕ) (p : Parse) (b : ℕ) (text : List ℕ) (w : Written) → AreLeading text → From (begin at (at + 1) p b) text w → Leads at p (b ∷ text) w
 between at p b text w ih f = by_plain (is_plain b) refl
   where
-    by_mark : (o : Option Mark) → mark_of b ≡ o → From (option_and_then (λ m. behind (at + 1) (after p (token.Mark m))) o) text w → Leads at p (b ∷ text) w
+    by_mark : (o : Option Mark) → mark_of b ≡ o → From (option_and_then (λ m. behind (at + 1) (after p (token_of p at m))) o) text w → Leads at p (b ∷ text) w
     by_mark None e g = (let none : None ≡ Some g.0 = g.1 in cc)
     by_mark (Some m) e g =
-        let found = from_behind (at + 1) (after p (token.Mark m)) text w ih g in
-        token_before at p found.0 (token.Mark m) (b ∷ text) text w (ap (λ z. z ∷ text) (sym (marks_are b m e))) tt found.1 found.2
+        let found = from_behind (at + 1) (after p (token_of p at m)) text w ih g in
+        let one = one_mark p at m in
+        token_before at p found.0 (token_of p at m) (b ∷ text) text w (ap (λ z. z ∷ text) (sym (marks_are b m e)) ∙ ap (λ z. z ++ text) (sym one)) (is_mark p at m text) found.1 (subst (λ z. Leads (at + length z) found.0 text w) (sym one) found.2)
 
-    by_quote : (c : Bool) → (b == 34) ≡ c → From (if c then keep (at + 1) p (opened at) else option_and_then (λ m. behind (at + 1) (after p (token.Mark m))) (mark_of b)) text w → Leads at p (b ∷ text) w
+    by_quote : (c : Bool) → (b == 34) ≡ c → From (if c then keep (at + 1) p (opened at) else option_and_then (λ m. behind (at + 1) (after p (token_of p at m))) (mark_of b)) text w → Leads at p (b ∷ text) w
     by_quote true e g = subst (λ z. Leads at p (z ∷ text) w) (sym (eqb-true b 34 e)) (quoted_before at p text w (as_quoted (at + 1) p (opened at) text w refl (from_kept (at + 1) p (opened at) text w ih g)))
     by_quote false e g = by_mark (mark_of b) refl g
 
-    by_space : (c : Bool) → is_space b ≡ c → From (if c then Some (reading (at + 1) p None) else if b == 34 then keep (at + 1) p (opened at) else option_and_then (λ m. behind (at + 1) (after p (token.Mark m))) (mark_of b)) text w → Leads at p (b ∷ text) w
+    by_space : (c : Bool) → is_space b ≡ c → From (if c then Some (reading (at + 1) p None) else if b == 34 then keep (at + 1) p (opened at) else option_and_then (λ m. behind (at + 1) (after p (token_of p at m))) (mark_of b)) text w → Leads at p (b ∷ text) w
     by_space true e g =
         let later = ih (at + 1) p None g.0 w g.1 g.2 in
         record { tokens = later.tokens; spells = space_before at b later.tokens text e later.spells; last = later.last; all = later.all; ends = later.ends }
@@ -180,10 +222,10 @@ between at p b text w ih f = by_plain (is_plain b) refl
     by_plain true e =
         plain_before at p b text w e
         (as_plain (at + 1) p (plain at (b ∷ [])) text w refl (from_kept (at + 1) p (plain at (b ∷ [])) text w ih
-        (f.0, sym (ap (λ z. option_and_then (λ t. after_bytes t text) (if z then keep (at + 1) p (plain at (b ∷ [])) else if is_space b then Some (reading (at + 1) p None) else if b == 34 then keep (at + 1) p (opened at) else option_and_then (λ m. behind (at + 1) (after p (token.Mark m))) (mark_of b))) e) ∙ f.1, f.2)))
+        (f.0, sym (ap (λ z. option_and_then (λ t. after_bytes t text) (if z then keep (at + 1) p (plain at (b ∷ [])) else if is_space b then Some (reading (at + 1) p None) else if b == 34 then keep (at + 1) p (opened at) else option_and_then (λ m. behind (at + 1) (after p (token_of p at m))) (mark_of b))) e) ∙ f.1, f.2)))
     by_plain false e =
         by_space (is_space b) refl
-        (f.0, sym (ap (λ z. option_and_then (λ t. after_bytes t text) (if z then keep (at + 1) p (plain at (b ∷ [])) else if is_space b then Some (reading (at + 1) p None) else if b == 34 then keep (at + 1) p (opened at) else option_and_then (λ m. behind (at + 1) (after p (token.Mark m))) (mark_of b))) e) ∙ f.1, f.2)
+        (f.0, sym (ap (λ z. option_and_then (λ t. after_bytes t text) (if z then keep (at + 1) p (plain at (b ∷ [])) else if is_space b then Some (reading (at + 1) p None) else if b == 34 then keep (at + 1) p (opened at) else option_and_then (λ m. behind (at + 1) (after p (token_of p at m))) (mark_of b))) e) ∙ f.1, f.2)
 
 -- behind a name without quotation marks
 in_plain : (at : ℕ) (p : Parse) (n : Named) (b : ℕ) (text : List ℕ) (w : Written) → n.quoted ≡ false → AreLeading text → From (after_plain at (at + 1) p n b) text w → Goes at p n (b ∷ text) w

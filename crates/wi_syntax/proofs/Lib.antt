@@ -9,3 +9,4 @@ pub mod Cutting
 pub mod Completing
 pub mod Chars
 pub mod Texts
+pub mod Fronts

@@ -6,7 +6,7 @@ use Rattle.std.proofs.lemmas.List.{length-append}
 use Rattle.wi_syntax.specs.Names.{Named}
 use Rattle.wi_syntax.specs.declared.token.Mark.TheVariants.{Less, Greater, OpenRound, CloseRound, OpenSquare, CloseSquare, Hash, Dot, Comma, Caret, Star, Plus, Question, Bar}
 use Rattle.wi_syntax.specs.declared.token.Token.{Token}
-use Rattle.wi_syntax.specs.declared.token.Token.TheVariants.{Mark, Word}
+use Rattle.wi_syntax.specs.declared.token.Token.TheVariants.{Mark, AnyEnd, Word}
 use Rattle.wi_syntax.specs.declared.written.End.TheVariants as end
 use Rattle.wi_syntax.specs.declared.written.Pair.{Pair}
 use Rattle.wi_syntax.specs.declared.places.NamePlace.{NamePlace}
@@ -103,6 +103,7 @@ module _ {X P : Type 0} (write : Writer X) (begun : Writer P) (next : P → Toke
 
   pub goes : (l : Listing X P) (t : Token) (r : Listing X P × Bool) → IsListing opened l → after_in next whole opened due l t ≡ Some r → Goes l t r
   goes l (Word n) r is e = by_next l (Word n) r e
+  goes l (AnyEnd at) r is e = by_next l (AnyEnd at) r e
   goes l (Mark Less) r is e = by_next l (Mark Less) r e
   goes l (Mark Greater) r is e = by_next l (Mark Greater) r e
   goes l (Mark OpenRound) r is e = by_next l (Mark OpenRound) r e
@@ -129,6 +130,7 @@ name_step : (p q : NamePlace) (t : Token) → after_name p t ≡ Some q → ((re
 name_step name.Opened q (Word n) e = let is : name.Whole n ≡ q = cc in subst (λ z. ((rest : List Token) → name_begun z rest ≡ Word n ∷ rest) × (is_opened_name z ≡ false)) is ((λ rest. refl), refl)
 name_step name.Due q (Word n) e = let is : name.Whole n ≡ q = cc in subst (λ z. ((rest : List Token) → name_begun z rest ≡ Word n ∷ rest) × (is_opened_name z ≡ false)) is ((λ rest. refl), refl)
 name_step (name.Whole m) q (Word n) e = cc
+name_step name.Opened q (AnyEnd at) e = cc
 name_step name.Opened q (Mark Less) e = cc
 name_step name.Opened q (Mark Greater) e = cc
 name_step name.Opened q (Mark OpenRound) e = cc
@@ -143,6 +145,7 @@ name_step name.Opened q (Mark Star) e = cc
 name_step name.Opened q (Mark Plus) e = cc
 name_step name.Opened q (Mark Question) e = cc
 name_step name.Opened q (Mark Bar) e = cc
+name_step name.Due q (AnyEnd at) e = cc
 name_step name.Due q (Mark Less) e = cc
 name_step name.Due q (Mark Greater) e = cc
 name_step name.Due q (Mark OpenRound) e = cc
@@ -157,6 +160,7 @@ name_step name.Due q (Mark Star) e = cc
 name_step name.Due q (Mark Plus) e = cc
 name_step name.Due q (Mark Question) e = cc
 name_step name.Due q (Mark Bar) e = cc
+name_step (name.Whole m) q (AnyEnd at) e = cc
 name_step (name.Whole m) q (Mark Less) e = cc
 name_step (name.Whole m) q (Mark Greater) e = cc
 name_step (name.Whole m) q (Mark OpenRound) e = cc
@@ -206,6 +210,7 @@ to_pair p q r t e h = let is : q ≡ r = cc in subst (PairStep p t) is h
 
 pair_step : (p q : PairPlace) (t : Token) → after_pair p t ≡ Some q → PairStep p t q
 pair_step pair.Opened q (Word n) e = to_pair pair.Opened (pair.FromRouter n) q (Word n) e ((λ rest. refl), refl)
+pair_step pair.Opened q (AnyEnd at) e = to_pair pair.Opened (pair.HashDue (end.Any at)) q (AnyEnd at) e ((λ rest. refl), refl)
 pair_step pair.Opened q (Mark Less) e = cc
 pair_step pair.Opened q (Mark Greater) e = cc
 pair_step pair.Opened q (Mark OpenRound) e = cc
@@ -213,7 +218,7 @@ pair_step pair.Opened q (Mark CloseRound) e = cc
 pair_step pair.Opened q (Mark OpenSquare) e = cc
 pair_step pair.Opened q (Mark CloseSquare) e = cc
 pair_step pair.Opened q (Mark Hash) e = cc
-pair_step pair.Opened q (Mark Dot) e = to_pair pair.Opened (pair.HashDue end.Any) q (Mark Dot) e ((λ rest. refl), refl)
+pair_step pair.Opened q (Mark Dot) e = cc
 pair_step pair.Opened q (Mark Comma) e = cc
 pair_step pair.Opened q (Mark Caret) e = cc
 pair_step pair.Opened q (Mark Star) e = cc
@@ -221,6 +226,7 @@ pair_step pair.Opened q (Mark Plus) e = cc
 pair_step pair.Opened q (Mark Question) e = cc
 pair_step pair.Opened q (Mark Bar) e = cc
 pair_step pair.Due q (Word n) e = to_pair pair.Due (pair.FromRouter n) q (Word n) e ((λ rest. refl), refl)
+pair_step pair.Due q (AnyEnd at) e = to_pair pair.Due (pair.HashDue (end.Any at)) q (AnyEnd at) e ((λ rest. refl), refl)
 pair_step pair.Due q (Mark Less) e = cc
 pair_step pair.Due q (Mark Greater) e = cc
 pair_step pair.Due q (Mark OpenRound) e = cc
@@ -228,7 +234,7 @@ pair_step pair.Due q (Mark CloseRound) e = cc
 pair_step pair.Due q (Mark OpenSquare) e = cc
 pair_step pair.Due q (Mark CloseSquare) e = cc
 pair_step pair.Due q (Mark Hash) e = cc
-pair_step pair.Due q (Mark Dot) e = to_pair pair.Due (pair.HashDue end.Any) q (Mark Dot) e ((λ rest. refl), refl)
+pair_step pair.Due q (Mark Dot) e = cc
 pair_step pair.Due q (Mark Comma) e = cc
 pair_step pair.Due q (Mark Caret) e = cc
 pair_step pair.Due q (Mark Star) e = cc
@@ -236,6 +242,7 @@ pair_step pair.Due q (Mark Plus) e = cc
 pair_step pair.Due q (Mark Question) e = cc
 pair_step pair.Due q (Mark Bar) e = cc
 pair_step (pair.FromRouter m) q (Word n) e = cc
+pair_step (pair.FromRouter m) q (AnyEnd at) e = cc
 pair_step (pair.FromRouter m) q (Mark Less) e = cc
 pair_step (pair.FromRouter m) q (Mark Greater) e = cc
 pair_step (pair.FromRouter m) q (Mark OpenRound) e = cc
@@ -251,6 +258,7 @@ pair_step (pair.FromRouter m) q (Mark Plus) e = cc
 pair_step (pair.FromRouter m) q (Mark Question) e = cc
 pair_step (pair.FromRouter m) q (Mark Bar) e = cc
 pair_step (pair.FromInterfaceDue m) q (Word n) e = to_pair (pair.FromInterfaceDue m) (pair.HashDue (end.Interface m n)) q (Word n) e ((λ rest. refl), refl)
+pair_step (pair.FromInterfaceDue m) q (AnyEnd at) e = cc
 pair_step (pair.FromInterfaceDue m) q (Mark Less) e = cc
 pair_step (pair.FromInterfaceDue m) q (Mark Greater) e = cc
 pair_step (pair.FromInterfaceDue m) q (Mark OpenRound) e = cc
@@ -266,6 +274,7 @@ pair_step (pair.FromInterfaceDue m) q (Mark Plus) e = cc
 pair_step (pair.FromInterfaceDue m) q (Mark Question) e = cc
 pair_step (pair.FromInterfaceDue m) q (Mark Bar) e = cc
 pair_step (pair.HashDue from) q (Word n) e = cc
+pair_step (pair.HashDue from) q (AnyEnd at) e = cc
 pair_step (pair.HashDue from) q (Mark Less) e = cc
 pair_step (pair.HashDue from) q (Mark Greater) e = cc
 pair_step (pair.HashDue from) q (Mark OpenRound) e = cc
@@ -281,6 +290,7 @@ pair_step (pair.HashDue from) q (Mark Plus) e = cc
 pair_step (pair.HashDue from) q (Mark Question) e = cc
 pair_step (pair.HashDue from) q (Mark Bar) e = cc
 pair_step (pair.ToDue from) q (Word n) e = to_pair (pair.ToDue from) (pair.ToRouter from n) q (Word n) e ((λ rest. refl), refl)
+pair_step (pair.ToDue from) q (AnyEnd at) e = to_pair (pair.ToDue from) (pair.Whole (record { from = from; to = end.Any at })) q (AnyEnd at) e ((λ rest. refl), refl)
 pair_step (pair.ToDue from) q (Mark Less) e = cc
 pair_step (pair.ToDue from) q (Mark Greater) e = cc
 pair_step (pair.ToDue from) q (Mark OpenRound) e = cc
@@ -288,7 +298,7 @@ pair_step (pair.ToDue from) q (Mark CloseRound) e = cc
 pair_step (pair.ToDue from) q (Mark OpenSquare) e = cc
 pair_step (pair.ToDue from) q (Mark CloseSquare) e = cc
 pair_step (pair.ToDue from) q (Mark Hash) e = cc
-pair_step (pair.ToDue from) q (Mark Dot) e = to_pair (pair.ToDue from) (pair.Whole (record { from = from; to = end.Any })) q (Mark Dot) e ((λ rest. refl), refl)
+pair_step (pair.ToDue from) q (Mark Dot) e = cc
 pair_step (pair.ToDue from) q (Mark Comma) e = cc
 pair_step (pair.ToDue from) q (Mark Caret) e = cc
 pair_step (pair.ToDue from) q (Mark Star) e = cc
@@ -296,6 +306,7 @@ pair_step (pair.ToDue from) q (Mark Plus) e = cc
 pair_step (pair.ToDue from) q (Mark Question) e = cc
 pair_step (pair.ToDue from) q (Mark Bar) e = cc
 pair_step (pair.ToRouter from m) q (Word n) e = cc
+pair_step (pair.ToRouter from m) q (AnyEnd at) e = cc
 pair_step (pair.ToRouter from m) q (Mark Less) e = cc
 pair_step (pair.ToRouter from m) q (Mark Greater) e = cc
 pair_step (pair.ToRouter from m) q (Mark OpenRound) e = cc
@@ -311,6 +322,7 @@ pair_step (pair.ToRouter from m) q (Mark Plus) e = cc
 pair_step (pair.ToRouter from m) q (Mark Question) e = cc
 pair_step (pair.ToRouter from m) q (Mark Bar) e = cc
 pair_step (pair.ToInterfaceDue from m) q (Word n) e = to_pair (pair.ToInterfaceDue from m) (pair.Whole (record { from = from; to = end.Interface m n })) q (Word n) e ((λ rest. refl), refl)
+pair_step (pair.ToInterfaceDue from m) q (AnyEnd at) e = cc
 pair_step (pair.ToInterfaceDue from m) q (Mark Less) e = cc
 pair_step (pair.ToInterfaceDue from m) q (Mark Greater) e = cc
 pair_step (pair.ToInterfaceDue from m) q (Mark OpenRound) e = cc
@@ -326,6 +338,7 @@ pair_step (pair.ToInterfaceDue from m) q (Mark Plus) e = cc
 pair_step (pair.ToInterfaceDue from m) q (Mark Question) e = cc
 pair_step (pair.ToInterfaceDue from m) q (Mark Bar) e = cc
 pair_step (pair.Whole w) q (Word n) e = cc
+pair_step (pair.Whole w) q (AnyEnd at) e = cc
 pair_step (pair.Whole w) q (Mark Less) e = cc
 pair_step (pair.Whole w) q (Mark Greater) e = cc
 pair_step (pair.Whole w) q (Mark OpenRound) e = cc

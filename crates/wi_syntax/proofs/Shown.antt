@@ -270,6 +270,7 @@ labels_end Last p w g = record {
 }
 
 in_labels : (h : Header) (p q : Parse) (t : Token) → Good (stage.Labels h) p → after_in_labels h p t ≡ Some q → Adds (stage.Labels h) p t q
+in_labels h p q (token.AnyEnd at) g e = cc
 in_labels h p q (token.Word n) g e = to (stage.Labels h) p (with_phrase h p (with_atom (phrase_of h p) (label.Name n))) q (token.Word n) e (label_atom h p (token.Word n) (label.Name n) refl (λ rest. refl) g)
 in_labels h p q (token.Mark Dot) g e = to (stage.Labels h) p (with_phrase h p (with_atom (phrase_of h p) label.Any)) q (token.Mark Dot) e (label_atom h p (token.Mark Dot) label.Any refl (λ rest. refl) g)
 in_labels h p q (token.Mark OpenSquare) g e = to (stage.Labels h) p (record p { stage = stage.LabelList h; names = no_names }) q (token.Mark OpenSquare) e (label_list h p g)
@@ -336,6 +337,7 @@ link_sign p q m g e =
     subst (Adds stage.Links p (token.Mark m)) found.2 (links_add p (token.Mark m) found.0 g (phrase_sign is_link_atom p.path found.0 m found.1 g.path) (sign_goes link_tokens p.path found.0 m found.1))
 
 in_links : (p q : Parse) (t : Token) → Good stage.Links p → after_in_links p t ≡ Some q → Adds stage.Links p t q
+in_links p q (token.AnyEnd at) g e = cc
 in_links p q (token.Word n) g e =
     let found = if_some (is_whole p.path && is_keyword n (codes "drop")) (record p { stage = stage.Number; drop_at = Some n.at }) q e in
     let both : (is_whole p.path ≡ true) × (is_keyword n (codes "drop") ≡ true) = and_parts (is_whole p.path) (is_keyword n (codes "drop")) found.0 in
@@ -429,6 +431,7 @@ in_pairs o p q t at g e =
 
 at_number : (p q : Parse) (t : Token) → Good stage.Number p → after_at_number p t ≡ Some q → Adds stage.Number p t q
 at_number p q (token.Mark m) g e = cc
+at_number p q (token.AnyEnd at) g e = cc
 at_number p q (token.Word n) g e =
     let found = if_some (not n.quoted && is_number n.text) (record p { stage = stage.BehindNumber; number = Some n }) q e in
     let both : (not n.quoted ≡ true) × (is_number n.text ≡ true) = and_parts (not n.quoted) (is_number n.text) found.0 in
@@ -447,10 +450,12 @@ behind_up_word at p q n is g r e =
 
 before_up : (at : Stage) (p q : Parse) (t : Token) → ((rest : List Token) → shown_at at p rest ≡ before_words p rest) → Good at p → DownRead p → after_before_up p t ≡ Some q → Adds at p t q
 before_up at p q (token.Mark m) is g r e = cc
+before_up at p q (token.AnyEnd n) is g r e = cc
 before_up at p q (token.Word n) is g r e = behind_up_word at p q n is g r e
 
 before_down : (p q : Parse) (t : Token) → Good stage.BehindNumber p → after_before_down p t ≡ Some q → Adds stage.BehindNumber p t q
 before_down p q (token.Mark m) g e = cc
+before_down p q (token.AnyEnd at) g e = cc
 before_down p q (token.Word n) g e = go (is_keyword n (codes "down")) refl
   where
     go : (b : Bool) → is_keyword n (codes "down") ≡ b → Adds stage.BehindNumber p (token.Word n) q
@@ -469,6 +474,7 @@ behind_down_word : (p q : Parse) (t : Token) → Good stage.DownDue p → after_
 behind_down_word p q (token.Mark OpenSquare) g e =
     to stage.DownDue p (record p { stage = stage.LinkList owner.Down; pairs = no_known }) q (token.Mark OpenSquare) e
     (record { shown = λ rest. refl; good = record { first = g.first; path = g.path; last = g.last; read = ((no_known_listing, refl, refl), g.read.0, g.read.1) } })
+behind_down_word p q (token.AnyEnd at) g e = cc
 behind_down_word p q (token.Word n) g e = cc
 behind_down_word p q (token.Mark Less) g e = cc
 behind_down_word p q (token.Mark Greater) g e = cc
@@ -488,6 +494,7 @@ behind_up_list : (p q : Parse) (t : Token) → Good stage.UpDue p → after_word
 behind_up_list p q (token.Mark OpenSquare) g e =
     to stage.UpDue p (record p { stage = stage.LinkList owner.Up; pairs = no_known }) q (token.Mark OpenSquare) e
     (record { shown = λ rest. refl; good = record { first = g.first; path = g.path; last = g.last; read = ((no_known_listing, refl, refl), g.read) } })
+behind_up_list p q (token.AnyEnd at) g e = cc
 behind_up_list p q (token.Word n) g e = cc
 behind_up_list p q (token.Mark Less) g e = cc
 behind_up_list p q (token.Mark Greater) g e = cc
@@ -507,6 +514,7 @@ at_start : (p q : Parse) (t : Token) → Good stage.Start p → after_start p t 
 at_start p q (token.Mark Less) g e =
     to stage.Start p (record p { stage = stage.Labels First }) q (token.Mark Less) e
     (record { shown = λ rest. ap (λ z. token.Mark Less ∷ signs_tokens label_tokens z.signs rest) g.read.0; good = record { first = g.first; path = g.path; last = g.last; read = g.read.1 } })
+at_start p q (token.AnyEnd at) g e = cc
 at_start p q (token.Word n) g e = cc
 at_start p q (token.Mark Greater) g e = cc
 at_start p q (token.Mark OpenRound) g e = cc

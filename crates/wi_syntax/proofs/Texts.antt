@@ -21,7 +21,7 @@ use Rattle.wi_syntax.specs.declared.parser.Stage.TheVariants as stage
 use Rattle.wi_syntax.specs.declared.parser.Owner.TheVariants as owner
 use Rattle.wi_syntax.specs.Tokens.{IsTokens}
 use Rattle.wi_syntax.specs.Grammar.{plain, tokens_of, Reads, IsQueryText}
-use Rattle.wi_syntax.specs.private.Parsing.{Parse, start, after}
+use Rattle.wi_syntax.specs.private.Parsing.{Parse, start, after, token_of}
 use Rattle.wi_syntax.specs.private.Reading.{Reading, reading, mark_of, admits, keep, behind, longer, begin, after_plain, end_quoted, after_quoted, after_byte, after_char, after_bytes, finished, may_stop, nothing_read}
 use Rattle.wi_syntax.proofs.Options.{if_some, map_some, then_some}
 use Rattle.wi_syntax.proofs.Shown.{Good, step, start_good, all_shown, finished_is}
@@ -113,15 +113,15 @@ by_name at p n s g e = let found = if_some (admits p n) (reading at p (Some n)) 
 by_begin : (at next : ℕ) (p : Parse) (b : ℕ) (s : Reading) → Good p.stage p → begin at next p b ≡ Some s → Reached s
 by_begin at next p b s g e = by_plain (is_plain b) e
   where
-    by_quote : (c : Bool) → (if c then keep next p (record { at = at; quoted = true; text = [] }) else option_and_then (λ m. behind next (after p (token.Mark m))) (mark_of b)) ≡ Some s → Reached s
+    by_quote : (c : Bool) → (if c then keep next p (record { at = at; quoted = true; text = [] }) else option_and_then (λ m. behind next (after p (token_of p at m))) (mark_of b)) ≡ Some s → Reached s
     by_quote true f = by_name next p (record { at = at; quoted = true; text = [] }) s g f
-    by_quote false f = let found = then_some (λ m. behind next (after p (token.Mark m))) (mark_of b) s f in by_token next p (token.Mark found.0) s g found.2
+    by_quote false f = let found = then_some (λ m. behind next (after p (token_of p at m))) (mark_of b) s f in by_token next p (token_of p at found.0) s g found.2
 
-    by_space : (c : Bool) → (if c then Some (reading next p None) else if b == 34 then keep next p (record { at = at; quoted = true; text = [] }) else option_and_then (λ m. behind next (after p (token.Mark m))) (mark_of b)) ≡ Some s → Reached s
+    by_space : (c : Bool) → (if c then Some (reading next p None) else if b == 34 then keep next p (record { at = at; quoted = true; text = [] }) else option_and_then (λ m. behind next (after p (token_of p at m))) (mark_of b)) ≡ Some s → Reached s
     by_space true f = let is : reading next p None ≡ s = cc in subst Reached is (g, tt)
     by_space false f = by_quote (b == 34) f
 
-    by_plain : (c : Bool) → (if c then keep next p (plain at (b ∷ [])) else if is_space b then Some (reading next p None) else if b == 34 then keep next p (record { at = at; quoted = true; text = [] }) else option_and_then (λ m. behind next (after p (token.Mark m))) (mark_of b)) ≡ Some s → Reached s
+    by_plain : (c : Bool) → (if c then keep next p (plain at (b ∷ [])) else if is_space b then Some (reading next p None) else if b == 34 then keep next p (record { at = at; quoted = true; text = [] }) else option_and_then (λ m. behind next (after p (token_of p at m))) (mark_of b)) ≡ Some s → Reached s
     by_plain true f = by_name next p (plain at (b ∷ [])) s g f
     by_plain false f = by_space (is_space b) f
 
@@ -232,15 +232,15 @@ at_moves r s b e = go r.begun e
     begin_at : (at next : ℕ) (p : Parse) → begin at next p b ≡ Some s → s.at ≡ next
     begin_at at next p f = by_plain (is_plain b) f
       where
-        by_quote : (c : Bool) → (if c then keep next p (record { at = at; quoted = true; text = [] }) else option_and_then (λ m. behind next (after p (token.Mark m))) (mark_of b)) ≡ Some s → s.at ≡ next
+        by_quote : (c : Bool) → (if c then keep next p (record { at = at; quoted = true; text = [] }) else option_and_then (λ m. behind next (after p (token_of p at m))) (mark_of b)) ≡ Some s → s.at ≡ next
         by_quote true g = keep_at next p (record { at = at; quoted = true; text = [] }) g
-        by_quote false g = let found = then_some (λ m. behind next (after p (token.Mark m))) (mark_of b) s g in behind_at next (after p (token.Mark found.0)) found.2
+        by_quote false g = let found = then_some (λ m. behind next (after p (token_of p at m))) (mark_of b) s g in behind_at next (after p (token_of p at found.0)) found.2
 
-        by_space : (c : Bool) → (if c then Some (reading next p None) else if b == 34 then keep next p (record { at = at; quoted = true; text = [] }) else option_and_then (λ m. behind next (after p (token.Mark m))) (mark_of b)) ≡ Some s → s.at ≡ next
+        by_space : (c : Bool) → (if c then Some (reading next p None) else if b == 34 then keep next p (record { at = at; quoted = true; text = [] }) else option_and_then (λ m. behind next (after p (token_of p at m))) (mark_of b)) ≡ Some s → s.at ≡ next
         by_space true g = let is : reading next p None ≡ s = cc in ap (λ z. z.at) (sym is)
         by_space false g = by_quote (b == 34) g
 
-        by_plain : (c : Bool) → (if c then keep next p (plain at (b ∷ [])) else if is_space b then Some (reading next p None) else if b == 34 then keep next p (record { at = at; quoted = true; text = [] }) else option_and_then (λ m. behind next (after p (token.Mark m))) (mark_of b)) ≡ Some s → s.at ≡ next
+        by_plain : (c : Bool) → (if c then keep next p (plain at (b ∷ [])) else if is_space b then Some (reading next p None) else if b == 34 then keep next p (record { at = at; quoted = true; text = [] }) else option_and_then (λ m. behind next (after p (token_of p at m))) (mark_of b)) ≡ Some s → s.at ≡ next
         by_plain true g = keep_at next p (plain at (b ∷ [])) g
         by_plain false g = by_space (is_space b) g
 

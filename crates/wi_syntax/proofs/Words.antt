@@ -7,6 +7,8 @@ use Rattle.std.proofs.lemmas.Bool.{and_parts, and_from, ltb-true}
 use Rattle.std.proofs.lemmas.Slice.Eq.{bytes_eq-Decides}
 use Rattle.wi_text.specs.Characters.{is_digit, is_number}
 use Rattle.wi_syntax.specs.Names.{Named}
+use Rattle.wi_syntax.specs.declared.token.Mark.{Mark}
+use Rattle.wi_syntax.specs.declared.token.Mark.TheVariants.{Less, Greater, OpenRound, CloseRound, OpenSquare, CloseSquare, Hash, Dot, Comma, Caret, Star, Plus, Question, Bar}
 use Rattle.wi_syntax.specs.declared.token.Token.TheVariants as token
 use Rattle.wi_syntax.specs.declared.places.NamePlace.{NamePlace}
 use Rattle.wi_syntax.specs.declared.places.NamePlace.TheVariants as name
@@ -14,8 +16,8 @@ use Rattle.wi_syntax.specs.declared.places.PairPlace.{PairPlace}
 use Rattle.wi_syntax.specs.declared.places.PairPlace.TheVariants as pair
 use Rattle.wi_syntax.specs.declared.parser.Stage.{Stage}
 use Rattle.wi_syntax.specs.declared.parser.Stage.TheVariants as stage
-use Rattle.wi_syntax.specs.private.Lists.{after_name, after_pair}
-use Rattle.wi_syntax.specs.private.Parsing.{Parse, is_whole, is_keyword, after_before_up, after_at, after}
+use Rattle.wi_syntax.specs.private.Lists.{after_name, after_pair, is_end_due}
+use Rattle.wi_syntax.specs.private.Parsing.{Parse, is_whole, is_keyword, after_before_up, after_at, after, takes_ends, token_of}
 use Rattle.wi_syntax.specs.private.Reading.{is_name_due, is_word_due, takes_names, begins, may_begin, admits, longer}
 use Rattle.wi_syntax.proofs.Options.{if_some, map_some}
 
@@ -131,3 +133,88 @@ admits_front p q n t e begun = go (next_at p.stage p q (longer n t) e)
     go (inr h) =
         or_right (takes_names p p.stage) (not n.quoted && may_begin p p.stage n.text)
         (and_from (not n.quoted) (may_begin p p.stage n.text) (ap not h.0) (h.1 n.text t (by_text begun h.0) refl))
+
+-- ---- dots
+
+-- a dot leads on where no end of a pair may begin, and such an end where one may
+no_end : (l q : PairPlace) → after_pair l (token.Mark Dot) ≡ Some q → is_end_due l ≡ false
+no_end pair.Opened q e = cc
+no_end pair.Due q e = cc
+no_end (pair.FromRouter m) q e = refl
+no_end (pair.FromInterfaceDue m) q e = refl
+no_end (pair.HashDue from) q e = refl
+no_end (pair.ToDue from) q e = cc
+no_end (pair.ToRouter from m) q e = refl
+no_end (pair.ToInterfaceDue from m) q e = refl
+no_end (pair.Whole w) q e = refl
+
+end_due : (l q : PairPlace) (at : ℕ) → after_pair l (token.AnyEnd at) ≡ Some q → is_end_due l ≡ true
+end_due pair.Opened q at e = refl
+end_due pair.Due q at e = refl
+end_due (pair.FromRouter m) q at e = cc
+end_due (pair.FromInterfaceDue m) q at e = cc
+end_due (pair.HashDue from) q at e = cc
+end_due (pair.ToDue from) q at e = refl
+end_due (pair.ToRouter from m) q at e = cc
+end_due (pair.ToInterfaceDue from m) q at e = cc
+end_due (pair.Whole w) q at e = cc
+
+no_name : (l q : NamePlace) (at : ℕ) → after_name l (token.AnyEnd at) ≡ Some q → ⊥
+no_name name.Opened q at e = cc
+no_name name.Due q at e = cc
+no_name (name.Whole m) q at e = cc
+
+dot_at : (st : Stage) (p q : Parse) → after_at st p (token.Mark Dot) ≡ Some q → takes_ends p st ≡ false
+dot_at (stage.LinkList o) p q e =
+    let outer = map_some _ _ q e in
+    let inner = map_some _ _ outer.0 outer.1 in
+    no_end p.pairs.place inner.0 inner.1
+dot_at stage.Start p q e = refl
+dot_at (stage.Labels h) p q e = refl
+dot_at (stage.LabelList h) p q e = refl
+dot_at stage.Links p q e = refl
+dot_at stage.Number p q e = refl
+dot_at stage.BehindNumber p q e = refl
+dot_at stage.DownDue p q e = refl
+dot_at stage.BehindDown p q e = refl
+dot_at stage.UpDue p q e = refl
+dot_at stage.BehindUp p q e = refl
+
+end_at : (st : Stage) (p q : Parse) (at : ℕ) → after_at st p (token.AnyEnd at) ≡ Some q → takes_ends p st ≡ true
+end_at (stage.LinkList o) p q at e =
+    let outer = map_some _ _ q e in
+    let inner = map_some _ _ outer.0 outer.1 in
+    end_due p.pairs.place inner.0 at inner.1
+end_at (stage.LabelList h) p q at e =
+    let outer = map_some _ _ q e in
+    let inner = map_some _ _ outer.0 outer.1 in
+    absurd (no_name p.names.place inner.0 at inner.1)
+end_at stage.Start p q at e = cc
+end_at (stage.Labels h) p q at e = cc
+end_at stage.Links p q at e = cc
+end_at stage.Number p q at e = cc
+end_at stage.BehindNumber p q at e = cc
+end_at stage.DownDue p q at e = cc
+end_at stage.BehindDown p q at e = cc
+end_at stage.UpDue p q at e = cc
+end_at stage.BehindUp p q at e = cc
+
+-- the token that a mark is at a byte, where that token leads on
+pub mark_there : (p q : Parse) (at : ℕ) (m : Mark) → after p (token.Mark m) ≡ Some q → token_of p at m ≡ token.Mark m
+mark_there p q at Dot e = ap (λ z. if z then token.AnyEnd at else token.Mark Dot) (dot_at p.stage p q e)
+mark_there p q at Less e = refl
+mark_there p q at Greater e = refl
+mark_there p q at OpenRound e = refl
+mark_there p q at CloseRound e = refl
+mark_there p q at OpenSquare e = refl
+mark_there p q at CloseSquare e = refl
+mark_there p q at Hash e = refl
+mark_there p q at Comma e = refl
+mark_there p q at Caret e = refl
+mark_there p q at Star e = refl
+mark_there p q at Plus e = refl
+mark_there p q at Question e = refl
+mark_there p q at Bar e = refl
+
+pub end_there : (p q : Parse) (at : ℕ) → after p (token.AnyEnd at) ≡ Some q → token_of p at Dot ≡ token.AnyEnd at
+end_there p q at e = ap (λ z. if z then token.AnyEnd at else token.Mark Dot) (end_at p.stage p q at e)

@@ -4,11 +4,11 @@
 --     link atom  = "." | "[" [ "^" ] pair { "," pair } "]"
 --     pair       = end "#" end
 --     end        = "." | name [ "." name ]
-use Rattle.std.specs.Prelude.{Bool, true, nat_lt, List, [], ◌∷◌, length, if◌then◌else◌}
+use Rattle.std.specs.Prelude.{ℕ, Bool, true, nat_lt, List, [], ◌∷◌, length, if◌then◌else◌}
 use Rattle.wi_syntax.specs.Names.{Named}
 use Rattle.wi_syntax.specs.declared.token.Mark.TheVariants.{OpenSquare, CloseSquare, Hash, Dot, Comma, Caret}
 use Rattle.wi_syntax.specs.declared.token.Token.{Token}
-use Rattle.wi_syntax.specs.declared.token.Token.TheVariants.{Mark, Word}
+use Rattle.wi_syntax.specs.declared.token.Token.TheVariants.{Mark, AnyEnd, Word}
 use Rattle.wi_syntax.specs.declared.written.LabelAtom.{LabelAtom}
 use Rattle.wi_syntax.specs.declared.written.LabelAtom.TheVariants as label
 use Rattle.wi_syntax.specs.declared.written.End.{End}
@@ -41,12 +41,21 @@ label_tokens (label.Name name) rest = Word name ∷ rest
 label_tokens (label.List except names) rest = listed name_tokens except names rest
 
 abbrev pub end_tokens : Writer End
-end_tokens end.Any rest = Mark Dot ∷ rest
+end_tokens (end.Any at) rest = AnyEnd at ∷ rest
 end_tokens (end.Router router) rest = Word router ∷ rest
 end_tokens (end.Interface router interface) rest = Word router ∷ Mark Dot ∷ Word interface ∷ rest
 
 abbrev pub pair_tokens : Writer Pair
 pair_tokens pair rest = end_tokens pair.from (Mark Hash ∷ end_tokens pair.to rest)
+
+-- the byte where an end begins, and where a pair does
+abbrev pub end_at : End → ℕ
+end_at (end.Any at) = at
+end_at (end.Router router) = router.at
+end_at (end.Interface router interface) = router.at
+
+abbrev pub pair_at : Pair → ℕ
+pair_at pair = end_at pair.from
 
 abbrev pub link_tokens : Writer LinkAtom
 link_tokens link.Any rest = Mark Dot ∷ rest

@@ -30,6 +30,7 @@ mark_byte Bar = 124
 -- how a token is written
 abbrev pub spelling : Token → List ℕ
 spelling (token.Mark m) = mark_byte m ∷ []
+spelling (token.AnyEnd at) = 46 ∷ []
 spelling (token.Word n) = if n.quoted then 34 ∷ (n.text ++ 34 ∷ []) else n.text
 
 -- a name of its form, before the rest of a text: between quotation marks one character or more, none of them a control
@@ -42,6 +43,7 @@ is_word n rest =
 -- what a token may be at a byte, before the rest of a text
 abbrev pub IsToken : ℕ → Token → List ℕ → Type 0
 IsToken at (token.Mark m) rest = Unit {0}
+IsToken at (token.AnyEnd n) rest = n ≡ at
 IsToken at (token.Word n) rest = (n.at ≡ at) × (is_word n rest ≡ true)
 
 -- a text is these tokens, with white space before, between and after them

@@ -2,3 +2,4 @@
 pub mod Lists
 pub mod Parsing
 pub mod Reading
+pub mod Behind

@@ -3,7 +3,7 @@
 //! need no stack.
 ghost use Rattle.std.specs.Prelude.{◌≡◌, IfOk, Some, None, if◌then◌else◌};
 ghost use Rattle.std.specs.Option.{option_map};
-ghost use Rattle.wi_syntax.specs.private.Parsing.{start, is_whole, stage_after, after_sign, phrase_of, with_phrase, with_atom, after_in_labels, after_behind_path, after_in_links, after_at_number, after_before_up, after_before_down, after_word, after_start, after, with_names, with_path, with_list, with_pairs, is_keyword, last_of, finish, goes};
+ghost use Rattle.wi_syntax.specs.private.Parsing.{start, is_whole, stage_after, after_sign, phrase_of, with_phrase, with_atom, after_in_labels, after_behind_path, after_in_links, after_at_number, after_before_up, after_before_down, after_word, after_start, after, with_names, with_path, with_list, with_pairs, is_keyword, last_of, takes_ends, token_of, finish, goes};
 ghost use Rattle.wi_syntax.specs.private.Lists.{after_in_names, after_in_pairs};
 ghost use Rattle.wi_syntax.specs.private.Reading.{admits, takes_names, may_begin, begins};
 
@@ -121,6 +121,26 @@ impl Parser {
         }
     }
 
+    /// The token that a mark at a byte is here: a dot where an end of a pair may begin is that end.
+    pub(crate) fn token_of(&self, mark: Mark, at: usize) -> Token
+        ensures { result ≡ token_of self.now at mark }
+    {
+        match mark {
+            Mark::Dot if self.takes_ends() => Token::AnyEnd(at),
+            mark => Token::Mark(mark),
+        }
+    }
+
+    // Whether an end of a pair may begin.
+    fn takes_ends(&self) -> bool
+        ensures { result ≡ takes_ends self.now self.now.stage }
+    {
+        match self.stage {
+            Stage::LinkList(_) => self.pairs.is_end_due(),
+            _ => false,
+        }
+    }
+
     /// Whether a name that is begun may come next, when it is finished.
     pub(crate) fn admits(&self, name: &Name) -> bool
         ensures { result ≡ admits self.now name.now }
@@ -179,6 +199,7 @@ impl Parser {
             }
             Token::Mark(Mark::Greater) => Ok(self.end_labels(header)),
             Token::Mark(mark) => self.push_label_sign(header, mark),
+            Token::AnyEnd(_) => Ok(false),
         }
     }
 
@@ -253,6 +274,7 @@ impl Parser {
                 Ok(self.path.is_whole())
             }
             Token::Mark(mark) => self.push_link_sign(mark),
+            Token::AnyEnd(_) => Ok(false),
         }
     }
 

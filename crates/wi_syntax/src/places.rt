@@ -6,7 +6,7 @@ ghost use Rattle.wi_syntax.specs.declared.places.PairPlace.{PairPlace};
 ghost use Rattle.wi_syntax.specs.declared.written.LabelAtom.{LabelAtom};
 ghost use Rattle.wi_syntax.specs.declared.written.LinkAtom.{LinkAtom};
 ghost use Rattle.wi_syntax.specs.private.Reading.{is_name_due, is_word_due};
-ghost use Rattle.wi_syntax.specs.private.Lists.{no_names, no_pairs, no_known, after_pair, whole_pair, with_item, after_in_names, after_in_pairs, outcome};
+ghost use Rattle.wi_syntax.specs.private.Lists.{is_end_due, no_names, no_pairs, no_known, after_pair, whole_pair, with_item, after_in_names, after_in_pairs, outcome};
 
 use crate::name::Name;
 use crate::token::{Mark, Token};
@@ -148,9 +148,10 @@ impl PairPlace {
                 Some(PairPlace::HashDue(End::Interface(router, interface)))
             }
             (PairPlace::HashDue(from), Token::Mark(Mark::Hash)) => Some(PairPlace::ToDue(from)),
-            (PairPlace::ToDue(from), Token::Mark(Mark::Dot)) => {
-                Some(PairPlace::Whole(Pair { from, to: End::Any }))
-            }
+            (PairPlace::ToDue(from), Token::AnyEnd(at)) => Some(PairPlace::Whole(Pair {
+                from,
+                to: End::Any(at),
+            })),
             (PairPlace::ToDue(from), Token::Word(router)) => {
                 Some(PairPlace::ToRouter(from, router))
             }
@@ -176,7 +177,7 @@ impl PairPlace {
         ensures { result ≡ after_pair PairPlace.Due token }
     {
         match token {
-            Token::Mark(Mark::Dot) => Some(PairPlace::HashDue(End::Any)),
+            Token::AnyEnd(at) => Some(PairPlace::HashDue(End::Any(at))),
             Token::Word(router) => Some(PairPlace::FromRouter(router)),
             Token::Mark(_) => None,
         }
@@ -250,6 +251,16 @@ impl PairList {
                 | PairPlace::FromInterfaceDue(_)
                 | PairPlace::ToDue(_)
                 | PairPlace::ToInterfaceDue(_, _)
+        )
+    }
+
+    /// Whether an end of a pair may begin.
+    pub(crate) fn is_end_due(&self) -> bool
+        ensures { result ≡ is_end_due self.now.place }
+    {
+        matches!(
+            self.place,
+            PairPlace::Opened | PairPlace::Due | PairPlace::ToDue(_)
         )
     }
 

@@ -139,7 +139,10 @@ impl Reader {
             return Ok(self.keep(Name::quoted(at, String::new(alloc))));
         }
         match mark_of(character) {
-            Some(mark) => self.parser.next(alloc, Token::Mark(mark)),
+            Some(mark) => {
+                let token = self.parser.token_of(mark, at);
+                self.parser.next(alloc, token)
+            }
             None => Ok(false),
         }
     }

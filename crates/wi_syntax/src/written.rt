@@ -18,8 +18,8 @@ pub enum LabelAtom {
 /// One end of a link.
 #[derive(Drop)]
 pub enum End {
-    /// `.`: any router.
-    Any,
+    /// `.`: any router. The byte where it stands.
+    Any(usize),
     /// `A`: the router A.
     Router(Name),
     /// `A.i`: the router A by its interface i.
@@ -31,6 +31,22 @@ pub enum End {
 pub struct Pair {
     pub from: End,
     pub to: End,
+}
+
+impl Pair {
+    ghost use Rattle.std.specs.Prelude.{◌≡◌};
+    ghost use Rattle.wi_syntax.specs.Atoms.{pair_at};
+
+    /// The byte where it begins.
+    pub fn at(&self) -> usize
+        ensures { result ≡ pair_at self.now }
+    {
+        match &self.from {
+            End::Any(at) => *at,
+            End::Router(router) => router.at(),
+            End::Interface(router, _) => router.at(),
+        }
+    }
 }
 
 /// Links: `.` or a list.

@@ -44,7 +44,14 @@ impl Text {
     pub fn put(&mut self, piece: &str) -> Result<(), NoMemory>
         ensures { OnOk result (self.new ≡ self.old ++ piece.now) }
     {
-        self.bytes.extend_from_slice(piece.as_bytes())?;
+        self.put_bytes(piece.as_bytes())
+    }
+
+    /// Adds bytes.
+    pub fn put_bytes(&mut self, piece: &[u8]) -> Result<(), NoMemory>
+        ensures { OnOk result (self.new ≡ self.old ++ piece.now) }
+    {
+        self.bytes.extend_from_slice(piece)?;
         Ok(())
     }
 

@@ -6,11 +6,15 @@
 #[cfg(test)]
 mod nfa;
 #[cfg(test)]
+mod policies;
+#[cfg(test)]
 mod query;
 #[cfg(test)]
 mod regex;
 #[cfg(test)]
 mod ring;
+#[cfg(test)]
+mod strict;
 #[cfg(test)]
 mod syntax;
 #[cfg(test)]

@@ -2,7 +2,7 @@
 use std::alloc::Global;
 use std::process::Abort;
 use std::test::Fail;
-use wi_words::{Command, Wanted, command_of};
+use wi_words::{Command, Content, Wanted, command_of};
 
 fn words_of(alloc: Global, text: &str) -> Result<Vec<String>, Fail> {
     let mut words = Vec::new(alloc);
@@ -25,7 +25,10 @@ fn is_verify(
         Some(
             Command::Ask {
                 asking,
-                wanted: Wanted::Verify { certificate: c },
+                wanted: Wanted::Verify {
+                    content: Content::Report,
+                    certificate: c,
+                },
             },
         ) => {
             assert!(rt;
@@ -101,12 +104,49 @@ fn is_packets(
         Some(
             Command::Ask {
                 asking,
-                wanted: Wanted::Packets,
+                wanted: Wanted::Verify {
+                    content: Content::Packets,
+                    certificate: None,
+                },
             },
         ) => {
             assert!(rt; asking.network == network && asking.query == "q", "{text}");
             assert!(rt; asking.weights == weights, "{text}");
         }
+        _ => assert!(rt; false, "{text}"),
+    }
+    Ok(())
+}
+
+fn is_drawing(
+    rt: &impl Abort,
+    alloc: Global,
+    text: &str,
+    weights: Option<&str>,
+) -> Result<(), Fail> {
+    let words = words_of(alloc, text)?;
+    match command_of(alloc, words.as_slice())? {
+        Some(
+            Command::Ask {
+                asking,
+                wanted: Wanted::Verify {
+                    content: Content::Drawing,
+                    certificate: None,
+                },
+            },
+        ) => {
+            assert!(rt; asking.network == "n" && asking.query == "q", "{text}");
+            assert!(rt; asking.weights == weights, "{text}");
+        }
+        _ => assert!(rt; false, "{text}"),
+    }
+    Ok(())
+}
+
+fn is_draw(rt: &impl Abort, alloc: Global, text: &str, network: &str) -> Result<(), Fail> {
+    let words = words_of(alloc, text)?;
+    match command_of(alloc, words.as_slice())? {
+        Some(Command::Draw { network: n }) => assert!(rt; n == network, "{text}"),
         _ => assert!(rt; false, "{text}"),
     }
     Ok(())
@@ -286,6 +326,30 @@ fn words_of_packets_are_found(rt: HostRuntime) -> Result<(), Fail> {
     Ok(())
 }
 
+// Words with the weights of `draw` with a query, and those with the network alone.
+const DRAWINGS: &[(&str, Option<&str>)] = &[
+    ("whatif|draw|n|q", None),
+    ("whatif|draw|n|q|--weights|w", Some("w")),
+    ("whatif|draw|--weights=w|n|q", Some("w")),
+];
+
+const ALONE: &[(&str, &str)] = &[
+    ("whatif|draw|n", "n"),
+    ("whatif|draw|", ""),
+    ("whatif|draw|--|-n", "-n"),
+];
+
+#[test]
+fn words_of_draw_are_found(rt: HostRuntime) -> Result<(), Fail> {
+    for (text, weights) in DRAWINGS {
+        is_drawing(&rt, rt.alloc(), text, *weights)?;
+    }
+    for (text, network) in ALONE {
+        is_draw(&rt, rt.alloc(), text, network)?;
+    }
+    Ok(())
+}
+
 // Words with the text of `stack`, which is taken whatever it is.
 const STACKS: &[(&str, &str)] = &[
     ("whatif|stack|0001e040", "0001e040"),
@@ -333,6 +397,7 @@ const NO_COMMANDS: &[&str] = &[
     "whatif|packet|n|q",
     "whatif|stacks|00",
     "whatif|Protect|n",
+    "whatif|drawing|n",
     // Help.
     "whatif|--help",
     "whatif|-h",
@@ -356,6 +421,8 @@ const NO_COMMANDS: &[&str] = &[
     "whatif|gen|1|4|5",
     "whatif|packets|n",
     "whatif|packets|n|q|w",
+    "whatif|draw",
+    "whatif|draw|n|q|x",
     "whatif|stack",
     "whatif|stack|00|00",
     "whatif|protect",
@@ -404,6 +471,10 @@ const NO_COMMANDS: &[&str] = &[
     "whatif|gen|1|4|--weights|a",
     "whatif|packets|n|q|--certificate|c",
     "whatif|packets|n|q|--weights|a|--weights|b",
+    // Weights without a query.
+    "whatif|draw|n|--weights|a",
+    "whatif|draw|--weights|a|n",
+    "whatif|draw|n|q|--certificate|c",
     "whatif|stack|00|--weights|a",
     "whatif|protect|n|--weights|a",
     "whatif|stack|-1",

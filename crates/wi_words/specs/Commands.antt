@@ -9,14 +9,24 @@ use Rattle.clap.specs.Walk.{Text, Row, Rule, first_of}
 use Rattle.clap.specs.Simple.{App, Shape, new_rule, new_shape, with_subcommand, subcommand_of}
 use Rattle.clap.specs.Faults.{fault_of}
 use Rattle.wi_text.specs.Characters.{is_number}
+use Rattle.wi_words.specs.declared.Content.{Content}
+use Rattle.wi_words.specs.declared.Content.TheVariants.{Report, Packets, Drawing}
 
 -- a word that has to be there, in its place
 abbrev pub operand : Text → Rule
 operand id = record (new_rule id) { required = true; action = Some Set }
 
+-- one that may be left out
+abbrev pub optional : Text → Rule
+optional id = record (new_rule id) { action = Some Set }
+
 -- `--NAME VALUE`, which may be left out
 abbrev pub option : Text → Rule
 option name = record (new_rule name) { long = Some name; action = Some Set }
+
+-- a shape with such an operand added
+abbrev pub with_optional : Text → Shape → Shape
+with_optional id shape = record shape { rules = shape.rules ++ optional id ∷ [] }
 
 -- a shape with an option added
 abbrev pub with_option : Text → Shape → Shape
@@ -66,6 +76,10 @@ protect = record (new_shape (codes "protect")) { rules = operand (codes "PLAN") 
 abbrev pub packets : Shape
 packets = record (new_shape (codes "packets")) { rules = operand (codes "NETWORK") ∷ operand (codes "QUERY") ∷ option (codes "weights") ∷ [] }
 
+-- `draw NETWORK [QUERY [--weights W]]`
+abbrev pub draw : Shape
+draw = with_option (codes "weights") (with_optional (codes "QUERY") (record (new_shape (codes "draw")) { rules = operand (codes "NETWORK") ∷ [] }))
+
 -- `stack HEX`
 abbrev pub stack : Shape
 stack = record (new_shape (codes "stack")) { rules = operand (codes "HEX") ∷ [] }
@@ -73,7 +87,7 @@ stack = record (new_shape (codes "stack")) { rules = operand (codes "HEX") ∷ [
 -- the program's commands, one of which has to be given
 abbrev pub program : App
 program =
-    with_subcommand (with_subcommand (with_subcommand (with_subcommand (with_subcommand (with_subcommand (with_subcommand (with_subcommand (with_subcommand (with_subcommand (record { top = record (new_shape (codes "whatif")) { subcommand_required = true }; subs = [] }) verify) check) play) gen) exact) check_exact) tolerate) protect) packets) stack
+    with_subcommand (with_subcommand (with_subcommand (with_subcommand (with_subcommand (with_subcommand (with_subcommand (with_subcommand (with_subcommand (with_subcommand (with_subcommand (record { top = record (new_shape (codes "whatif")) { subcommand_required = true }; subs = [] }) verify) check) play) gen) exact) check_exact) tolerate) protect) packets) stack) draw
 
 -- clap takes the words: its parse has no fault
 abbrev pub is_empty : {X : Type 0} → List X → Bool
@@ -89,14 +103,14 @@ pub record Asking : Type 0 where
   pub query : Text
   pub weights : Option Text
 
--- what is wanted of it, with the name of the certificate's file; and up to how many failures
+-- what is wanted of it: an answer, of which this is printed, or an exact one, or whether one is accepted, with the name of the
+-- certificate's file; or up to how many failures
 pub data Wanted : Type 0 where
-  Verify : (certificate : Option Text) → Wanted
+  Verify : (content : Content) (certificate : Option Text) → Wanted
   Check : (certificate : Text) → Wanted
   Exact : (certificate : Option Text) → Wanted
   CheckExact : (certificate : Text) → Wanted
   Tolerate : (most : ℕ) (certificate : Option Text) → Wanted
-  Packets : Wanted
 
 -- a command, with what was given to it: what is asked and wanted, or the names of files, how many risk groups may fail, the seed and
 -- the size of a ring, a text that is to be bytes
@@ -106,6 +120,7 @@ pub data Command : Type 0 where
   Gen : (seed size : ℕ) → Command
   Protect : (plan : Text) → Command
   Stack : (hex : Text) → Command
+  Draw : (network : Text) → Command
 
 -- a number from a least to a most one: a decimal without leading zeros
 abbrev pub number_within : ℕ → ℕ → Text → Option ℕ
@@ -134,12 +149,13 @@ asking_in rows =
 -- what the subcommand with a name wants of it, if it is one that asks something of a network
 abbrev pub wanted_named : Text → List Row → Option Wanted
 wanted_named name rows =
-    if bytes_eq name (codes "verify") then Some (Verify (first_of (codes "certificate") rows))
+    if bytes_eq name (codes "verify") then Some (Verify Report (first_of (codes "certificate") rows))
     else if bytes_eq name (codes "check") then option_map Check (first_of (codes "CERTIFICATE") rows)
     else if bytes_eq name (codes "exact") then Some (Exact (first_of (codes "certificate") rows))
     else if bytes_eq name (codes "check-exact") then option_map CheckExact (first_of (codes "CERTIFICATE") rows)
     else if bytes_eq name (codes "tolerate") then option_map (λ most. Tolerate most (first_of (codes "certificate") rows)) (option_and_then most_failed (first_of (codes "LIMIT") rows))
-    else if bytes_eq name (codes "packets") then Some Packets
+    else if bytes_eq name (codes "packets") then Some (Verify Packets None)
+    else if bytes_eq name (codes "draw") then Some (Verify Drawing None)
     else None
 
 -- the command of a subcommand's entries
@@ -160,12 +176,20 @@ protect_of rows = option_map (λ plan. Protect plan) (first_of (codes "PLAN") ro
 abbrev pub stack_of : List Row → Option Command
 stack_of rows = option_map (λ hex. Stack hex) (first_of (codes "HEX") rows)
 
+-- without a query, and then without weights, the network alone is drawn
+abbrev pub draw_alone : List Row → Option Command
+draw_alone rows = elim (first_of (codes "weights") rows) [ None ↦ option_map (λ network. Draw network) (first_of (codes "NETWORK") rows) | Some weights ↦ None ]
+
+abbrev pub draw_of : List Row → Option Command
+draw_of rows = elim (first_of (codes "QUERY") rows) [ None ↦ draw_alone rows | Some query ↦ asked_of (codes "draw") rows ]
+
 abbrev pub command_named : Text × List Row → Option Command
 command_named met =
     if bytes_eq met.0 (codes "play") then play_of met.1
     else if bytes_eq met.0 (codes "gen") then gen_of met.1
     else if bytes_eq met.0 (codes "protect") then protect_of met.1
     else if bytes_eq met.0 (codes "stack") then stack_of met.1
+    else if bytes_eq met.0 (codes "draw") then draw_of met.1
     else asked_of met.0 met.1
 
 -- the command that the words are, if they are one. The first word is the program's name and isn't looked at

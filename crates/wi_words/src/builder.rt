@@ -4,7 +4,7 @@ ghost use Rattle.std.specs.Prelude.{◌≡◌, IfOk, map, false};
 ghost use Rattle.clap.specs.Words.{app_of, rule_of, shape_of};
 ghost use Rattle.clap.specs.Simple.{App, Shape, new_shape, with_subcommand};
 ghost use Rattle.clap.specs.declared.builder.command.Command.TheViews.{out-Command as fields_of};
-ghost use Rattle.wi_words.specs.Commands.{asking, checking, gen, operand, option, packets, play, program, protect, stack, tolerate, with_option, with_options};
+ghost use Rattle.wi_words.specs.Commands.{asking, checking, draw, gen, operand, option, optional, packets, play, program, protect, stack, tolerate, with_option, with_optional, with_options};
 
 use clap::{Arg, ArgAction, Command};
 use std::alloc::{AllocError, Global};
@@ -15,6 +15,14 @@ fn operand<'a>(alloc: Global, id: &'a str) -> Arg<'a>
     ensures local { result.global ≡ false }
 {
     Arg::new(alloc, id).required(true).action(ArgAction::Set)
+}
+
+// One that may be left out.
+fn optional<'a>(alloc: Global, id: &'a str) -> Arg<'a>
+    ensures rule { rule_of result ≡ optional id.entry.now }
+    ensures local { result.global ≡ false }
+{
+    Arg::new(alloc, id).action(ArgAction::Set)
 }
 
 // `--NAME VALUE`, which may be left out.
@@ -35,6 +43,18 @@ fn verb<'a>(alloc: Global, name: &'a str, ids: &[&'a str]) -> Result<Command<'a>
         command = command.arg(operand(alloc, id))?;
     }
     Ok(command)
+}
+
+// A command with an operand added that may be left out, where there was memory for both.
+fn with_optional<'a>(
+    alloc: Global,
+    command: Result<Command<'a>, AllocError>,
+    id: &'a str,
+) -> Result<Command<'a>, AllocError>
+    ensures shape { (s : Shape) → IfOk command.entry (λ c. shape_of c ≡ s) → IfOk result (λ c. shape_of c ≡ with_optional id.entry.now s) }
+    ensures local { IfOk command.entry (λ c. (fields_of c).has_globals ≡ false) → IfOk result (λ c. (fields_of c).has_globals ≡ false) }
+{
+    command?.arg(optional(alloc, id))
 }
 
 // A command with an option added, where there was memory for both.
@@ -135,6 +155,15 @@ fn stack<'a>(alloc: Global) -> Result<Command<'a>, AllocError>
     verb(alloc, "stack", &["HEX"])
 }
 
+// `draw NETWORK [QUERY [--weights W]]`
+fn draw<'a>(alloc: Global) -> Result<Command<'a>, AllocError>
+    ensures shape { IfOk result (λ c. shape_of c ≡ draw) }
+    ensures local { IfOk result (λ c. (fields_of c).has_globals ≡ false) }
+{
+    let network = verb(alloc, "draw", &["NETWORK"]);
+    with_option(alloc, with_optional(alloc, network, "QUERY"), "weights")
+}
+
 // A program with a command added, where there was memory for both.
 fn with_command<'a>(
     whole: Result<Command<'a>, AllocError>,
@@ -171,5 +200,6 @@ pub fn program<'a>(alloc: Global) -> Result<Command<'a>, AllocError>
     let whole = with_command(whole, tolerate(alloc));
     let whole = with_command(whole, protect(alloc));
     let whole = with_command(whole, packets(alloc));
-    with_command(whole, stack(alloc))
+    let whole = with_command(whole, stack(alloc));
+    with_command(whole, draw(alloc))
 }

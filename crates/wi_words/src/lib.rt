@@ -42,6 +42,10 @@ pub enum Command<'a> {
     Stack {
         hex: &'a str,
     },
+    /// `draw NETWORK`: the name of the network file that is to be drawn, and nothing is asked of it.
+    Draw {
+        network: &'a str,
+    },
 }
 
 /// What is asked of a network: `NETWORK QUERY [--weights W]`.
@@ -58,8 +62,10 @@ pub struct Asking<'a> {
 /// What is wanted of what is asked.
 #[derive(Clone, Copy)]
 pub enum Wanted<'a> {
-    /// `verify .. [--certificate FILE]`: the answer, whose certificate is to be stored under a name.
+    /// `verify .. [--certificate FILE]`, `packets ..` or `draw ..`: what is to be printed of the answer, whose certificate is to be
+    /// stored under a name.
     Verify {
+        content: Content,
         certificate: Option<&'a str>,
     },
     /// `check NETWORK QUERY CERTIFICATE ..`: whether the certificate in a file is accepted.
@@ -80,8 +86,17 @@ pub enum Wanted<'a> {
         most: u32,
         certificate: Option<&'a str>,
     },
-    /// `packets ..`: the answer, and the packets of the run that it shows.
+}
+
+/// What is printed of an answer.
+#[derive(Clone, Copy)]
+pub enum Content {
+    /// Of `verify`: the report.
+    Report,
+    /// Of `packets`: the report, and then the packets of the run that it shows.
     Packets,
+    /// Of `draw`: the drawing of the network, and of the run over it.
+    Drawing,
 }
 
 /// The command that the words are, if they are one. The first word is the program's name and isn't looked at; asking for

@@ -4,10 +4,10 @@ ghost use Rattle.std.specs.Prelude.{◌≡◌, ◌≤◌, ◌^◌, true, None, I
 ghost use Rattle.std.specs.Str.Parse.{digits_value};
 ghost use Rattle.wi_text.specs.Characters.{is_number};
 ghost use Rattle.clap.specs.Words.{first_of, found_of, rows_of, subcommand_rows_of};
-ghost use Rattle.wi_words.specs.Commands.{IsFit, asked_of, asking_in, command_named, gen_of, most_failed, number_within, play_of, protect_of, seed_in, size_in, stack_of, wanted_named};
+ghost use Rattle.wi_words.specs.Commands.{IsFit, Verify, asked_of, asking_in, command_named, draw_alone, draw_of, gen_of, most_failed, number_within, play_of, protect_of, seed_in, size_in, stack_of, wanted_named};
 ghost use Rattle.wi_words.specs.Shown.{asking_shown, shown, wanted_shown};
 
-use crate::{Asking, Command, Wanted};
+use crate::{Asking, Command, Content, Wanted};
 use clap::ArgMatches;
 use wi_text::is_number;
 
@@ -82,6 +82,16 @@ fn asking_in<'a>(matches: &ArgMatches<'a>) -> Option<Asking<'a>>
     })
 }
 
+// This is to be printed, and no certificate stored.
+fn without_certificate<'a>(content: Content) -> Wanted<'a>
+    ensures { wanted_shown result ≡ Verify content None }
+{
+    Wanted::Verify {
+        content,
+        certificate: None,
+    }
+}
+
 // What the subcommand with this name wants of it, if it is one that asks something of a network.
 fn wanted_named<'a>(name: &str, matches: &ArgMatches<'a>) -> Option<Wanted<'a>>
     ensures { option_map wanted_shown result ≡ wanted_named name.now (rows_of (found_of matches.now)) }
@@ -89,6 +99,7 @@ fn wanted_named<'a>(name: &str, matches: &ArgMatches<'a>) -> Option<Wanted<'a>>
     match name {
         "verify" => {
             Some(Wanted::Verify {
+                content: Content::Report,
                 certificate: value_of(matches, "certificate"),
             })
         }
@@ -112,7 +123,8 @@ fn wanted_named<'a>(name: &str, matches: &ArgMatches<'a>) -> Option<Wanted<'a>>
             let certificate = value_of(matches, "certificate");
             Some(Wanted::Tolerate { most, certificate })
         }
-        "packets" => Some(Wanted::Packets),
+        "packets" => Some(without_certificate(Content::Packets)),
+        "draw" => Some(without_certificate(Content::Drawing)),
         _ => None,
     }
 }
@@ -161,6 +173,30 @@ fn stack_of<'a>(matches: &ArgMatches<'a>) -> Option<Command<'a>>
     Some(Command::Stack { hex })
 }
 
+// A network alone is drawn: there are no weights without a query.
+fn draw_alone<'a>(matches: &ArgMatches<'a>) -> Option<Command<'a>>
+    ensures command { option_map shown result ≡ draw_alone (rows_of (found_of matches.now)) }
+    ensures fit { IfSome result (λ c. IsFit (shown c)) }
+{
+    match value_of(matches, "weights") {
+        Some(_) => None,
+        None => {
+            let network = value_of(matches, "NETWORK")?;
+            Some(Command::Draw { network })
+        }
+    }
+}
+
+fn draw_of<'a>(matches: &ArgMatches<'a>) -> Option<Command<'a>>
+    ensures command { option_map shown result ≡ draw_of (rows_of (found_of matches.now)) }
+    ensures fit { IfSome result (λ c. IsFit (shown c)) }
+{
+    match value_of(matches, "QUERY") {
+        Some(_) => asked_of("draw", matches),
+        None => draw_alone(matches),
+    }
+}
+
 // The command of the subcommand with this name.
 fn command_named<'a>(name: &str, matches: &ArgMatches<'a>) -> Option<Command<'a>>
     ensures command { option_map shown result ≡ command_named (name.now, rows_of (found_of matches.now)) }
@@ -171,6 +207,7 @@ fn command_named<'a>(name: &str, matches: &ArgMatches<'a>) -> Option<Command<'a>
         "gen" => gen_of(matches),
         "protect" => protect_of(matches),
         "stack" => stack_of(matches),
+        "draw" => draw_of(matches),
         _ => asked_of(name, matches),
     }
 }

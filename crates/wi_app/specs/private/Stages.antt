@@ -1,6 +1,5 @@
 -- The causes and the outcomes of the steps within a command.
-use Rattle.std.specs.Prelude.{◌≡◌, ℕ, List, length}
-use Rattle.wi_trace.specs.declared.answer.Answer.{Answer}
+use Rattle.std.specs.Prelude.{◌≡◌, length}
 use Rattle.wi_build.specs.Problems.{Problem}
 use Rattle.wi_cert.specs.declared.certificate.Certificate.{Certificate}
 use Rattle.wi_cert.specs.declared.tree.TreeCertificate.{TreeCertificate}
@@ -8,15 +7,6 @@ use Rattle.wi_accept.specs.Causes.{IsRefusal}
 use Rattle.wi_accept.specs.Trees.{IsTreeRefusal}
 use Rattle.wi_outcome.specs.declared.refusal.Refusal.{Refusal}
 use Rattle.wi_outcome.specs.declared.refusal.Refusal.TheVariants.{Memory, NotAccepted}
-use Rattle.wi_app.specs.Decided.{packets_in, report_in}
-use Rattle.wi_app.specs.declared.verify.Content.{Content}
-use Rattle.wi_app.specs.declared.verify.Content.TheVariants.{Report, ReportAndPackets}
-
--- ---- verify and packets
--- what is printed of an answer
-abbrev pub printed_by : Content → Problem → Answer → List ℕ
-printed_by Report = report_in
-printed_by ReportAndPackets = packets_in
 
 -- ---- check
 -- this speaks against the certificate

@@ -51,7 +51,7 @@ finder net Target = find_in net
 
 -- what an end of a link stands for
 abbrev pub end_meant : Net → (RouterId → List ℕ → Option LinkId) → End → Option EndMeant
-end_meant net find end.Any = Some end_meant_by.Any
+end_meant net find (end.Any at) = Some end_meant_by.Any
 end_meant net find (end.Router router) = option_map end_meant_by.At (find_router net router.text)
 end_meant net find (end.Interface router interface) = option_map end_meant_by.By (option_and_then (λ id. find id interface.text) (find_router net router.text))
 

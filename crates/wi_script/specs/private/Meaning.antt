@@ -2,6 +2,7 @@
 use Rattle.std.specs.Prelude.{◌≡◌, ◌≢◌, ◌⊎◌, ℕ, ◌+◌, true, false, List, [], ◌∷◌, ◌++◌, length, if◌then◌else◌, Option, Some, None, option_map, Result, Ok, Err}
 use Rattle.std.specs.Global.{Vec}
 use Rattle.wi_labels.specs.Header.{Entry, is_valid_header}
+use Rattle.wi_text.specs.Lines.{AreLines, lines_bytes, is_one_line}
 use Rattle.wi_net.specs.declared.parts.LinkId.{LinkId}
 use Rattle.wi_net.specs.Net.{Net}
 use Rattle.wi_world.specs.declared.world.Event.{Event}
@@ -10,7 +11,7 @@ use Rattle.wi_script.specs.declared.script.ScriptCause.TheVariants.{NotAnEvent, 
 use Rattle.wi_script.specs.declared.script.ScriptRefused.{ScriptRefused}
 use Rattle.wi_script.specs.declared.script.ScriptRefused.TheVariants.{BadLine, Memory}
 use Rattle.wi_script.specs.Lines.{Name, Joint}
-use Rattle.wi_script.specs.Scripts.{link_of, label_of, event_of, Begins, Happens, IsCause, AllHappen, AreLines, lines_bytes, is_one_line}
+use Rattle.wi_script.specs.Scripts.{link_of, label_of, event_of, Begins, Happens, IsCause, AllHappen}
 use Rattle.wi_script.specs.private.Reading.{◌>>=◌, start_in, event_in}
 
 -- the labels of names, if each is one
@@ -55,11 +56,6 @@ IsStart net line (Err Memory) = Unit {0}
 abbrev pub IsEvent : Net → List ℕ → Result Event ScriptCause → Type 0
 IsEvent net line (Ok event) = Happens net line event
 IsEvent net line (Err cause) = IsCause net false line cause
-
--- a line and what stands behind its line feed, or there is no line feed
-abbrev pub IsCutAt : List ℕ → Option (List ℕ × List ℕ) → Type 0
-IsCutAt bytes (Some r) = (bytes ≡ r.0 ++ 10 ∷ r.1) × (is_one_line r.0 ≡ true)
-IsCutAt bytes None = is_one_line bytes ≡ true
 
 -- lines that are events, and what is left behind them
 pub record AreEvents (net : Net) (bytes : List ℕ) (events : List Event) (left : List ℕ) : Type 0 where

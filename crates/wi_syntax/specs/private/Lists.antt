@@ -4,7 +4,7 @@ use Rattle.std.specs.Option.{option_map}
 use Rattle.wi_syntax.specs.Names.{Named}
 use Rattle.wi_syntax.specs.declared.token.Mark.TheVariants.{CloseSquare, Hash, Dot, Comma, Caret}
 use Rattle.wi_syntax.specs.declared.token.Token.{Token}
-use Rattle.wi_syntax.specs.declared.token.Token.TheVariants.{Mark, Word}
+use Rattle.wi_syntax.specs.declared.token.Token.TheVariants.{Mark, AnyEnd, Word}
 use Rattle.wi_syntax.specs.declared.written.End.TheVariants as end
 use Rattle.wi_syntax.specs.declared.written.Pair.{Pair}
 use Rattle.wi_syntax.specs.declared.places.NamePlace.{NamePlace}
@@ -21,19 +21,26 @@ after_name name.Due (Word n) = Some (name.Whole n)
 after_name _ _ = None
 
 abbrev pub after_pair : PairPlace → Token → Option PairPlace
-after_pair pair.Opened (Mark Dot) = Some (pair.HashDue end.Any)
+after_pair pair.Opened (AnyEnd at) = Some (pair.HashDue (end.Any at))
 after_pair pair.Opened (Word n) = Some (pair.FromRouter n)
-after_pair pair.Due (Mark Dot) = Some (pair.HashDue end.Any)
+after_pair pair.Due (AnyEnd at) = Some (pair.HashDue (end.Any at))
 after_pair pair.Due (Word n) = Some (pair.FromRouter n)
 after_pair (pair.FromRouter n) (Mark Dot) = Some (pair.FromInterfaceDue n)
 after_pair (pair.FromRouter n) (Mark Hash) = Some (pair.ToDue (end.Router n))
 after_pair (pair.FromInterfaceDue n) (Word i) = Some (pair.HashDue (end.Interface n i))
 after_pair (pair.HashDue from) (Mark Hash) = Some (pair.ToDue from)
-after_pair (pair.ToDue from) (Mark Dot) = Some (pair.Whole (record { from = from; to = end.Any }))
+after_pair (pair.ToDue from) (AnyEnd at) = Some (pair.Whole (record { from = from; to = end.Any at }))
 after_pair (pair.ToDue from) (Word n) = Some (pair.ToRouter from n)
 after_pair (pair.ToRouter from n) (Mark Dot) = Some (pair.ToInterfaceDue from n)
 after_pair (pair.ToInterfaceDue from n) (Word i) = Some (pair.Whole (record { from = from; to = end.Interface n i }))
 after_pair _ _ = None
+
+-- an end of a pair may begin
+abbrev pub is_end_due : PairPlace → Bool
+is_end_due pair.Opened = true
+is_end_due pair.Due = true
+is_end_due (pair.ToDue from) = true
+is_end_due _ = false
 
 -- the element that is whole at a place
 abbrev pub whole_name : NamePlace → Option Named

@@ -24,7 +24,7 @@ use Rattle.wi_syntax.specs.declared.parser.Header.{Header}
 use Rattle.wi_syntax.specs.declared.parser.Header.TheVariants.{First, Last}
 use Rattle.wi_syntax.specs.declared.parser.Owner.{Owner}
 use Rattle.wi_syntax.specs.declared.parser.Owner.TheVariants as owner
-use Rattle.wi_syntax.specs.private.Lists.{NameListing, PairListing, no_names, no_pairs, no_known, after_in_names, after_in_pairs}
+use Rattle.wi_syntax.specs.private.Lists.{NameListing, PairListing, no_names, no_pairs, no_known, after_in_names, after_in_pairs, is_end_due}
 
 -- an expression that is being read: its signs, how many brackets are open, and whether an item stands last
 pub record Phrasing (A : Type 0) : Type 0 where
@@ -113,6 +113,7 @@ after_in_labels h p (token.Mark Dot) = Some (with_phrase h p (with_atom (phrase_
 after_in_labels h p (token.Mark OpenSquare) = Some (record p { stage = stage.LabelList h; names = no_names })
 after_in_labels h p (token.Mark Greater) = if is_whole (phrase_of h p) then Some (record p { stage = stage_after h }) else None
 after_in_labels h p (token.Mark m) = option_map (with_phrase h p) (after_sign (phrase_of h p) m)
+after_in_labels h p (token.AnyEnd at) = None
 
 -- a word without quotation marks
 abbrev pub is_keyword : Named → List ℕ → Bool
@@ -133,6 +134,7 @@ after_in_links p (token.Mark Dot) = Some (with_path p (with_atom p.path link.Any
 after_in_links p (token.Mark OpenSquare) = Some (record p { stage = stage.LinkList owner.Path; pairs = no_pairs })
 after_in_links p (token.Mark Less) = if is_whole p.path then Some (record p { stage = stage.Labels Last }) else None
 after_in_links p (token.Mark m) = option_map (with_path p) (after_sign p.path m)
+after_in_links p (token.AnyEnd at) = None
 
 -- at the end of a list, or further in it
 abbrev pub with_names : Header → Parse → NameListing × Bool → Parse
@@ -150,17 +152,17 @@ with_pairs o p (l, true) = with_list o (record p { pairs = no_pairs }) l
 
 abbrev pub after_at_number : Parse → Token → Option Parse
 after_at_number p (token.Word n) = if not n.quoted && is_number n.text then Some (record p { stage = stage.BehindNumber; number = Some n }) else None
-after_at_number p (token.Mark m) = None
+after_at_number p _ = None
 
 -- where `up` may come, and where `down` may come too
 abbrev pub after_before_up : Parse → Token → Option Parse
 after_before_up p (token.Word n) = if is_keyword n (codes "up") then Some (record p { stage = stage.UpDue; word_at = n.at }) else None
-after_before_up p (token.Mark m) = None
+after_before_up p _ = None
 
 abbrev pub after_before_down : Parse → Token → Option Parse
 after_before_down p (token.Word n) =
     if is_keyword n (codes "down") then Some (record p { stage = stage.DownDue; word_at = n.at }) else after_before_up p (token.Word n)
-after_before_down p (token.Mark m) = None
+after_before_down p _ = None
 
 -- where a list of links that are known down or up is due
 abbrev pub after_word : Owner → Parse → Token → Option Parse
@@ -187,6 +189,15 @@ after_at stage.BehindUp p t = None
 
 abbrev pub after : Parse → Token → Option Parse
 after p t = after_at p.stage p t
+
+-- the token that a mark at a byte is: a dot where an end of a pair may begin is that end
+abbrev pub takes_ends : Parse → Stage → Bool
+takes_ends p (stage.LinkList o) = is_end_due p.pairs.place
+takes_ends p _ = false
+
+abbrev pub token_of : Parse → ℕ → Mark → Token
+token_of p at Dot = if takes_ends p p.stage then token.AnyEnd at else token.Mark Dot
+token_of p at m = token.Mark m
 
 -- the last header that was read, or the word in its place
 abbrev pub last_of : Option ℕ → Phrasing LabelAtom → LastPart

@@ -18,7 +18,7 @@ use Rattle.wi_syntax.specs.declared.places.PairPlace.TheVariants as pair
 use Rattle.wi_syntax.specs.declared.parser.Stage.{Stage}
 use Rattle.wi_syntax.specs.declared.parser.Stage.TheVariants as stage
 use Rattle.wi_syntax.specs.declared.written.Written.{Written}
-use Rattle.wi_syntax.specs.private.Parsing.{Parse, is_whole, start, after, finish}
+use Rattle.wi_syntax.specs.private.Parsing.{Parse, is_whole, start, after, token_of, finish}
 
 -- the mark that a byte is
 abbrev pub mark_of : ℕ → Option Mark
@@ -91,7 +91,7 @@ begin at next p b =
     if is_plain b then keep next p (plain at (b ∷ []))
     else if is_space b then Some (reading next p None)
     else if b == 34 then keep next p (record { at = at; quoted = true; text = [] })
-    else option_and_then (λ m. behind next (after p (token.Mark m))) (mark_of b)
+    else option_and_then (λ m. behind next (after p (token_of p at m))) (mark_of b)
 
 -- behind a name without quotation marks
 abbrev pub after_plain : ℕ → ℕ → Parse → Named → ℕ → Option Reading

@@ -1,6 +1,7 @@
 use Rattle.wi_files.specs.OnWire.{IsShownHex}
 use Rattle.wi_files.specs.Protection.{IsProtected}
 use Rattle.wi_files.specs.Scripts.{IsPlayed}
+use Rattle.wi_app.specs.Drawn.{IsDrawn}
 use Rattle.wi_app.specs.Generated.{IsSummary}
 use Rattle.wi_app.proofs.Outcomes.{with_status_0}
 use Rattle.wi_app.proofs.answer.answer_to.Goals as goal
@@ -32,3 +33,10 @@ returns-in-Protect-clause-refused g c = rw c.in-Protect.is c.protect.ensures.ref
 pub returns-in-Stack-clause-answered : goal.returns-in-Stack-clause-answered
 returns-in-Stack-clause-answered g c =
     rw c.in-Stack.is (with_status_0 c.stack.result (IsShownHex c.in-Stack.hex.now) c.stack.ensures.status c.stack.ensures.shown)
+
+pub returns-in-Draw-clause-answered : goal.returns-in-Draw-clause-answered
+returns-in-Draw-clause-answered g c =
+    rw c.in-Draw.is (with_status_0 c.draw.result (IsDrawn (g.S.Shelf.seen c.args.shelf.now) c.in-Draw.network.now) c.draw.ensures.status c.draw.ensures.drawn)
+
+pub returns-in-Draw-clause-refused : goal.returns-in-Draw-clause-refused
+returns-in-Draw-clause-refused g c = rw c.in-Draw.is c.draw.ensures.refused

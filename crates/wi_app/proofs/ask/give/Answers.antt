@@ -1,5 +1,3 @@
-use Rattle.wi_app.proofs.Asking.{no_other}
-use Rattle.wi_app.proofs.Outcomes.{packets_refused}
 use Rattle.wi_app.proofs.ask.give.Goals as goal
 
 pub returns-in-Verify-clause-given : goal.returns-in-Verify-clause-given
@@ -31,13 +29,3 @@ returns-in-Tolerate-clause-given g c = rw c.in-Tolerate.is c.tolerate.ensures.to
 
 pub returns-in-Tolerate-clause-refused : goal.returns-in-Tolerate-clause-refused
 returns-in-Tolerate-clause-refused g c = rw c.in-Tolerate.is c.tolerate.ensures.refused
-
-pub returns-in-Packets-clause-others : goal.returns-in-Packets-clause-others
-returns-in-Packets-clause-others g c = rw c.in-Packets.is (no_other (g.S.Shelf.seen c.args.shelf.now) (g.S.Shelf.seen c.verify-in-Packets.new.shelf) c.verify-in-Packets.ensures.others)
-
-pub returns-in-Packets-clause-given : goal.returns-in-Packets-clause-given
-returns-in-Packets-clause-given g c = rw c.in-Packets.is c.verify-in-Packets.ensures.reported
-
-pub returns-in-Packets-clause-refused : goal.returns-in-Packets-clause-refused
-returns-in-Packets-clause-refused g c =
-    rw c.in-Packets.is (packets_refused c.verify-in-Packets.result (g.S.Shelf.seen c.args.shelf.now) (g.S.Shelf.seen c.verify-in-Packets.new.shelf) c.args.problem.now c.verify-in-Packets.ensures.refused)

@@ -1,5 +1,5 @@
-use Rattle.wi_app.proofs.Surviving.{verified_survives, packets_survive, exact_survives}
+use Rattle.wi_app.proofs.Surviving.{verified_survives, exact_survives}
 use Rattle.wi_app.proofs.laws.a_no_of_loss_is_survival.Goals as goal
 
 pub returns : goal.returns
-returns c = record { verified = verified_survives; with_packets = packets_survive; exactly = exact_survives }
+returns c = record { verified = verified_survives; exactly = exact_survives }

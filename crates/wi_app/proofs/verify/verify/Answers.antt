@@ -1,6 +1,5 @@
 use Rattle.std.proofs.Common.{inl, refl}
 use Rattle.wi_files.proofs.Causes.{err_as}
-use Rattle.wi_app.specs.private.Stages.{printed_by}
 use Rattle.wi_app.proofs.Answers.{answer_known}
 use Rattle.wi_app.proofs.Outcomes.{decided_refused, decided_reported}
 use Rattle.wi_app.proofs.verify.verify.Goals as goal
@@ -16,7 +15,7 @@ returns-in_err-answer-clause-refused g c = err_as _ _ _ c.from_residual.ensures.
 
 pub returns-clause-reported : goal.returns-clause-reported
 returns-clause-reported g c =
-    decided_reported c.stored-printed.result (printed_by c.args.content) c.args.problem.now _ (g.S.Shelf.seen c.stored-printed.new.shelf) c.in_ok-answer.answer c.in_ok-answer.certificate
+    decided_reported c.stored-printed.result c.args.content c.args.problem.now _ (g.S.Shelf.seen c.stored-printed.new.shelf) c.in_ok-answer.answer c.in_ok-answer.certificate
     c.in_ok-answer.ensures.certified c.stored-printed.ensures.status c.stored-printed.ensures.text c.stored-printed.ensures.kept
 
 pub returns-clause-refused : goal.returns-clause-refused

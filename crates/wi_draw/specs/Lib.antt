@@ -1,0 +1,3 @@
+pub mod Dot
+pub mod Drawings
+pub mod private

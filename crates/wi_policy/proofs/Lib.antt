@@ -1,0 +1,7 @@
+mod LineLemmas
+mod Lines
+pub mod Asking
+pub mod Askable
+mod Judging
+mod Walks
+pub mod Fine

@@ -1,0 +1,3 @@
+-- What only private contracts and proofs use: no public contract reaches it.
+pub mod Reading
+pub mod Walking

@@ -1,0 +1,42 @@
+-- What becomes of a policy that is asked, and whether that is what it expects.
+use Rattle.std.specs.Prelude.{◌≡◌, Bool, true, false, if◌then◌else◌, [], length, string_bytes}
+use Rattle.wi_net.specs.declared.bounds.Bounds.{Bounds}
+use Rattle.wi_net.specs.Net.{Net}
+use Rattle.wi_world.specs.declared.answer.Word.{Word}
+use Rattle.wi_world.specs.declared.answer.Word.TheVariants.{Yes, No, Inconclusive}
+use Rattle.wi_query.specs.declared.query.Query.{Query}
+use Rattle.wi_cert.specs.declared.tree.TreeCertificate.{TreeCertificate}
+use Rattle.wi_build.specs.Problems.{Problem, IsProblem, problem_of}
+use Rattle.wi_branch.specs.declared.refused.ExactRefused.TheVariants as refused
+use Rattle.wi_branch.specs.Exactly.{IsExact, IsInexact}
+use Rattle.wi_policy.specs.declared.policy.Policy.{Policy}
+use Rattle.wi_policy.specs.Policies.{IsAsked}
+use Rattle.wi_audit.specs.declared.outcome.Outcome.{Outcome}
+use Rattle.wi_audit.specs.declared.outcome.Outcome.TheVariants.{Answered, Open}
+use Rattle.wi_audit.specs.declared.outcome.Fulfilment.{Fulfilment}
+use Rattle.wi_audit.specs.declared.outcome.Fulfilment.TheVariants as fulfilment
+
+-- the exact answer to a problem, by a tree of so many nodes, at most 10,000; or why there is none
+abbrev pub IsOutcome : Problem → Outcome → Type 0
+IsOutcome problem (Answered answer nodes) = (tree : TreeCertificate) × IsExact problem 10000 answer tree × (nodes ≡ length tree.nodes)
+IsOutcome problem (Open cause) = (cause ≡ refused.Memory → ⊥) × IsInexact problem 10000 cause
+
+-- two words are one
+abbrev pub same_word : Word → Word → Bool
+same_word Yes Yes = true
+same_word No No = true
+same_word Inconclusive Inconclusive = true
+same_word a b = false
+
+-- whether an outcome is what a policy with this word expects
+abbrev pub fulfilment_of : Word → Outcome → Fulfilment
+fulfilment_of word (Open cause) = fulfilment.Undecided
+fulfilment_of word (Answered answer nodes) = if same_word answer.word word then fulfilment.AsExpected else fulfilment.Unexpected
+
+-- the problem that a policy asks of a network within its bounds and the given ones, and its outcome
+pub record IsAskedFor (net : Net) (given : Bounds) (policy : Policy) (problem : Problem) (outcome : Outcome) : Type 0 where
+  pub query : Query
+  pub asked : IsAsked net given (string_bytes policy.query) query
+  pub is : problem ≡ problem_of net query []
+  pub problem_is : IsProblem problem
+  pub holds : IsOutcome problem outcome

@@ -23,14 +23,14 @@ use wi_trace::Answer;
 pub fn network_drawing(alloc: Global, net: &Network) -> Result<Text, NoMemory>
     ensures { IfOk result (λ text. text ≡ network_drawn net.now) }
 {
-    let marks = no_marks(alloc, net);
+    let marks = no_marks(alloc);
     drawing(alloc, net, &marks)
 }
 
 /// The drawing of an answer to a problem: its network below a heading, which has the lines of the report up to the one that tells how
 /// the answer was found. The links of the run are blue, and have the number of each of its places there, from 1, with the header; those
-/// that have failed are red and dashed; those that are both, which only a run that doesn't show an answer has, are purple and dashed. A
-/// router at which the packet is dropped is red, and has the report's line on it.
+/// that the run needs to have failed are red and dashed; those that are both, as only an inconclusive answer has them, are purple and
+/// dashed. A router at which the packet is dropped is red, and has the report's line on it.
 pub fn answer_drawing(
     alloc: Global,
     problem: &Problem<'_>,

@@ -1,7 +1,7 @@
 //! A run is gone along once, and what stands on each link is gathered on the way, so that the line of a link is one look-up.
 ghost use Rattle.std.specs.Prelude.{◌≡◌, ◌++◌, ℕ, Ok, None, Some, List, true, false, length, [], slice_index_or, IfOk, OnOk, IfSome};
 ghost use Rattle.std.specs.List.{list_all};
-ghost use Rattle.wi_net.specs.Net.{is_link, labels_known};
+ghost use Rattle.wi_net.specs.Net.{Net, is_link, labels_known};
 ghost use Rattle.wi_world.specs.Runs.{locations};
 ghost use Rattle.wi_report.specs.Reports.{IsKnownRun, end_shown, heading_of};
 ghost use Rattle.wi_draw.specs.Dot.{one_line};
@@ -31,11 +31,10 @@ pub(crate) struct Marks {
     pub dropped: Option<(RouterId, Text)>,
 }
 
-/// Nothing but the network. It takes no memory.
-pub(crate) fn no_marks(alloc: Global, net: &Network) -> Marks
-    ensures { AreMarks net.now result no_picture }
+/// Nothing but the network, whichever it is. It takes no memory.
+pub(crate) fn no_marks(alloc: Global) -> Marks
+    ensures { (net : Net) → AreMarks net result no_picture }
 {
-    let _net = net;
     Marks {
         heading: None,
         labels: Vec::new(alloc),
@@ -53,7 +52,7 @@ pub(crate) fn answer_marks(
     requires { IfSome answer.now.run (IsKnownRun problem.now.net) }
     ensures { IfOk result (λ marks. AreMarks problem.now.net marks (picture_of problem.now.net problem.now.bounds (length problem.now.vector) answer.now)) }
 {
-    let mut marks = no_marks(alloc, problem.net());
+    let mut marks = no_marks(alloc);
     match mark(alloc, problem, answer, &mut marks) {
         Ok(()) => Ok(marks),
         Err(refused) => {

@@ -1,6 +1,6 @@
-//! Tests of headers, of networks, of network files, of plans in them and of headers on the wire that need only what `wi_labels`,
-//! `wi_net`, `wi_netjson`, `wi_planjson` and `wi_wire` offer to all: here they don't make those crates be proved a second time, since
-//! a crate that has tests is.
+//! Tests of headers, of networks, of network files, of plans in them, of headers on the wire and of outages that need only what
+//! `wi_labels`, `wi_net`, `wi_netjson`, `wi_planjson`, `wi_wire` and `wi_outage` offer to all: here they don't make those crates be
+//! proved a second time, since a crate that has tests is.
 #![tactic(auto)]
 
 #[cfg(test)]
@@ -15,6 +15,8 @@ mod headers;
 mod limits;
 #[cfg(test)]
 mod networks;
+#[cfg(test)]
+mod outages;
 #[cfg(test)]
 mod plans;
 #[cfg(test)]

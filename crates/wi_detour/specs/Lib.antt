@@ -1,0 +1,4 @@
+pub mod Detours
+pub mod Graphs
+pub mod private
+pub mod lemmas

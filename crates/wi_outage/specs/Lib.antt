@@ -1,0 +1,3 @@
+pub mod Outages
+pub mod Survival
+pub mod private

@@ -5,6 +5,7 @@ pub mod Checking
 pub mod Exactly
 pub mod Tolerating
 pub mod Protecting
+pub mod Auditing
 pub mod Outcomes
 pub mod Written
 pub mod Surviving

@@ -1,9 +1,13 @@
 -- From what is found to what the program does.
-use Rattle.std.proofs.Common.{◌≡◌, ℕ, ◌<◌, nat_eq, ◌⊎◌, inl, inr, true, false, List, length, Option, Some, None, Result, Ok, Err, refl, sym, subst, ◌∙◌, arith}
+use Rattle.std.proofs.Common.{◌≡◌, ℕ, ◌<◌, nat_eq, ◌⊎◌, inl, inr, true, false, List, length, Option, Some, None, Result, Ok, Err, refl, sym, ap, subst, ◌∙◌, arith}
 use Rattle.std.specs.Prelude.{codes, IfOk, IfErr}
+use Rattle.std.specs.Option.{option_map}
 use Rattle.wi_base.specs.declared.shelf.CallKind.TheVariants.{Fetch, Store}
 use Rattle.wi_base.specs.Shelf.{ShelfSeen, IsLonger}
 use Rattle.wi_base.specs.Sink.{SinkSeen}
+use Rattle.wi_base.specs.declared.sink.PutRefused.{PutRefused}
+use Rattle.wi_base.specs.declared.sink.PutRefused.TheVariants.{Failed, Memory as NoMemory}
+use Rattle.wi_net.specs.declared.bounds.Bounds.{Bounds}
 use Rattle.wi_net.specs.Net.{Net}
 use Rattle.wi_netjson.specs.Reading.{Fails}
 use Rattle.wi_netjson.specs.declared.fault.NetFault.{NetFault}
@@ -21,6 +25,7 @@ use Rattle.wi_quantity.specs.Weighing.{components}
 use Rattle.wi_quantity.specs.declared.fault.WeightFault.{WeightFault}
 use Rattle.wi_quantity.specs.declared.fault.WeightFault.TheVariants as weight_fault
 use Rattle.wi_quantity.proofs.Fine.{text_fine}
+use Rattle.wi_policy.specs.declared.policy.Policy.{Policy}
 use Rattle.wi_script.specs.declared.script.ScriptRefused.{ScriptRefused}
 use Rattle.wi_script.specs.declared.script.ScriptRefused.TheVariants.{BadLine, Memory as ScriptMemory}
 use Rattle.wi_script.proofs.Unique.{script_one, script_fine}
@@ -43,32 +48,38 @@ use Rattle.wi_gen.specs.Ring.{net_of, ring_of}
 use Rattle.wi_gen.specs.Texts.{query_text, weights_text}
 use Rattle.wi_report.specs.Summaries.{summary_of}
 use Rattle.wi_words.specs.declared.Content.{Content}
-use Rattle.wi_words.specs.Commands.{Wanted, Verify, Check, Exact, CheckExact, Tolerate, Command, Ask, Play, Gen, Protect, Stack, Draw, command_of}
+use Rattle.wi_words.specs.Commands.{Wanted, Verify, Check, Exact, CheckExact, Tolerate, Command, Ask, Play, Gen, Protect, Stack, Audit, Draw, command_of}
+use Rattle.wi_words.specs.Shown.{shown}
+use Rattle.wi_words.specs.declared.Command.{Command as Given}
 use Rattle.wi_wire.specs.declared.refused.StackRefused.{StackRefused}
 use Rattle.wi_wire.specs.declared.refused.StackRefused.TheVariants.{Cut, Reserved, Memory as StackMemory}
-use Rattle.wi_outcome.specs.Edges.{Prints, Says, SaysWhy, kept}
+use Rattle.wi_audit.specs.Audits.{IsBrokenOff}
+use Rattle.wi_outcome.specs.Edges.{Prints, Says, SaysWhy, kept, unprinted}
 use Rattle.wi_outcome.specs.Texts.{status_of, text_of}
 use Rattle.wi_outcome.specs.declared.printed.Printed.{Printed}
 use Rattle.wi_outcome.specs.declared.refusal.Refusal.{Refusal}
-use Rattle.wi_outcome.specs.declared.refusal.Refusal.TheVariants.{BadLine as BadCertificateLine, BadStack, CannotRead, CannotWrite, LargeCertificate, LongScript, Memory, Network, NotAccepted, NotHex, NotWritten, Overflow, Query as BadQuery, Script, TooLong, Weights as BadWeights}
+use Rattle.wi_outcome.specs.declared.refusal.Refusal.TheVariants.{BadLine as BadCertificateLine, BadStack, CannotRead, CannotWrite, CannotWriteBelow, LargeCertificate, LongScript, Memory, Network, NoMemoryBelow, NotAccepted, NotHex, NotWritten, Overflow, Query as BadQuery, Script, TooLong, Weights as BadWeights}
 use Rattle.wi_files.specs.Asked.{AreBadTexts, IsAsked, IsBadQuery, IsBadWeights, WeighsBy}
 use Rattle.wi_files.specs.Certificates.{IsKept, IsNamed, IsNotKept}
 use Rattle.wi_files.specs.Networks.{FileHasFault, FromNetwork, HoldsNetwork}
 use Rattle.wi_files.specs.OnWire.{FromHex, IsHex, IsRefusedStack, ShowsNoStack}
+use Rattle.wi_files.specs.Policies.{FromPoliciesOver}
 use Rattle.wi_files.specs.Scripts.{FromScript, IsBadScript, IsPlay}
-use Rattle.wi_files.specs.Shelves.{IsCalm}
+use Rattle.wi_files.specs.Shelves.{AllStand, IsCalm, IsLeft, StandBut}
 use Rattle.wi_files.proofs.Causes.{longer}
 use Rattle.wi_app.specs.Asked.{FromAsked}
+use Rattle.wi_app.specs.Audited.{EndsAudited}
 use Rattle.wi_app.specs.Certificates.{FromCertificate, FromStore, IsBelievedFile, IsCertificate, IsCertified, IsStored, IsTooLargeToWrite}
 use Rattle.wi_app.specs.Decided.{EndsUndecided, FromDecision, IsReported, printed_by, status_for}
 use Rattle.wi_app.specs.Exact.{EndsUnsplit, FromSplitting, FromTree, FromTreeStore, IsBelievedTreeFile, IsTreeTooLarge}
 use Rattle.wi_app.specs.Generated.{FromRing, IsSummary, IsSummed}
-use Rattle.wi_app.specs.Run.{AreAnswered, CanBeAnswered, Completes, FromCommand, FromWords, IsAnswered, IsStatus, TellsFor}
+use Rattle.wi_app.specs.Run.{CanBeAnswered, Completes, CompletesBy, Does, DoesBy, FromCommand, FromWords, IsAnswered, IsCutShort, IsDone, IsRefused, IsStatus, IsStoredBy, TellsFor}
 use Rattle.wi_app.specs.Tolerance.{AreTreesTooLarge, EndsUntold, FromTolerating, FromTreesStore}
 use Rattle.wi_app.specs.Wanted.{CanBeGiven, EndsAnswered, EndsExactly, FromAnswer, FromWanted, IsGiven, IsStatusFor, MayEnd}
 use Rattle.wi_app.specs.private.Stages.{IsNotBelieved}
 use Rattle.wi_app.proofs.Answers.{answer_ends}
 use Rattle.wi_app.proofs.Asking.{asked_problem}
+use Rattle.wi_app.proofs.Auditing.{audit_ends, one_held, policies_want}
 use Rattle.wi_app.proofs.Ending.{Ends, ends_as, wanting}
 use Rattle.wi_app.proofs.Exactly.{exact_answer_ends, tree_store_due, unsplit_due}
 use Rattle.wi_app.proofs.Protecting.{plan_due}
@@ -192,6 +203,7 @@ words_memory held (Some (Play name script k)) = inl refl
 words_memory held (Some (Gen seed size)) = (refl, tt)
 words_memory held (Some (Protect name)) = inl refl
 words_memory held (Some (Stack hex)) = (refl, tt)
+words_memory held (Some (Audit auditing)) = inl refl
 words_memory held (Some (Draw name)) = refl
 
 -- ---- where all is fine, only memory is wanting
@@ -313,9 +325,6 @@ tree_believed_again : (net : Net) (text : List ℕ) (given : Option (List ℕ)) 
     → IsTreeAccepted (problem_of net q v) t → IsTreeAccepted (problem_of net r u) t
 tree_believed_again net text given q r v u t asked again is other accepted =
     subst (λ w. IsTreeAccepted (problem_of net r w) t) (one_weighing given v u asked.weighs again.weighs) (accept_trees_the_same net text q r v t asked.reads again.reads is.automata other.automata accepted)
-
-one_held : (file : Option (List ℕ)) (a b : List ℕ) → file ≡ Some a → file ≡ Some b → a ≡ b
-one_held file a b first second = let both : Some a ≡ Some b = sym first ∙ second in cc
 
 certificate_wants : (old new : ShelfSeen) (net : Net) (text file : List ℕ) (given : Option (List ℕ)) (q r : Query) (v u : List (List Part)) (c : Certificate) (refusal : Refusal) → old.told ≡ true → IsCalm old new
     → IsAsked net text given q v → IsBelievedFile old (problem_of net q v) file c → IsAsked net text given r u → FromCertificate old new (problem_of net r u) file refusal → status_of refusal ≡ 11
@@ -444,6 +453,11 @@ refused_ends old new (Protect name) refusal t can calm (inr cause) = elim (plan_
   | inr due ↦ (rw due.0 refl, inr (inr (due.0, (cause.0, cause.1 t, due.1))))
 ]
 refused_ends old new (Stack hex) refusal t can calm cause = stack_ends old hex refusal cause.1
+refused_ends old new (Audit auditing) refusal t can calm (inl network) = wanting EndsAudited refusal (network_wants old new auditing.network refusal can.0 t (can.3.network_is t) calm network)
+refused_ends old new (Audit auditing) refusal t can calm (inr cause) =
+    let same : cause.0 ≡ can.0 = one_network (old.file auditing.network) cause.0 can.0 (cause.1 t) (can.3.network_is t) in
+    wanting EndsAudited refusal
+    (policies_want old new can.0 can.1 auditing.given auditing.policies can.2 refusal t can.3.given_is can.3.policies_are calm (subst (λ net. FromPoliciesOver old new net auditing.given auditing.policies refusal) same cause.2))
 refused_ends old new (Draw name) refusal t can calm cause = wanting (IsStatus old (Draw name)) refusal (network_wants old new name refusal can.0 t can.1 calm cause)
 
 -- so a command that can be answered ends with one of its statuses, or memory runs out
@@ -453,18 +467,17 @@ ended held command status result ends r = elim r [
   | inr want ↦ inr want
 ]
 
-pub refused_completes : (words : List (List ℕ)) (shelf_old shelf_new : ShelfSeen) (out_old out_new err_old err_new : SinkSeen) (result : ℕ) (refusal : Refusal)
-    → FromWords shelf_old shelf_new (command_of words) refusal → SaysWhy refusal err_old err_new result → Completes words shelf_old shelf_new out_old out_new err_old err_new result
-refused_completes words shelf_old shelf_new out_old out_new err_old err_new result refusal cause why command is told can calm no_fault silent =
-    let P : Option Command → Type 0 = λ given. FromWords shelf_old shelf_new given refusal in
-    let ends = refused_ends shelf_old shelf_new command refusal told can calm (subst P is cause) in
-    let says = said_why refusal err_old err_new result ends.0 silent why in
+refused_completes : (command : Command) (shelf_old shelf_new : ShelfSeen) (out_old out_new err_old err_new : SinkSeen) (result : ℕ)
+    → IsRefused (Some command) shelf_old shelf_new out_old out_new err_old err_new result → CompletesBy command shelf_old shelf_new out_old out_new err_old err_new result
+refused_completes command shelf_old shelf_new out_old out_new err_old err_new result refused told can calm no_fault silent =
+    let ends = refused_ends shelf_old shelf_new command refused.refusal told can calm refused.cause in
+    let says = said_why refused.refusal err_old err_new result ends.0 silent refused.said in
     elim ends.1 [
       | inl want ↦ (elim says [
         | inl own ↦ inr (own ∙ want)
         | inr other ↦ inr other
       ])
-      | inr due ↦ ended shelf_old command (status_of refusal) result due says
+      | inr due ↦ ended shelf_old command (status_of refused.refusal) result due says
     ]
 
 -- what is printed has a status of the command
@@ -483,20 +496,78 @@ answered_ends old new (Play name script k) status text t answer = answer.1
 answered_ends old new (Gen seed size) status text t answer = inl answer.1
 answered_ends old new (Protect name) status text t answer = inl answer.1
 answered_ends old new (Stack hex) status text t answer = inl answer.1
+answered_ends old new (Audit auditing) status text t answer = audit_ends answer.4
 answered_ends old new (Draw name) status text t answer = answer.1
 
-pub answered_completes : (words : List (List ℕ)) (shelf_old shelf_new : ShelfSeen) (out_old out_new err_old err_new : SinkSeen) (result status : ℕ) (text : List ℕ)
-    → AreAnswered shelf_old shelf_new (command_of words) status text → Prints status text out_old out_new err_old err_new result → Completes words shelf_old shelf_new out_old out_new err_old err_new result
-answered_completes words shelf_old shelf_new out_old out_new err_old err_new result status text answer prints command is told can calm no_fault silent =
-    let P : Option Command → Type 0 = λ given. AreAnswered shelf_old shelf_new given status text in
-    let ends = answered_ends shelf_old shelf_new command status text told (subst P is answer) in
-    elim prints [
-      | inl all ↦ ended shelf_old command status result ends (inl all.2)
+-- want of memory is said with its own status, or can't be
+memory_said : (old new : SinkSeen) (result : ℕ) → new.faults ≡ old.faults → SaysWhy Memory old new result → result ≡ 11
+memory_said old new result silent why = elim (said_why Memory old new result refl silent why) [
+  | inl own ↦ own
+  | inr want ↦ want
+]
+
+done_completes : (command : Command) (shelf_old shelf_new : ShelfSeen) (out_old out_new err_old err_new : SinkSeen) (result : ℕ)
+    → IsDone (Some command) shelf_old shelf_new out_old out_new err_old err_new result → CompletesBy command shelf_old shelf_new out_old out_new err_old err_new result
+done_completes command shelf_old shelf_new out_old out_new err_old err_new result done told can calm no_fault silent =
+    let ends = answered_ends shelf_old shelf_new command done.status done.text told done.answered in
+    elim done.printed [
+      | inl all ↦ ended shelf_old command done.status result ends (inl all.2)
       | inr rest ↦ (elim rest [
         | inl part ↦ (let less = (part.0).fault in absurd (omega (arith, less, no_fault)))
-        | inr nothing ↦ (elim (said_why Memory err_old err_new result refl silent nothing.1) [
-          | inl own ↦ inr own
-          | inr want ↦ inr want
-        ])
+        | inr nothing ↦ inr (memory_said err_old err_new result silent nothing.1)
+      ])
+    ]
+
+cut_completes : (command : Command) (shelf_old shelf_new : ShelfSeen) (out_old out_new err_old err_new : SinkSeen) (result : ℕ)
+    → IsCutShort (Some command) shelf_old shelf_new out_old out_new err_old err_new result → CompletesBy command shelf_old shelf_new out_old out_new err_old err_new result
+cut_completes command shelf_old shelf_new out_old out_new err_old err_new result cut told can calm no_fault silent = inr (by_cause cut.broken.0 cut.broken.1 cut.broken.2 cut.refused cut.broken.4 cut.said)
+  where
+    by_cause : (net : Net) (given : Bounds) (policies : List Policy) (refused : PutRefused) → IsBrokenOff net given policies refused out_old out_new → SaysWhy (unprinted refused) err_old err_new result → result ≡ 11
+    by_cause net given policies Failed (inl part) why = let less = part.fault in absurd (omega (arith, less, no_fault))
+    by_cause net given policies Failed (inr at) why = let less = at.fault in absurd (omega (arith, less, no_fault))
+    by_cause net given policies NoMemory broken why = memory_said err_old err_new result silent why
+
+-- what is printed is what a command does
+pub done_does : (command : Command) (shelf_old shelf_new : ShelfSeen) (out_old out_new err_old err_new : SinkSeen) (result status : ℕ) (text : List ℕ) → IsAnswered shelf_old shelf_new command status text → IsCalm shelf_old shelf_new
+    → Prints status text out_old out_new err_old err_new result → DoesBy (Some command) shelf_old shelf_new out_old out_new err_old err_new result
+done_does command shelf_old shelf_new out_old out_new err_old err_new result status text answered calm prints =
+    inl (record { status = status; text = text; answered = answered; calm = calm; printed = prints })
+
+-- and so is a refusal, whatever the words are
+pub refused_does : (given : Option Command) (shelf_old shelf_new : ShelfSeen) (out err_old err_new : SinkSeen) (result : ℕ) (refusal : Refusal) → FromWords shelf_old shelf_new given refusal → IsLeft refusal shelf_old shelf_new
+    → SaysWhy refusal err_old err_new result → DoesBy given shelf_old shelf_new out out err_old err_new result
+refused_does given shelf_old shelf_new out err_old err_new result refusal cause left why =
+    inr (inl (record { refusal = refusal; cause = cause; left = left; untouched = record { bytes = refl; calm = refl }; said = why }))
+
+-- where all files stand, a refusal has left what it may
+pub all_left : (refusal : Refusal) (old new : ShelfSeen) → AllStand old new → IsLeft refusal old new
+all_left (CannotWrite name said) old new stand = λ other outside. stand other
+all_left (CannotWriteBelow name said) old new stand = λ other outside. stand other
+all_left (NoMemoryBelow name) old new stand = λ other outside. stand other
+all_left refusal old new stand = stand
+
+-- what is read from words is what they are
+pub read_as : (words : List (List ℕ)) (found : Option Given) (command : Given) → found ≡ Some command → option_map shown found ≡ command_of words → Some (shown command) ≡ command_of words
+read_as words found command is reads = sym (ap (option_map shown) is) ∙ reads
+
+pub read_as_none : (words : List (List ℕ)) (found : Option Given) → found ≡ None → option_map shown found ≡ command_of words → None ≡ command_of words
+read_as_none words found is reads = sym (ap (option_map shown) is) ∙ reads
+
+pub does_as : (words : List (List ℕ)) (given : Option Command) (shelf_old shelf_new : ShelfSeen) (out_old out_new err_old err_new : SinkSeen) (result : ℕ) → given ≡ command_of words
+    → DoesBy given shelf_old shelf_new out_old out_new err_old err_new result → Does words shelf_old shelf_new out_old out_new err_old err_new result
+does_as words given shelf_old shelf_new out_old out_new err_old err_new result reads does = subst (λ c. DoesBy c shelf_old shelf_new out_old out_new err_old err_new result) reads does
+
+pub others_as : (words : List (List ℕ)) (given : Option Command) (old new : ShelfSeen) → given ≡ command_of words → StandBut (IsStoredBy given) old new → StandBut (IsStoredBy (command_of words)) old new
+others_as words given old new reads stand = subst (λ c. StandBut (IsStoredBy c) old new) reads stand
+
+-- what a command does completes it
+pub does_completes : (words : List (List ℕ)) (given : Option Command) (shelf_old shelf_new : ShelfSeen) (out_old out_new err_old err_new : SinkSeen) (result : ℕ)
+    → given ≡ command_of words → DoesBy given shelf_old shelf_new out_old out_new err_old err_new result → Completes words shelf_old shelf_new out_old out_new err_old err_new result
+does_completes words given shelf_old shelf_new out_old out_new err_old err_new result reads does command is told can calm no_fault silent =
+    elim (subst (λ c. DoesBy c shelf_old shelf_new out_old out_new err_old err_new result) (reads ∙ is) does) [
+      | inl done ↦ done_completes command shelf_old shelf_new out_old out_new err_old err_new result done told can calm no_fault silent
+      | inr rest ↦ (elim rest [
+        | inl refused ↦ refused_completes command shelf_old shelf_new out_old out_new err_old err_new result refused told can calm no_fault silent
+        | inr cut ↦ cut_completes command shelf_old shelf_new out_old out_new err_old err_new result cut told can calm no_fault silent
       ])
     ]

@@ -26,7 +26,7 @@ use Rattle.wi_app.specs.Exact.{IsReportedExactly}
 use Rattle.wi_app.specs.Run.{AreAnswered, Does, ForAsking, IsAnswered}
 use Rattle.wi_app.specs.Surviving.{IsSurvived, IsSurvivedMoving}
 use Rattle.wi_app.specs.Wanted.{IsGiven}
-use Rattle.wi_app.proofs.Written.{why_high}
+use Rattle.wi_app.proofs.Written.{unanswered_high, why_high}
 
 -- ---- a status of 1 is a no
 no_for : (word : Word) → 1 ≡ status_for word → word ≡ No
@@ -79,7 +79,7 @@ said_of_1 words asking wanted P shelf after out printed err said is follows does
       let answered : IsAnswered shelf after (Ask asking wanted) done.status done.text = subst (λ c. AreAnswered shelf after c done.status done.text) is done.answered in
       let asked = answered.2 in
       (answered.0, answered.1, (asked.0, asked.1, asked.2, asked.3, follows (problem_of answered.0 asked.0 asked.1) done.status done.text asked.3 one asked.4)))
-  | inr refused ↦ (let high = why_high refused.refusal err said 1 refused.said in absurd (omega (arith, high)))
+  | inr other ↦ (let high = unanswered_high (command_of words) shelf after out printed err said 1 other in absurd (omega (arith, high)))
 ]
 
 pub verified_survives : (words : List (List ℕ)) (asking : Asking) (content : Content) (file : Option (List ℕ)) (shelf after : ShelfSeen) (out printed err said : SinkSeen) → command_of words ≡ Some (Ask asking (Verify content file)) → Does words shelf after out printed err said 1

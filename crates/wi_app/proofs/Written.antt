@@ -45,7 +45,7 @@ use Rattle.wi_script.specs.declared.script.ScriptRefused.TheVariants as script_r
 use Rattle.wi_wire.specs.declared.refused.StackRefused.TheVariants as stack_refused
 use Rattle.wi_planjson.specs.declared.refused.PlanRefused.TheVariants as plan_refused
 use Rattle.wi_protect.specs.declared.refused.ProtectRefused.TheVariants as protect_refused
-use Rattle.wi_outcome.specs.Edges.{Says, SaysWhy, kept}
+use Rattle.wi_outcome.specs.Edges.{Says, SaysWhy, kept, unprinted}
 use Rattle.wi_outcome.specs.Texts.{status_of, text_of}
 use Rattle.wi_outcome.specs.declared.refusal.Refusal.{Refusal}
 use Rattle.wi_outcome.specs.declared.refusal.Refusal.TheVariants.{BadStack, Network, Plan, Script, Unprotected, Weights}
@@ -56,7 +56,7 @@ use Rattle.wi_app.specs.Asked.{ForAsked}
 use Rattle.wi_app.specs.Certificates.{IsBelieved, IsBelievedFile, IsStored}
 use Rattle.wi_app.specs.Decided.{IsReported}
 use Rattle.wi_app.specs.Exact.{IsBelievedTreeFile, IsReportedExactly, IsTreeBelieved}
-use Rattle.wi_app.specs.Run.{AreAnswered, CanBeAnswered, Completes, Does, IsAnswered, IsStatus, TellsFor}
+use Rattle.wi_app.specs.Run.{AreAnswered, CanBeAnswered, Completes, Does, IsAnswered, IsCutShort, IsRefused, IsStatus, TellsFor}
 
 -- ---- the text isn't too long to be read
 -- what is done from each place on, whatever the steps and what is left behind them
@@ -228,6 +228,12 @@ why_high refusal old new result s = elim s [
   | inr want ↦ says_high (codes "whatif: out of memory\n") 11 old new result (omega arith) want.1
 ]
 
+-- what isn't answered has no status of an answer
+pub unanswered_high : (command : Option Command) (shelf_old shelf_new : ShelfSeen) (out_old out_new err_old err_new : SinkSeen) (result : ℕ)
+    → IsRefused command shelf_old shelf_new out_old out_new err_old err_new result ⊎ IsCutShort command shelf_old shelf_new out_old out_new err_old err_new result → 3 ≤ result
+unanswered_high command shelf_old shelf_new out_old out_new err_old err_new result (inl refused) = why_high refused.refusal err_old err_new result refused.said
+unanswered_high command shelf_old shelf_new out_old out_new err_old err_new result (inr cut) = why_high (unprinted cut.refused) err_old err_new result cut.said
+
 -- where one command is answered, another that can be answered then ends as it may
 answered_then : (words later : List (List ℕ)) (command next : Command) (shelf between after : ShelfSeen) (out printed err said later_out later_printed later_err later_said : SinkSeen) (status result : ℕ)
     → command_of words ≡ Some command → command_of later ≡ Some next → TellsFor between next → ((status : ℕ) (text : List ℕ) → IsAnswered shelf between command status text → CanBeAnswered between next)
@@ -236,7 +242,7 @@ answered_then : (words later : List (List ℕ)) (command next : Command) (shelf 
 answered_then words later command next shelf between after out printed err said later_out later_printed later_err later_said status result asks checks told can does low completes calm no_fault silent = elim does [
   | inl done ↦ (let answered = subst (λ c. AreAnswered shelf between c done.status done.text) asks done.answered in
       completes next checks told (can done.status done.text answered) calm no_fault silent)
-  | inr refused ↦ (let high = why_high refused.refusal err said status refused.said in absurd (omega (arith, high, low)))
+  | inr other ↦ (let high = unanswered_high (command_of words) shelf between out printed err said status other in absurd (omega (arith, high, low)))
 ]
 
 pub written_accepted : (verifying checking : List (List ℕ)) (asking : Asking) (content : Content) (file : List ℕ) (shelf between after : ShelfSeen) (out printed err said later_out later_printed later_err later_said : SinkSeen) (status result : ℕ)

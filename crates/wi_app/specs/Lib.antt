@@ -5,6 +5,7 @@ pub mod Exact
 pub mod Tolerance
 pub mod Wanted
 pub mod Drawn
+pub mod Audited
 pub mod Generated
 pub mod Run
 pub mod Surviving

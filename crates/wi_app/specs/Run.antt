@@ -2,21 +2,25 @@
 use Rattle.std.specs.Prelude.{◌≡◌, ◌⊎◌, ℕ, true, List, Option, Some, None}
 use Rattle.wi_base.specs.Shelf.{ShelfSeen}
 use Rattle.wi_base.specs.Sink.{SinkSeen}
+use Rattle.wi_base.specs.declared.sink.PutRefused.{PutRefused}
 use Rattle.wi_net.specs.Net.{Net}
 use Rattle.wi_query.specs.declared.query.Query.{Query}
 use Rattle.wi_quantity.specs.declared.vector.Part.{Part}
 use Rattle.wi_build.specs.Problems.{Problem, problem_of}
-use Rattle.wi_words.specs.Commands.{Asking, Command, Ask, Play, Gen, Protect, Stack, Draw, command_of}
-use Rattle.wi_outcome.specs.Edges.{Prints, SaysWhy, Untouched}
+use Rattle.wi_words.specs.Commands.{Asking, Auditing, Command, Ask, Play, Gen, Protect, Stack, Audit, Draw, command_of}
+use Rattle.wi_audit.specs.Audits.{IsBrokenOff}
+use Rattle.wi_outcome.specs.Edges.{Prints, SaysWhy, Untouched, unprinted}
 use Rattle.wi_outcome.specs.declared.refusal.Refusal.{Refusal}
 use Rattle.wi_outcome.specs.declared.refusal.Refusal.TheVariants.{Memory, Usage}
 use Rattle.wi_files.specs.Asked.{IsAsked}
 use Rattle.wi_files.specs.Networks.{FromNetwork, HoldsNetwork}
+use Rattle.wi_files.specs.Policies.{FromPolicies}
 use Rattle.wi_files.specs.OnWire.{FromHex, IsShownHex, ShowsNoStack}
 use Rattle.wi_files.specs.Protection.{FromProtecting, HasNoProtection, IsProtected}
 use Rattle.wi_files.specs.Scripts.{FromPlaying, IsPlay, IsPlayed}
 use Rattle.wi_files.specs.Shelves.{IsCalm, IsLeft}
 use Rattle.wi_app.specs.Asked.{ForAsked, FromAsked}
+use Rattle.wi_app.specs.Audited.{AreTold, EndsAudited, ForPolicies}
 use Rattle.wi_app.specs.Decided.{EndsUndecided}
 use Rattle.wi_app.specs.Drawn.{IsDrawn}
 use Rattle.wi_app.specs.Generated.{ForRing, FromRing, IsSummary}
@@ -34,6 +38,7 @@ IsAnswered old new (Play name script k) status text = IsPlayed old name script k
 IsAnswered old new (Gen seed size) status text = IsSummary seed size text × (status ≡ 0)
 IsAnswered old new (Protect name) status text = IsProtected old name text × (status ≡ 0)
 IsAnswered old new (Stack hex) status text = IsShownHex hex text × (status ≡ 0)
+IsAnswered old new (Audit auditing) status text = AreTold old auditing status text
 IsAnswered old new (Draw name) status text = IsDrawn old name text × (status ≡ 0)
 
 -- no words are answered but those of a command
@@ -57,6 +62,7 @@ FromCommand old new (Play name script k) refusal = FromPlaying old new name scri
 FromCommand old new (Gen seed size) refusal = IsCalm old new × FromRing seed size refusal
 FromCommand old new (Protect name) refusal = FromProtecting old new name refusal
 FromCommand old new (Stack hex) refusal = IsCalm old new × FromHex hex refusal
+FromCommand old new (Audit auditing) refusal = FromPolicies old new auditing.network auditing.given auditing.policies refusal
 FromCommand old new (Draw name) refusal = FromNetwork old new name refusal
 
 -- the words are the cause, which are no command, or what they ask for
@@ -67,30 +73,45 @@ FromWords old new None refusal = ⊥
 FromWords old new (Some command) refusal = FromCommand old new command refusal
 
 -- ---- what is done
--- the program answered: no call on the shelf failed, and the report was printed
-pub record IsDone (words : List (List ℕ)) (shelf_old shelf_new : ShelfSeen) (out_old out_new err_old err_new : SinkSeen) (result : ℕ) : Type 0 where
+-- the program answered: no call on the shelf failed, and what is to be printed was
+pub record IsDone (command : Option Command) (shelf_old shelf_new : ShelfSeen) (out_old out_new err_old err_new : SinkSeen) (result : ℕ) : Type 0 where
   pub status : ℕ
   pub text : List ℕ
-  pub answered : AreAnswered shelf_old shelf_new (command_of words) status text
+  pub answered : AreAnswered shelf_old shelf_new command status text
   pub calm : IsCalm shelf_old shelf_new
   pub printed : Prints status text out_old out_new err_old err_new result
 
 -- the program refused: it has a cause, which says what is left of files, nothing was printed, and it was said why
-pub record IsRefused (words : List (List ℕ)) (shelf_old shelf_new : ShelfSeen) (out_old out_new err_old err_new : SinkSeen) (result : ℕ) : Type 0 where
+pub record IsRefused (command : Option Command) (shelf_old shelf_new : ShelfSeen) (out_old out_new err_old err_new : SinkSeen) (result : ℕ) : Type 0 where
   pub refusal : Refusal
-  pub cause : FromWords shelf_old shelf_new (command_of words) refusal
+  pub cause : FromWords shelf_old shelf_new command refusal
   pub left : IsLeft refusal shelf_old shelf_new
   pub untouched : Untouched out_old out_new
   pub said : SaysWhy refusal err_old err_new result
 
+-- an audit was broken off: what was printed until then stands, and it was said why
+pub record IsCutShort (command : Option Command) (shelf_old shelf_new : ShelfSeen) (out_old out_new err_old err_new : SinkSeen) (result : ℕ) : Type 0 where
+  pub auditing : Auditing
+  pub asks : command ≡ Some (Audit auditing)
+  pub calm : IsCalm shelf_old shelf_new
+  pub refused : PutRefused
+  pub broken : ForPolicies shelf_old auditing (λ net given policies. IsBrokenOff net given policies refused out_old out_new)
+  pub said : SaysWhy (unprinted refused) err_old err_new result
+
+-- what a command does, if there is one
+abbrev pub DoesBy : Option Command → ShelfSeen → ShelfSeen → SinkSeen → SinkSeen → SinkSeen → SinkSeen → ℕ → Type 0
+DoesBy command shelf_old shelf_new out_old out_new err_old err_new result =
+    IsDone command shelf_old shelf_new out_old out_new err_old err_new result
+    ⊎ IsRefused command shelf_old shelf_new out_old out_new err_old err_new result
+    ⊎ IsCutShort command shelf_old shelf_new out_old out_new err_old err_new result
+
 -- what the program does
 abbrev pub Does : List (List ℕ) → ShelfSeen → ShelfSeen → SinkSeen → SinkSeen → SinkSeen → SinkSeen → ℕ → Type 0
-Does words shelf_old shelf_new out_old out_new err_old err_new result =
-    IsDone words shelf_old shelf_new out_old out_new err_old err_new result ⊎ IsRefused words shelf_old shelf_new out_old out_new err_old err_new result
+Does words shelf_old shelf_new out_old out_new err_old err_new result = DoesBy (command_of words) shelf_old shelf_new out_old out_new err_old err_new result
 
 -- a command can be answered: a network's file is held, texts are a query of it and weights, and what is wanted of their problem can be
--- given; or a script is held, too, that can be played; or the network's file has a plan or none, or is drawn. A ring can always be
--- generated, and any text read as bytes
+-- given; or a script is held, too, that can be played, or policies are that can be asked; or the network's file has a plan or none, or is
+-- drawn. A ring can always be generated, and any text read as bytes
 abbrev pub CanBeAnswered : ShelfSeen → Command → Type 0
 CanBeAnswered shelf (Ask asking wanted) =
     (net : Net) × HoldsNetwork (shelf.file asking.network) net
@@ -99,6 +120,7 @@ CanBeAnswered shelf (Play name script k) = (net : Net) × HoldsNetwork (shelf.fi
 CanBeAnswered shelf (Gen seed size) = Unit {0}
 CanBeAnswered shelf (Protect name) = (net : Net) × HoldsNetwork (shelf.file name) net
 CanBeAnswered shelf (Stack hex) = Unit {0}
+CanBeAnswered shelf (Audit auditing) = ForPolicies shelf auditing (λ net given policies. Unit {0})
 CanBeAnswered shelf (Draw name) = (net : Net) × HoldsNetwork (shelf.file name) net
 
 -- the statuses with which a command may end that can be answered
@@ -108,6 +130,7 @@ IsStatus shelf (Play name script k) status = status ≡ 0
 IsStatus shelf (Gen seed size) status = (status ≡ 0) ⊎ ForRing seed size (λ problem. EndsUndecided problem status)
 IsStatus shelf (Protect name) status = (status ≡ 0) ⊎ ((status ≡ 15) × ((bytes : List ℕ) × (shelf.file name ≡ Some bytes) × HasNoProtection bytes))
 IsStatus shelf (Stack hex) status = (status ≡ 0) ⊎ ((status ≡ 16) × ShowsNoStack hex)
+IsStatus shelf (Audit auditing) status = EndsAudited status
 IsStatus shelf (Draw name) status = status ≡ 0
 
 -- the shelf tells what it holds, where a command reads a file
@@ -117,8 +140,11 @@ TellsFor shelf (Stack hex) = Unit {0}
 TellsFor shelf command = shelf.told ≡ true
 
 -- it ends with one of those, unless a call fails or memory runs out
+abbrev pub CompletesBy : Command → ShelfSeen → ShelfSeen → SinkSeen → SinkSeen → SinkSeen → SinkSeen → ℕ → Type 0
+CompletesBy command shelf_old shelf_new out_old out_new err_old err_new result =
+    TellsFor shelf_old command → CanBeAnswered shelf_old command → IsCalm shelf_old shelf_new → out_new.faults ≡ out_old.faults → err_new.faults ≡ err_old.faults
+    → IsStatus shelf_old command result ⊎ (result ≡ 11)
+
 abbrev pub Completes : List (List ℕ) → ShelfSeen → ShelfSeen → SinkSeen → SinkSeen → SinkSeen → SinkSeen → ℕ → Type 0
 Completes words shelf_old shelf_new out_old out_new err_old err_new result =
-    (command : Command) → command_of words ≡ Some command → TellsFor shelf_old command → CanBeAnswered shelf_old command
-    → IsCalm shelf_old shelf_new → out_new.faults ≡ out_old.faults → err_new.faults ≡ err_old.faults
-    → IsStatus shelf_old command result ⊎ (result ≡ 11)
+    (command : Command) → command_of words ≡ Some command → CompletesBy command shelf_old shelf_new out_old out_new err_old err_new result

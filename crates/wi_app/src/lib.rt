@@ -4,6 +4,7 @@
 mod answer;
 mod app;
 mod ask;
+mod audit;
 mod check;
 mod check_exact;
 mod decided;

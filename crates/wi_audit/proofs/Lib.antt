@@ -1,3 +1,4 @@
 pub mod Known
 pub mod Rows
 pub mod Telling
+pub mod Putting

@@ -1,2 +1,3 @@
 -- What only private contracts and proofs use: no public contract reaches it.
 pub mod Shows
+pub mod Puts

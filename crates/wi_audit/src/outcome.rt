@@ -10,11 +10,9 @@ use std::alloc::Global;
 use wi_base::NoMemory;
 use wi_branch::{ExactRefused, exact};
 use wi_build::Problem;
+use wi_outcome::NODE_LIMIT;
 use wi_trace::Answer;
 use wi_world::Word;
-
-/// How many nodes a tree may have.
-pub(crate) const NODE_LIMIT: u32 = 10_000;
 
 /// What becomes of a policy that is asked.
 #[derive(Drop)]

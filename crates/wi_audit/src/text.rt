@@ -5,11 +5,12 @@ ghost use Rattle.wi_report.specs.Reports.{word_shown};
 ghost use Rattle.wi_audit.specs.Texts.{called, cause_text, commented, diagnostics, lines_by, outcome_text, plan_text, safe_byte, test_line};
 ghost use Rattle.wi_audit.specs.private.Shows.{IsShowable, mark};
 
-use crate::outcome::{Fulfilment, NODE_LIMIT, Outcome};
+use crate::outcome::{Fulfilment, Outcome};
 use std::alloc::Global;
 use wi_base::{NoMemory, write_decimal};
 use wi_branch::ExactRefused;
 use wi_build::Problem;
+use wi_outcome::NODE_LIMIT;
 use wi_policy::Policy;
 use wi_report::{exact_report, nodes_over_limit_text, overflow_text, too_long_text};
 use wi_text::Text;

@@ -2,4 +2,6 @@ pub mod Causes
 pub mod ShelfLemmas
 mod Parts
 mod Playing
+mod Listing
+pub mod Giving
 mod HexLemmas

@@ -4,5 +4,6 @@ pub mod Scripts
 pub mod Protection
 pub mod OnWire
 pub mod Asked
+pub mod Policies
 pub mod Certificates
 pub mod private

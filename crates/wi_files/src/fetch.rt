@@ -1,12 +1,16 @@
 //! A file over its limit could be read, so that is a fault of the file and no failed call. The limits stand here and are given
 //! to the shelf, so that it needn't read a longer file to its end. A network's bytes are in memory until it is read.
-ghost use Rattle.std.specs.Prelude.{◌≡◌, true, ◌≤◌, ℕ, List, Ok, Some, IfOk, IfErr, vec_len, length};
+ghost use Rattle.std.specs.Prelude.{◌≡◌, true, ◌≤◌, ℕ, List, Ok, Some, IfOk, IfErr, IfSome, MatchOption, vec_len, length};
+ghost use Rattle.wi_base.specs.Shelf.{IsLonger};
+ghost use Rattle.wi_net.specs.declared.bounds.Bounds.{Bounds};
 ghost use Rattle.wi_netjson.specs.File.{network_of};
 ghost use Rattle.wi_netjson.specs.Reading.{Fails};
 ghost use Rattle.wi_net.specs.Net.{Net};
 ghost use Rattle.wi_files.specs.Networks.{FromNetwork, HoldsNetwork};
+ghost use Rattle.wi_files.specs.Policies.{FromPoliciesFile};
 ghost use Rattle.wi_files.specs.Scripts.{FromScript};
 ghost use Rattle.wi_files.specs.Shelves.{AllStand, IsCalm};
+ghost use Rattle.wi_files.specs.private.Stages.{IsUnread};
 
 use std::alloc::Global;
 use wi_base::{FetchRefused, Shelf};
@@ -17,8 +21,8 @@ use wi_outcome::{Refusal, cannot_read};
 /// The most bytes of a network file.
 pub const NETWORK_LIMIT: u32 = 67_108_864;
 
-/// The most bytes of a script.
-const SCRIPT_LIMIT: u64 = 1_048_576;
+/// The most bytes of a script, and of a file of policies.
+const LINES_LIMIT: u32 = 1_048_576;
 
 /// The network that a file means.
 pub fn network<'a, S: Shelf>(
@@ -51,15 +55,9 @@ pub fn network_bytes<'a, S: Shelf>(
     ensures found { (S.seen shelf.old).told ≡ true → IfOk result (λ bytes. (S.seen shelf.old).file name.now ≡ Some bytes.items) }
     ensures refused { IfErr result (λ refusal. FromNetwork (S.seen shelf.old) (S.seen shelf.new) name.now refusal) }
 {
-    let unread = cannot_read(alloc, name)?;
-    match shelf.fetch(name, NETWORK_LIMIT as u64) {
-        Ok(bytes) => Ok(bytes),
-        Err(FetchRefused::Failed) => Err(Refusal::CannotRead(unread)),
-        Err(FetchRefused::TooBig) => Err(Refusal::Network(NetFault::OverLimit(
-            Place::File,
-            NETWORK_LIMIT,
-        ))),
-        Err(FetchRefused::Memory) => Err(Refusal::Memory),
+    match bytes_within(alloc, name, NETWORK_LIMIT, shelf)? {
+        Some(bytes) => Ok(bytes),
+        None => Err(Refusal::Network(NetFault::OverLimit(Place::File, NETWORK_LIMIT))),
     }
 }
 
@@ -76,11 +74,50 @@ pub fn script_bytes<'a, S: Shelf>(
     ensures found { (S.seen shelf.old).told ≡ true → IfOk result (λ bytes. (S.seen shelf.old).file name.now ≡ Some bytes.items) }
     ensures refused { (net : Net) (k : ℕ) → IfErr result (λ refusal. FromScript (S.seen shelf.old) (S.seen shelf.new) net name.now k refusal) }
 {
+    match bytes_within(alloc, name, LINES_LIMIT, shelf)? {
+        Some(bytes) => Ok(bytes),
+        None => Err(Refusal::LongScript),
+    }
+}
+
+/// The bytes of a file of policies, for a network and what is given.
+pub fn policies_bytes<'a, S: Shelf>(
+    alloc: Global,
+    name: &'a str,
+    shelf: &mut S,
+) -> Result<Vec<u8>, Refusal<'a>>
+    ensures told { (S.seen shelf.new).told ≡ (S.seen shelf.old).told }
+    ensures files { AllStand (S.seen shelf.old) (S.seen shelf.new) }
+    ensures calm { IfOk result (λ _. IsCalm (S.seen shelf.old) (S.seen shelf.new)) }
+    ensures short { IfOk result (λ bytes. length bytes.items ≤ 1048576) }
+    ensures found { (S.seen shelf.old).told ≡ true → IfOk result (λ bytes. (S.seen shelf.old).file name.now ≡ Some bytes.items) }
+    ensures refused { (net : Net) (given : Bounds) → IfErr result (λ refusal. FromPoliciesFile (S.seen shelf.old) (S.seen shelf.new) net given name.now refusal) }
+{
+    match bytes_within(alloc, name, LINES_LIMIT, shelf)? {
+        Some(bytes) => Ok(bytes),
+        None => Err(Refusal::LongPolicies),
+    }
+}
+
+// The bytes of a file, or none where there are more than so many.
+fn bytes_within<'a, S: Shelf>(
+    alloc: Global,
+    name: &'a str,
+    limit: u32,
+    shelf: &mut S,
+) -> Result<Option<Vec<u8>>, Refusal<'a>>
+    ensures told { (S.seen shelf.new).told ≡ (S.seen shelf.old).told }
+    ensures files { AllStand (S.seen shelf.old) (S.seen shelf.new) }
+    ensures calm { IfOk result (λ _. IsCalm (S.seen shelf.old) (S.seen shelf.new)) }
+    ensures short { IfOk result (λ found. IfSome found (λ bytes. length bytes.items ≤ limit)) }
+    ensures found { (S.seen shelf.old).told ≡ true → IfOk result (λ found. MatchOption found (IsLonger ((S.seen shelf.old).file name.now) limit) (λ bytes. (S.seen shelf.old).file name.now ≡ Some bytes.items)) }
+    ensures refused { IfErr result (λ refusal. IsUnread (S.seen shelf.old) (S.seen shelf.new) name.now refusal) }
+{
     let unread = cannot_read(alloc, name)?;
-    match shelf.fetch(name, SCRIPT_LIMIT) {
-        Ok(bytes) => Ok(bytes),
+    match shelf.fetch(name, limit as u64) {
+        Ok(bytes) => Ok(Some(bytes)),
         Err(FetchRefused::Failed) => Err(Refusal::CannotRead(unread)),
-        Err(FetchRefused::TooBig) => Err(Refusal::LongScript),
+        Err(FetchRefused::TooBig) => Ok(None),
         Err(FetchRefused::Memory) => Err(Refusal::Memory),
     }
 }

@@ -1,6 +1,8 @@
 -- What was put on a sink: what is printed, and what is said.
 use Rattle.std.specs.Prelude.{◌≡◌, ◌⊎◌, ℕ, ◌<◌, ◌==◌, true, if◌then◌else◌, List, ◌++◌, take, codes}
 use Rattle.wi_base.specs.Sink.{SinkSeen}
+use Rattle.wi_base.specs.declared.sink.PutRefused.{PutRefused}
+use Rattle.wi_base.specs.declared.sink.PutRefused.TheVariants as put
 use Rattle.wi_outcome.specs.Texts.{IsPutTogether, status_of, text_of}
 use Rattle.wi_outcome.specs.declared.refusal.Refusal.{Refusal}
 use Rattle.wi_outcome.specs.declared.refusal.Refusal.TheVariants.{CannotPrint, Memory}
@@ -41,6 +43,11 @@ abbrev pub SaysWhy : Refusal → SinkSeen → SinkSeen → ℕ → Type 0
 SaysWhy refusal old new result =
     Says (text_of refusal) (status_of refusal) old new result
     ⊎ (IsPutTogether refusal × Says (codes "whatif: out of memory\n") 11 old new result)
+
+-- why what was to be printed isn't
+abbrev pub unprinted : PutRefused → Refusal
+unprinted put.Failed = CannotPrint
+unprinted put.Memory = Memory
 
 -- a report was printed, and nothing was said; or it wasn't, and it was said why
 abbrev pub Prints : ℕ → List ℕ → SinkSeen → SinkSeen → SinkSeen → SinkSeen → ℕ → Type 0

@@ -14,7 +14,7 @@ use Rattle.wi_report.specs.CertificateFaults.{bad_line_text, certificate_fault_t
 use Rattle.wi_report.specs.Stacks.{stack_refused_text}
 use Rattle.wi_wire.specs.declared.refused.StackRefused.TheVariants as stack
 use Rattle.wi_outcome.specs.declared.refusal.Refusal.{Refusal}
-use Rattle.wi_outcome.specs.declared.refusal.Refusal.TheVariants.{BadLine, BadStack, CannotPrint, CannotRead, CannotWrite, CannotWriteBelow, LargeCertificate, LargeNetwork, LongScript, ManyNodes, Memory, Network, NoMemoryBelow, NotAccepted, NotHex, NotWritten, Overflow, Plan, Query, Script, TooLong, TreeNotWritten, Unprotected, Usage, Weights}
+use Rattle.wi_outcome.specs.declared.refusal.Refusal.TheVariants.{BadLine, BadStack, CannotPrint, CannotRead, CannotWrite, CannotWriteBelow, Given, LargeCertificate, LargeNetwork, LongPolicies, LongScript, ManyNodes, Memory, Network, NoMemoryBelow, NotAccepted, NotHex, NotWritten, Overflow, Plan, Policies, Query, Script, TooLong, TreeNotWritten, Unprotected, Usage, Weights}
 
 -- what is said of a call that failed, by the name of its file
 abbrev pub cannot_read_text : List ℕ → List ℕ
@@ -25,7 +25,7 @@ cannot_write_text name = codes "whatif: cannot write " ++ name ++ codes "\n"
 
 -- what is said
 abbrev pub text_of : Refusal → List ℕ
-text_of Usage = codes "usage: whatif verify NETWORK QUERY [--weights W] [--certificate FILE]\n       whatif check NETWORK QUERY CERTIFICATE [--weights W]\n       whatif play NETWORK SCRIPT K\n       whatif gen SEED SIZE\n       whatif exact NETWORK QUERY [--weights W] [--certificate FILE]\n       whatif check-exact NETWORK QUERY CERTIFICATE [--weights W]\n       whatif tolerate NETWORK QUERY LIMIT [--weights W] [--certificate FILE]\n       whatif protect PLAN\n       whatif packets NETWORK QUERY [--weights W]\n       whatif stack HEX\n       whatif draw NETWORK [QUERY [--weights W]]\n"
+text_of Usage = codes "usage: whatif verify NETWORK QUERY [--weights W] [--certificate FILE]\n       whatif check NETWORK QUERY CERTIFICATE [--weights W]\n       whatif play NETWORK SCRIPT K\n       whatif gen SEED SIZE\n       whatif exact NETWORK QUERY [--weights W] [--certificate FILE]\n       whatif check-exact NETWORK QUERY CERTIFICATE [--weights W]\n       whatif tolerate NETWORK QUERY LIMIT [--weights W] [--certificate FILE]\n       whatif protect PLAN\n       whatif packets NETWORK QUERY [--weights W]\n       whatif stack HEX\n       whatif audit NETWORK POLICIES [--given TEXT]\n       whatif draw NETWORK [QUERY [--weights W]]\n"
 text_of (CannotRead said) = said
 text_of (CannotWrite name said) = said
 text_of (CannotWriteBelow name said) = said
@@ -33,6 +33,7 @@ text_of (NoMemoryBelow name) = codes "whatif: out of memory\n"
 text_of (Network f) = fault_text f
 text_of (Query said) = said
 text_of (Weights f) = weight_fault_text f
+text_of (Given said) = said
 text_of (Overflow w terms) = overflow_text terms w
 text_of (TooLong effort) = too_long_text effort
 text_of (Script refused) = script_fault_text refused
@@ -48,6 +49,8 @@ text_of (Unprotected refused) = protect_fault_text refused
 text_of LargeNetwork = codes "plan: file: over the limit 67108864\n"
 text_of NotHex = codes "wire: not hex\n"
 text_of (BadStack refused) = stack_refused_text refused
+text_of LongPolicies = codes "policies: over the limit 1048576\n"
+text_of (Policies said) = said
 text_of CannotPrint = codes "whatif: cannot print\n"
 text_of Memory = codes "whatif: out of memory\n"
 
@@ -58,12 +61,15 @@ IsPutTogether (CannotRead said) = ⊥
 IsPutTogether (CannotWrite name said) = ⊥
 IsPutTogether (CannotWriteBelow name said) = ⊥
 IsPutTogether (Query said) = ⊥
+IsPutTogether (Given said) = ⊥
 IsPutTogether LongScript = ⊥
 IsPutTogether LargeCertificate = ⊥
 IsPutTogether NotWritten = ⊥
 IsPutTogether TreeNotWritten = ⊥
 IsPutTogether LargeNetwork = ⊥
 IsPutTogether NotHex = ⊥
+IsPutTogether LongPolicies = ⊥
+IsPutTogether (Policies said) = ⊥
 IsPutTogether CannotPrint = ⊥
 IsPutTogether (NoMemoryBelow name) = ⊥
 IsPutTogether Memory = ⊥
@@ -81,6 +87,7 @@ status_of (Network f) = 3
 status_of (Query said) = 4
 status_of (Weights weights.Memory) = 11
 status_of (Weights f) = 5
+status_of (Given said) = 4
 status_of (Overflow w terms) = 6
 status_of (TooLong effort) = 7
 status_of (Script script.Memory) = 11
@@ -100,5 +107,7 @@ status_of LargeNetwork = 15
 status_of NotHex = 16
 status_of (BadStack stack.Memory) = 11
 status_of (BadStack refused) = 16
+status_of LongPolicies = 17
+status_of (Policies said) = 17
 status_of CannotPrint = 10
 status_of Memory = 11

@@ -1,6 +1,6 @@
 //! What is printed goes out in one call; where that fails, a front of it may stand there.
 ghost use Rattle.std.specs.Prelude.{◌≡◌, ◌<◌, ◌-◌, ◌^◌};
-ghost use Rattle.wi_outcome.specs.Edges.{Prints};
+ghost use Rattle.wi_outcome.specs.Edges.{Prints, SaysWhy, unprinted};
 
 use crate::refusal::{Refusal, say};
 use std::alloc::Global;
@@ -24,7 +24,18 @@ pub fn print<O: Sink, E: Sink>(alloc: Global, printed: &Printed, out: &mut O, er
 {
     match out.put(printed.text.as_bytes()) {
         Ok(()) => printed.status,
-        Err(PutRefused::Failed) => say(alloc, Refusal::CannotPrint, err),
-        Err(PutRefused::Memory) => say(alloc, Refusal::Memory, err),
+        Err(refused) => say_unprinted(alloc, refused, err),
+    }
+}
+
+/// Says on `err` why a call that was to print failed, and gives the exit status.
+pub fn say_unprinted<E: Sink>(alloc: Global, refused: PutRefused, err: &mut E) -> u8
+    requires { (E.seen err.old).faults < 2 ^ 64 - 1 }
+    ensures told { (E.seen err.new).told ≡ (E.seen err.old).told }
+    ensures said { SaysWhy (unprinted refused) (E.seen err.old) (E.seen err.new) result }
+{
+    match refused {
+        PutRefused::Failed => say(alloc, Refusal::CannotPrint, err),
+        PutRefused::Memory => say(alloc, Refusal::Memory, err),
     }
 }

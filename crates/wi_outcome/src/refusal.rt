@@ -26,7 +26,7 @@ pub const NODE_LIMIT: u32 = 10_000;
 
 // What is said where the words are no command.
 const USAGE: &[u8] =
-    b"usage: whatif verify NETWORK QUERY [--weights W] [--certificate FILE]\n       whatif check NETWORK QUERY CERTIFICATE [--weights W]\n       whatif play NETWORK SCRIPT K\n       whatif gen SEED SIZE\n       whatif exact NETWORK QUERY [--weights W] [--certificate FILE]\n       whatif check-exact NETWORK QUERY CERTIFICATE [--weights W]\n       whatif tolerate NETWORK QUERY LIMIT [--weights W] [--certificate FILE]\n       whatif protect PLAN\n       whatif packets NETWORK QUERY [--weights W]\n       whatif stack HEX\n       whatif draw NETWORK [QUERY [--weights W]]\n";
+    b"usage: whatif verify NETWORK QUERY [--weights W] [--certificate FILE]\n       whatif check NETWORK QUERY CERTIFICATE [--weights W]\n       whatif play NETWORK SCRIPT K\n       whatif gen SEED SIZE\n       whatif exact NETWORK QUERY [--weights W] [--certificate FILE]\n       whatif check-exact NETWORK QUERY CERTIFICATE [--weights W]\n       whatif tolerate NETWORK QUERY LIMIT [--weights W] [--certificate FILE]\n       whatif protect PLAN\n       whatif packets NETWORK QUERY [--weights W]\n       whatif stack HEX\n       whatif audit NETWORK POLICIES [--given TEXT]\n       whatif draw NETWORK [QUERY [--weights W]]\n";
 
 // What is said where memory ran out.
 const NO_MEMORY: &[u8] = b"whatif: out of memory\n";
@@ -50,6 +50,8 @@ pub enum Refusal<'a> {
     Query(Text),
     /// The text of the weights has this fault.
     Weights(WeightFault),
+    /// The text of what is given has a fault, of which this is said.
+    Given(Text),
     /// A summary has this weight, which doesn't fit; so many terms of it are shown.
     Overflow(Weight, usize),
     /// The least run has this effort, which is too much.
@@ -80,6 +82,10 @@ pub enum Refusal<'a> {
     NotHex,
     /// The bytes begin with no label stack.
     BadStack(StackRefused),
+    /// The file of policies has too many bytes.
+    LongPolicies,
+    /// The file of policies has a fault, or no policy, of which this is said.
+    Policies(Text),
     /// The call that was to print failed.
     CannotPrint,
     /// Memory ran out.
@@ -107,6 +113,7 @@ pub fn status_of(refusal: &Refusal<'_>) -> u8
         Refusal::Query(_) => 4,
         Refusal::Weights(WeightFault::Memory) => 11,
         Refusal::Weights(_) => 5,
+        Refusal::Given(_) => 4,
         Refusal::Overflow(_, _) => 6,
         Refusal::TooLong(_) => 7,
         Refusal::Usage => 9,
@@ -132,6 +139,8 @@ pub fn status_of(refusal: &Refusal<'_>) -> u8
         Refusal::NotHex => 16,
         Refusal::BadStack(StackRefused::Memory) => 11,
         Refusal::BadStack(_) => 16,
+        Refusal::LongPolicies => 17,
+        Refusal::Policies(_) => 17,
         Refusal::Memory => 11,
     }
 }
@@ -152,6 +161,7 @@ pub fn say<E: Sink>(alloc: Global, refusal: Refusal<'_>, err: &mut E) -> u8
         Refusal::Network(fault) => put_made(network_fault_text(alloc, fault), status, err),
         Refusal::Query(text) => put(text.as_bytes(), status, err),
         Refusal::Weights(fault) => put_made(weight_fault_text(alloc, &fault), status, err),
+        Refusal::Given(text) => put(text.as_bytes(), status, err),
         Refusal::Overflow(weight, terms) => {
             put_made(overflow_text(alloc, &weight, terms), status, err)
         }
@@ -185,6 +195,8 @@ pub fn say<E: Sink>(alloc: Global, refusal: Refusal<'_>, err: &mut E) -> u8
         Refusal::LargeNetwork => put(b"plan: file: over the limit 67108864\n", status, err),
         Refusal::NotHex => put(b"wire: not hex\n", status, err),
         Refusal::BadStack(refused) => put_made(stack_refused_text(alloc, &refused), status, err),
+        Refusal::LongPolicies => put(b"policies: over the limit 1048576\n", status, err),
+        Refusal::Policies(text) => put(text.as_bytes(), status, err),
         Refusal::CannotPrint => put(b"whatif: cannot print\n", status, err),
         Refusal::Memory => put(NO_MEMORY, status, err),
     }

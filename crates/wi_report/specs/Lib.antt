@@ -2,6 +2,7 @@ pub mod Shown
 pub mod States
 pub mod NetworkFaults
 pub mod PlanFaults
+pub mod PolicyFaults
 pub mod QueryFaults
 pub mod WeightFaults
 pub mod Reports

@@ -1,16 +1,16 @@
 //! A fault has a link as a number, so these texts need the network, unlike those of other faults. Names have quotation marks
-//! where a query needs them, as in a report.
+//! where a query needs them, as in a report. What is wrong is said in the same words wherever a query stands.
 ghost use Rattle.std.specs.Prelude.{◌≡◌, ◌++◌, codes, IfOk, OnOk};
 ghost use Rattle.std.specs.Fmt.{decimal};
 ghost use Rattle.wi_text.specs.Names.{shown};
 ghost use Rattle.wi_report.specs.Shown.{label_name_shown, link_shown};
-ghost use Rattle.wi_report.specs.QueryFaults.{byte_text, query_fault_text};
+ghost use Rattle.wi_report.specs.QueryFaults.{byte_words, down_and_up_words, given_fault_text, query_fault_text, query_fault_words, strict_fault_words};
 
 use crate::shown::{put_counted, put_known, put_label_name};
 use std::alloc::Global;
 use wi_base::NoMemory;
 use wi_net::{LinkId, Network};
-use wi_query::QueryFault;
+use wi_query::{QueryFault, StrictFault};
 use wi_text::Text;
 
 /// What is said of a fault of a query: its byte, and what is wrong there. Bytes count from 0.
@@ -18,18 +18,44 @@ pub fn query_fault_text(alloc: Global, net: &Network, fault: &QueryFault) -> Res
     ensures { IfOk result (λ text. text ≡ query_fault_text net.now fault.now) }
 {
     let mut text = Text::new(alloc);
-    put_fault(net, fault, &mut text)?;
+    text.put("query: ")?;
+    put_query_fault(net, fault, &mut text)?;
+    text.put("\n")?;
     Ok(text)
 }
 
-fn put_fault(net: &Network, fault: &QueryFault, text: &mut Text) -> Result<(), NoMemory>
-    ensures { OnOk result (text.new ≡ text.old ++ query_fault_text net.now fault.now) }
+/// What is said of a fault of links that are given. Bytes count from 0.
+pub fn given_fault_text(alloc: Global, net: &Network, fault: &StrictFault) -> Result<Text, NoMemory>
+    ensures { IfOk result (λ text. text ≡ given_fault_text net.now fault.now) }
+{
+    let mut text = Text::new(alloc);
+    text.put("given: ")?;
+    put_strict_fault(net, fault, &mut text)?;
+    text.put("\n")?;
+    Ok(text)
+}
+
+/// Adds what is wrong with a query each of whose pairs has to mean a link.
+pub(crate) fn put_strict_fault(
+    net: &Network,
+    fault: &StrictFault,
+    text: &mut Text,
+) -> Result<(), NoMemory>
+    ensures { OnOk result (text.new ≡ text.old ++ strict_fault_words net.now fault.now) }
 {
     match fault {
-        QueryFault::Memory => text.put("whatif: out of memory\n"),
-        QueryFault::TooLong(bytes) => {
-            put_counted("query: ", *bytes, " bytes, limit 4096\n", text)
-        }
+        StrictFault::InQuery(fault) => put_query_fault(net, fault, text),
+        StrictFault::NoLink(byte) => at(*byte, "no link", text),
+    }
+}
+
+// Adds what is wrong with a query.
+fn put_query_fault(net: &Network, fault: &QueryFault, text: &mut Text) -> Result<(), NoMemory>
+    ensures { OnOk result (text.new ≡ text.old ++ query_fault_words net.now fault.now) }
+{
+    match fault {
+        QueryFault::Memory => text.put("out of memory"),
+        QueryFault::TooLong(bytes) => put_counted("", *bytes, " bytes, limit 4096", text),
         QueryFault::Syntax(byte) => at(*byte, "syntax", text),
         QueryFault::UnknownLabel(byte, name) => unknown_label(*byte, name.as_str(), text),
         QueryFault::UnknownRouter(byte, name) => {
@@ -42,56 +68,54 @@ fn put_fault(net: &Network, fault: &QueryFault, text: &mut Text) -> Result<(), N
             too_many(*expression, *positions, text)
         }
         QueryFault::TooManyFailures(byte) => at(*byte, "over the limit 65535", text),
-        QueryFault::DownAndUp(link) => down_and_up(net, *link, text),
+        QueryFault::DownAndUp(link) => put_down_and_up(net, *link, text),
     }
 }
 
 // What comes before a fault's words.
 fn begin(byte: usize, text: &mut Text) -> Result<(), NoMemory>
-    ensures { OnOk result (text.new ≡ text.old ++ (codes "query: byte " ++ decimal byte ++ codes ": ")) }
+    ensures { OnOk result (text.new ≡ text.old ++ (codes "byte " ++ decimal byte ++ codes ": ")) }
 {
-    put_counted("query: byte ", byte, ": ", text)
+    put_counted("byte ", byte, ": ", text)
 }
 
 // A fault at a byte.
 fn at(byte: usize, words: &str, text: &mut Text) -> Result<(), NoMemory>
-    ensures { OnOk result (text.new ≡ text.old ++ byte_text byte words.now) }
+    ensures { OnOk result (text.new ≡ text.old ++ byte_words byte words.now) }
 {
     begin(byte, text)?;
-    text.put(words)?;
-    text.put("\n")
+    text.put(words)
 }
 
 // A name that isn't known, behind these words.
 fn unknown(byte: usize, words: &str, name: &str, text: &mut Text) -> Result<(), NoMemory>
-    ensures { OnOk result (text.new ≡ text.old ++ byte_text byte (words.now ++ shown name.now)) }
+    ensures { OnOk result (text.new ≡ text.old ++ byte_words byte (words.now ++ shown name.now)) }
 {
     begin(byte, text)?;
     text.put(words)?;
-    text.put_name(name)?;
-    text.put("\n")
+    text.put_name(name)
 }
 
 fn unknown_label(byte: usize, name: &str, text: &mut Text) -> Result<(), NoMemory>
-    ensures { OnOk result (text.new ≡ text.old ++ byte_text byte (codes "unknown label " ++ label_name_shown name.now)) }
+    ensures { OnOk result (text.new ≡ text.old ++ byte_words byte (codes "unknown label " ++ label_name_shown name.now)) }
 {
     begin(byte, text)?;
     text.put("unknown label ")?;
-    put_label_name(name, text)?;
-    text.put("\n")
+    put_label_name(name, text)
 }
 
 fn too_many(expression: u32, positions: usize, text: &mut Text) -> Result<(), NoMemory>
-    ensures { OnOk result (text.new ≡ text.old ++ ((codes "query: expression " ++ decimal expression ++ codes " has ") ++ (codes "" ++ decimal positions ++ codes " positions, limit 512\n"))) }
+    ensures { OnOk result (text.new ≡ text.old ++ ((codes "expression " ++ decimal expression ++ codes " has ") ++ (codes "" ++ decimal positions ++ codes " positions, limit 512"))) }
 {
-    put_counted("query: expression ", expression as usize, " has ", text)?;
-    put_counted("", positions, " positions, limit 512\n", text)
+    put_counted("expression ", expression as usize, " has ", text)?;
+    put_counted("", positions, " positions, limit 512", text)
 }
 
-fn down_and_up(net: &Network, link: LinkId, text: &mut Text) -> Result<(), NoMemory>
-    ensures { OnOk result (text.new ≡ text.old ++ (codes "query: link " ++ link_shown net.now link ++ codes " both down and up\n")) }
+/// Adds that a link is both down and up.
+pub(crate) fn put_down_and_up(net: &Network, link: LinkId, text: &mut Text) -> Result<(), NoMemory>
+    ensures { OnOk result (text.new ≡ text.old ++ down_and_up_words (link_shown net.now link)) }
 {
-    text.put("query: link ")?;
+    text.put("link ")?;
     put_known(net, link, text)?;
-    text.put(" both down and up\n")
+    text.put(" both down and up")
 }

@@ -6,6 +6,8 @@
 #[cfg(test)]
 mod answers;
 #[cfg(test)]
+mod audits;
+#[cfg(test)]
 mod called;
 #[cfg(test)]
 mod certificates;

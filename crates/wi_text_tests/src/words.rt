@@ -2,7 +2,7 @@
 use std::alloc::Global;
 use std::process::Abort;
 use std::test::Fail;
-use wi_words::{Command, Content, Wanted, command_of};
+use wi_words::{Command, Content, Printing, Wanted, command_of};
 
 fn words_of(alloc: Global, text: &str) -> Result<Vec<String>, Fail> {
     let mut words = Vec::new(alloc);
@@ -23,13 +23,15 @@ fn is_verify(
     let words = words_of(alloc, text)?;
     match command_of(alloc, words.as_slice())? {
         Some(
-            Command::Ask {
-                asking,
-                wanted: Wanted::Verify {
-                    content: Content::Report,
-                    certificate: c,
+            Command::Print(
+                Printing::Ask {
+                    asking,
+                    wanted: Wanted::Verify {
+                        content: Content::Report,
+                        certificate: c,
+                    },
                 },
-            },
+            ),
         ) => {
             assert!(rt;
                 asking.network == network && asking.query == query,
@@ -52,10 +54,12 @@ fn is_check(
     let words = words_of(alloc, text)?;
     match command_of(alloc, words.as_slice())? {
         Some(
-            Command::Ask {
-                asking,
-                wanted: Wanted::Check { certificate: c },
-            },
+            Command::Print(
+                Printing::Ask {
+                    asking,
+                    wanted: Wanted::Check { certificate: c },
+                },
+            ),
         ) => {
             assert!(rt; asking.network == "n" && asking.query == "q", "{text}");
             assert!(rt; asking.weights == weights && c == certificate, "{text}");
@@ -68,7 +72,7 @@ fn is_check(
 fn is_play(rt: &impl Abort, alloc: Global, text: &str, most: u32) -> Result<(), Fail> {
     let words = words_of(alloc, text)?;
     match command_of(alloc, words.as_slice())? {
-        Some(Command::Play { network, script, k }) => {
+        Some(Command::Print(Printing::Play { network, script, k })) => {
             assert!(rt; network == "n" && script == "s" && k == most, "{text}");
         }
         _ => assert!(rt; false, "{text}"),
@@ -84,7 +88,7 @@ fn is_gen(
 ) -> Result<(), Fail> {
     let words = words_of(alloc, text)?;
     match command_of(alloc, words.as_slice())? {
-        Some(Command::Gen { seed: s, size: n }) => {
+        Some(Command::Print(Printing::Gen { seed: s, size: n })) => {
             assert!(rt; s == seed && n == size, "{text}");
         }
         _ => assert!(rt; false, "{text}"),
@@ -102,13 +106,15 @@ fn is_packets(
     let words = words_of(alloc, text)?;
     match command_of(alloc, words.as_slice())? {
         Some(
-            Command::Ask {
-                asking,
-                wanted: Wanted::Verify {
-                    content: Content::Packets,
-                    certificate: None,
+            Command::Print(
+                Printing::Ask {
+                    asking,
+                    wanted: Wanted::Verify {
+                        content: Content::Packets,
+                        certificate: None,
+                    },
                 },
-            },
+            ),
         ) => {
             assert!(rt; asking.network == network && asking.query == "q", "{text}");
             assert!(rt; asking.weights == weights, "{text}");
@@ -127,13 +133,15 @@ fn is_drawing(
     let words = words_of(alloc, text)?;
     match command_of(alloc, words.as_slice())? {
         Some(
-            Command::Ask {
-                asking,
-                wanted: Wanted::Verify {
-                    content: Content::Drawing,
-                    certificate: None,
+            Command::Print(
+                Printing::Ask {
+                    asking,
+                    wanted: Wanted::Verify {
+                        content: Content::Drawing,
+                        certificate: None,
+                    },
                 },
-            },
+            ),
         ) => {
             assert!(rt; asking.network == "n" && asking.query == "q", "{text}");
             assert!(rt; asking.weights == weights, "{text}");
@@ -146,7 +154,7 @@ fn is_drawing(
 fn is_draw(rt: &impl Abort, alloc: Global, text: &str, network: &str) -> Result<(), Fail> {
     let words = words_of(alloc, text)?;
     match command_of(alloc, words.as_slice())? {
-        Some(Command::Draw { network: n }) => assert!(rt; n == network, "{text}"),
+        Some(Command::Print(Printing::Draw { network: n })) => assert!(rt; n == network, "{text}"),
         _ => assert!(rt; false, "{text}"),
     }
     Ok(())
@@ -155,7 +163,7 @@ fn is_draw(rt: &impl Abort, alloc: Global, text: &str, network: &str) -> Result<
 fn is_stack(rt: &impl Abort, alloc: Global, text: &str, hex: &str) -> Result<(), Fail> {
     let words = words_of(alloc, text)?;
     match command_of(alloc, words.as_slice())? {
-        Some(Command::Stack { hex: h }) => assert!(rt; h == hex, "{text}"),
+        Some(Command::Print(Printing::Stack { hex: h })) => assert!(rt; h == hex, "{text}"),
         _ => assert!(rt; false, "{text}"),
     }
     Ok(())
@@ -164,7 +172,29 @@ fn is_stack(rt: &impl Abort, alloc: Global, text: &str, hex: &str) -> Result<(),
 fn is_protect(rt: &impl Abort, alloc: Global, text: &str, plan: &str) -> Result<(), Fail> {
     let words = words_of(alloc, text)?;
     match command_of(alloc, words.as_slice())? {
-        Some(Command::Protect { plan: p }) => assert!(rt; p == plan, "{text}"),
+        Some(Command::Print(Printing::Protect { plan: p })) => assert!(rt; p == plan, "{text}"),
+        _ => assert!(rt; false, "{text}"),
+    }
+    Ok(())
+}
+
+fn is_audit(
+    rt: &impl Abort,
+    alloc: Global,
+    text: &str,
+    network: &str,
+    policies: &str,
+    given: &str,
+) -> Result<(), Fail> {
+    let words = words_of(alloc, text)?;
+    match command_of(alloc, words.as_slice())? {
+        Some(Command::Audit(auditing)) => {
+            assert!(rt;
+                auditing.network == network && auditing.policies == policies,
+                "{text}"
+            );
+            assert!(rt; auditing.given == given, "{text}");
+        }
         _ => assert!(rt; false, "{text}"),
     }
     Ok(())
@@ -381,6 +411,25 @@ fn words_of_protect_are_found(rt: HostRuntime) -> Result<(), Fail> {
     Ok(())
 }
 
+// Words with the files of `audit`, and the text of what is given, which is empty where there is none.
+const AUDITS: &[(&str, &str, &str)] = &[
+    ("whatif|audit|n|p", "p", ""),
+    ("whatif|audit|n|", "", ""),
+    ("whatif|audit|n|p|--given|down [a#b]", "p", "down [a#b]"),
+    ("whatif|audit|--given=up [a#b]|n|p", "p", "up [a#b]"),
+    ("whatif|audit|n|p|--given=", "p", ""),
+    ("whatif|audit|n|p|--given|", "p", ""),
+    ("whatif|audit|n|--|--given", "--given", ""),
+];
+
+#[test]
+fn words_of_audit_are_found(rt: HostRuntime) -> Result<(), Fail> {
+    for (text, policies, given) in AUDITS {
+        is_audit(&rt, rt.alloc(), text, "n", policies, given)?;
+    }
+    Ok(())
+}
+
 const NO_COMMANDS: &[&str] = &[
     // No verb, or another one.
     "",
@@ -398,6 +447,7 @@ const NO_COMMANDS: &[&str] = &[
     "whatif|stacks|00",
     "whatif|Protect|n",
     "whatif|drawing|n",
+    "whatif|audits|n|p",
     // Help.
     "whatif|--help",
     "whatif|-h",
@@ -423,6 +473,8 @@ const NO_COMMANDS: &[&str] = &[
     "whatif|packets|n|q|w",
     "whatif|draw",
     "whatif|draw|n|q|x",
+    "whatif|audit|n",
+    "whatif|audit|n|p|q",
     "whatif|stack",
     "whatif|stack|00|00",
     "whatif|protect",
@@ -475,6 +527,10 @@ const NO_COMMANDS: &[&str] = &[
     "whatif|draw|n|--weights|a",
     "whatif|draw|--weights|a|n",
     "whatif|draw|n|q|--certificate|c",
+    "whatif|audit|n|p|--given",
+    "whatif|audit|n|p|--given|a|--given|b",
+    "whatif|audit|n|p|--weights|a",
+    "whatif|verify|n|q|--given|a",
     "whatif|stack|00|--weights|a",
     "whatif|protect|n|--weights|a",
     "whatif|stack|-1",

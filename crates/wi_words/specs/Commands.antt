@@ -76,6 +76,10 @@ protect = record (new_shape (codes "protect")) { rules = operand (codes "PLAN") 
 abbrev pub packets : Shape
 packets = record (new_shape (codes "packets")) { rules = operand (codes "NETWORK") ∷ operand (codes "QUERY") ∷ option (codes "weights") ∷ [] }
 
+-- `audit NETWORK POLICIES [--given TEXT]`
+abbrev pub audit : Shape
+audit = with_option (codes "given") (record (new_shape (codes "audit")) { rules = operand (codes "NETWORK") ∷ operand (codes "POLICIES") ∷ [] })
+
 -- `draw NETWORK [QUERY [--weights W]]`
 abbrev pub draw : Shape
 draw = with_option (codes "weights") (with_optional (codes "QUERY") (record (new_shape (codes "draw")) { rules = operand (codes "NETWORK") ∷ [] }))
@@ -87,7 +91,7 @@ stack = record (new_shape (codes "stack")) { rules = operand (codes "HEX") ∷ [
 -- the program's commands, one of which has to be given
 abbrev pub program : App
 program =
-    with_subcommand (with_subcommand (with_subcommand (with_subcommand (with_subcommand (with_subcommand (with_subcommand (with_subcommand (with_subcommand (with_subcommand (with_subcommand (record { top = record (new_shape (codes "whatif")) { subcommand_required = true }; subs = [] }) verify) check) play) gen) exact) check_exact) tolerate) protect) packets) stack) draw
+    with_subcommand (with_subcommand (with_subcommand (with_subcommand (with_subcommand (with_subcommand (with_subcommand (with_subcommand (with_subcommand (with_subcommand (with_subcommand (with_subcommand (record { top = record (new_shape (codes "whatif")) { subcommand_required = true }; subs = [] }) verify) check) play) gen) exact) check_exact) tolerate) protect) packets) stack) audit) draw
 
 -- clap takes the words: its parse has no fault
 abbrev pub is_empty : {X : Type 0} → List X → Bool
@@ -103,6 +107,12 @@ pub record Asking : Type 0 where
   pub query : Text
   pub weights : Option Text
 
+-- what policies are asked of: the names of the network's file and of theirs, and the text of the links that are given, empty where none are
+pub record Auditing : Type 0 where
+  pub network : Text
+  pub policies : Text
+  pub given : Text
+
 -- what is wanted of it: an answer, of which this is printed, or an exact one, or whether one is accepted, with the name of the
 -- certificate's file; or up to how many failures
 pub data Wanted : Type 0 where
@@ -112,7 +122,7 @@ pub data Wanted : Type 0 where
   CheckExact : (certificate : Text) → Wanted
   Tolerate : (most : ℕ) (certificate : Option Text) → Wanted
 
--- a command, with what was given to it: what is asked and wanted, or the names of files, how many risk groups may fail, the seed and
+-- a command, with what was given to it: what is asked and wanted, or what policies are asked of, or the names of files, how many risk groups may fail, the seed and
 -- the size of a ring, a text that is to be bytes
 pub data Command : Type 0 where
   Ask : (asking : Asking) (wanted : Wanted) → Command
@@ -120,6 +130,7 @@ pub data Command : Type 0 where
   Gen : (seed size : ℕ) → Command
   Protect : (plan : Text) → Command
   Stack : (hex : Text) → Command
+  Audit : (auditing : Auditing) → Command
   Draw : (network : Text) → Command
 
 -- a number from a least to a most one: a decimal without leading zeros
@@ -176,6 +187,17 @@ protect_of rows = option_map (λ plan. Protect plan) (first_of (codes "PLAN") ro
 abbrev pub stack_of : List Row → Option Command
 stack_of rows = option_map (λ hex. Stack hex) (first_of (codes "HEX") rows)
 
+-- what a subcommand's entries ask policies of
+abbrev pub given_in : List Row → Text
+given_in rows = elim (first_of (codes "given") rows) [ None ↦ [] | Some text ↦ text ]
+
+abbrev pub auditing_in : List Row → Option Auditing
+auditing_in rows =
+    option_and_then (λ network. option_map (λ policies. record { network = network; policies = policies; given = given_in rows }) (first_of (codes "POLICIES") rows)) (first_of (codes "NETWORK") rows)
+
+abbrev pub audit_of : List Row → Option Command
+audit_of rows = option_map (λ auditing. Audit auditing) (auditing_in rows)
+
 -- without a query, and then without weights, the network alone is drawn
 abbrev pub draw_alone : List Row → Option Command
 draw_alone rows = elim (first_of (codes "weights") rows) [ None ↦ option_map (λ network. Draw network) (first_of (codes "NETWORK") rows) | Some weights ↦ None ]
@@ -189,6 +211,7 @@ command_named met =
     else if bytes_eq met.0 (codes "gen") then gen_of met.1
     else if bytes_eq met.0 (codes "protect") then protect_of met.1
     else if bytes_eq met.0 (codes "stack") then stack_of met.1
+    else if bytes_eq met.0 (codes "audit") then audit_of met.1
     else if bytes_eq met.0 (codes "draw") then draw_of met.1
     else asked_of met.0 met.1
 

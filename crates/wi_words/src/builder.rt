@@ -4,7 +4,7 @@ ghost use Rattle.std.specs.Prelude.{◌≡◌, IfOk, map, false};
 ghost use Rattle.clap.specs.Words.{app_of, rule_of, shape_of};
 ghost use Rattle.clap.specs.Simple.{App, Shape, new_shape, with_subcommand};
 ghost use Rattle.clap.specs.declared.builder.command.Command.TheViews.{out-Command as fields_of};
-ghost use Rattle.wi_words.specs.Commands.{asking, checking, draw, gen, operand, option, optional, packets, play, program, protect, stack, tolerate, with_option, with_optional, with_options};
+ghost use Rattle.wi_words.specs.Commands.{asking, audit, checking, draw, gen, operand, option, optional, packets, play, program, protect, stack, tolerate, with_option, with_optional, with_options};
 
 use clap::{Arg, ArgAction, Command};
 use std::alloc::{AllocError, Global};
@@ -155,6 +155,18 @@ fn stack<'a>(alloc: Global) -> Result<Command<'a>, AllocError>
     verb(alloc, "stack", &["HEX"])
 }
 
+// `audit NETWORK POLICIES [--given TEXT]`
+fn audit<'a>(alloc: Global) -> Result<Command<'a>, AllocError>
+    ensures shape { IfOk result (λ c. shape_of c ≡ audit) }
+    ensures local { IfOk result (λ c. (fields_of c).has_globals ≡ false) }
+{
+    with_option(
+        alloc,
+        verb(alloc, "audit", &["NETWORK", "POLICIES"]),
+        "given",
+    )
+}
+
 // `draw NETWORK [QUERY [--weights W]]`
 fn draw<'a>(alloc: Global) -> Result<Command<'a>, AllocError>
     ensures shape { IfOk result (λ c. shape_of c ≡ draw) }
@@ -201,5 +213,6 @@ pub fn program<'a>(alloc: Global) -> Result<Command<'a>, AllocError>
     let whole = with_command(whole, protect(alloc));
     let whole = with_command(whole, packets(alloc));
     let whole = with_command(whole, stack(alloc));
+    let whole = with_command(whole, audit(alloc));
     with_command(whole, draw(alloc))
 }

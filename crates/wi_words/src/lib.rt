@@ -18,6 +18,15 @@ use wi_base::NoMemory;
 /// What the program is asked to do.
 #[derive(Clone, Copy)]
 pub enum Command<'a> {
+    /// Something is to be printed, whole.
+    Print(Printing<'a>),
+    /// Policies are asked of a network, and what becomes of each is printed as soon as it is known.
+    Audit(Auditing<'a>),
+}
+
+/// What is to be printed.
+#[derive(Clone, Copy)]
+pub enum Printing<'a> {
     /// Something is asked of a network, and of it something is wanted.
     Ask {
         asking: Asking<'a>,
@@ -57,6 +66,17 @@ pub struct Asking<'a> {
     pub query: &'a str,
     /// The text of the weights.
     pub weights: Option<&'a str>,
+}
+
+/// What policies are asked of: `audit NETWORK POLICIES [--given TEXT]`.
+#[derive(Clone, Copy)]
+pub struct Auditing<'a> {
+    /// The name of the network file.
+    pub network: &'a str,
+    /// The name of the file of policies.
+    pub policies: &'a str,
+    /// The text of the links that are given as down and up. Without the option it is empty, which gives none.
+    pub given: &'a str,
 }
 
 /// What is wanted of what is asked.

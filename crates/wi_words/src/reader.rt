@@ -4,10 +4,10 @@ ghost use Rattle.std.specs.Prelude.{◌≡◌, ◌≤◌, ◌^◌, true, None, I
 ghost use Rattle.std.specs.Str.Parse.{digits_value};
 ghost use Rattle.wi_text.specs.Characters.{is_number};
 ghost use Rattle.clap.specs.Words.{first_of, found_of, rows_of, subcommand_rows_of};
-ghost use Rattle.wi_words.specs.Commands.{IsFit, Verify, asked_of, asking_in, command_named, draw_alone, draw_of, gen_of, most_failed, number_within, play_of, protect_of, seed_in, size_in, stack_of, wanted_named};
-ghost use Rattle.wi_words.specs.Shown.{asking_shown, shown, wanted_shown};
+ghost use Rattle.wi_words.specs.Commands.{IsFit, Verify, asked_of, asking_in, audit_of, auditing_in, command_named, draw_alone, draw_of, gen_of, most_failed, number_within, play_of, protect_of, seed_in, size_in, stack_of, wanted_named};
+ghost use Rattle.wi_words.specs.Shown.{asking_shown, auditing_shown, shown, wanted_shown};
 
-use crate::{Asking, Command, Content, Wanted};
+use crate::{Asking, Auditing, Command, Content, Printing, Wanted};
 use clap::ArgMatches;
 use wi_text::is_number;
 
@@ -135,7 +135,7 @@ fn asked_of<'a>(name: &str, matches: &ArgMatches<'a>) -> Option<Command<'a>>
 {
     let wanted = wanted_named(name, matches)?;
     let asking = asking_in(matches)?;
-    Some(Command::Ask { asking, wanted })
+    Some(Command::Print(Printing::Ask { asking, wanted }))
 }
 
 fn play_of<'a>(matches: &ArgMatches<'a>) -> Option<Command<'a>>
@@ -145,7 +145,7 @@ fn play_of<'a>(matches: &ArgMatches<'a>) -> Option<Command<'a>>
     let network = value_of(matches, "NETWORK")?;
     let script = value_of(matches, "SCRIPT")?;
     let k = most_failed(value_of(matches, "K")?)?;
-    Some(Command::Play { network, script, k })
+    Some(Command::Print(Printing::Play { network, script, k }))
 }
 
 fn gen_of<'a>(matches: &ArgMatches<'a>) -> Option<Command<'a>>
@@ -154,7 +154,7 @@ fn gen_of<'a>(matches: &ArgMatches<'a>) -> Option<Command<'a>>
 {
     let seed = seed_in(value_of(matches, "SEED")?)?;
     let size = size_in(value_of(matches, "SIZE")?)?;
-    Some(Command::Gen { seed, size })
+    Some(Command::Print(Printing::Gen { seed, size }))
 }
 
 fn protect_of<'a>(matches: &ArgMatches<'a>) -> Option<Command<'a>>
@@ -162,7 +162,7 @@ fn protect_of<'a>(matches: &ArgMatches<'a>) -> Option<Command<'a>>
     ensures fit { IfSome result (λ c. IsFit (shown c)) }
 {
     let plan = value_of(matches, "PLAN")?;
-    Some(Command::Protect { plan })
+    Some(Command::Print(Printing::Protect { plan }))
 }
 
 fn stack_of<'a>(matches: &ArgMatches<'a>) -> Option<Command<'a>>
@@ -170,7 +170,29 @@ fn stack_of<'a>(matches: &ArgMatches<'a>) -> Option<Command<'a>>
     ensures fit { IfSome result (λ c. IsFit (shown c)) }
 {
     let hex = value_of(matches, "HEX")?;
-    Some(Command::Stack { hex })
+    Some(Command::Print(Printing::Stack { hex }))
+}
+
+// What a subcommand's entries ask policies of. Where nothing is given, the text is empty.
+fn auditing_in<'a>(matches: &ArgMatches<'a>) -> Option<Auditing<'a>>
+    ensures { option_map auditing_shown result ≡ auditing_in (rows_of (found_of matches.now)) }
+{
+    let network = value_of(matches, "NETWORK")?;
+    let policies = value_of(matches, "POLICIES")?;
+    let given = value_of(matches, "given").unwrap_or("");
+    Some(Auditing {
+        network,
+        policies,
+        given,
+    })
+}
+
+fn audit_of<'a>(matches: &ArgMatches<'a>) -> Option<Command<'a>>
+    ensures command { option_map shown result ≡ audit_of (rows_of (found_of matches.now)) }
+    ensures fit { IfSome result (λ c. IsFit (shown c)) }
+{
+    let auditing = auditing_in(matches)?;
+    Some(Command::Audit(auditing))
 }
 
 // A network alone is drawn: there are no weights without a query.
@@ -182,7 +204,7 @@ fn draw_alone<'a>(matches: &ArgMatches<'a>) -> Option<Command<'a>>
         Some(_) => None,
         None => {
             let network = value_of(matches, "NETWORK")?;
-            Some(Command::Draw { network })
+            Some(Command::Print(Printing::Draw { network }))
         }
     }
 }
@@ -207,6 +229,7 @@ fn command_named<'a>(name: &str, matches: &ArgMatches<'a>) -> Option<Command<'a>
         "gen" => gen_of(matches),
         "protect" => protect_of(matches),
         "stack" => stack_of(matches),
+        "audit" => audit_of(matches),
         "draw" => draw_of(matches),
         _ => asked_of(name, matches),
     }

@@ -1,10 +1,17 @@
 -- The causes and the outcomes of the steps within a command.
-use Rattle.std.specs.Prelude.{◌≡◌, length}
+use Rattle.std.specs.Prelude.{◌≡◌, ◌⊎◌, ℕ, List, length}
+use Rattle.wi_base.specs.Sink.{SinkSeen}
+use Rattle.wi_base.specs.declared.sink.PutRefused.{PutRefused}
+use Rattle.wi_net.specs.declared.bounds.Bounds.{Bounds}
+use Rattle.wi_net.specs.Net.{Net}
+use Rattle.wi_policy.specs.declared.policy.Policy.{Policy}
 use Rattle.wi_build.specs.Problems.{Problem}
 use Rattle.wi_cert.specs.declared.certificate.Certificate.{Certificate}
 use Rattle.wi_cert.specs.declared.tree.TreeCertificate.{TreeCertificate}
 use Rattle.wi_accept.specs.Causes.{IsRefusal}
 use Rattle.wi_accept.specs.Trees.{IsTreeRefusal}
+use Rattle.wi_audit.specs.Audits.{IsAudit, IsBrokenOff}
+use Rattle.wi_outcome.specs.Edges.{PutAll, SaysWhy, Untouched, unprinted}
 use Rattle.wi_outcome.specs.declared.refusal.Refusal.{Refusal}
 use Rattle.wi_outcome.specs.declared.refusal.Refusal.TheVariants.{Memory, NotAccepted}
 
@@ -21,3 +28,10 @@ abbrev pub IsTreeNotBelieved : Problem → TreeCertificate → Refusal → Type 
 IsTreeNotBelieved problem t (NotAccepted fault terms) = (terms ≡ length problem.vector) × IsTreeRefusal problem t fault
 IsTreeNotBelieved problem t Memory = Unit {0}
 IsTreeNotBelieved problem t refusal = ⊥
+
+-- ---- audit
+-- all policies are told, and nothing is said; or that is broken off, and it is said why
+abbrev pub IsTelling : Net → Bounds → List Policy → SinkSeen → SinkSeen → SinkSeen → SinkSeen → ℕ → Type 0
+IsTelling net given policies out_old out_new err_old err_new result =
+    ((text : List ℕ) × IsAudit net given policies text result × PutAll text out_old out_new × Untouched err_old err_new)
+    ⊎ ((refused : PutRefused) × IsBrokenOff net given policies refused out_old out_new × SaysWhy (unprinted refused) err_old err_new result)

@@ -1,6 +1,7 @@
 -- The causes and the outcomes of the steps within a reading or a storing.
 use Rattle.std.specs.Prelude.{◌≡◌, ℕ, ◌<◌, ◌≤◌, true, List, ◌++◌, length, codes, Some, Ok}
 use Rattle.wi_base.specs.Shelf.{ShelfSeen, IsLonger}
+use Rattle.wi_net.specs.declared.bounds.Bounds.{Bounds}
 use Rattle.wi_net.specs.Net.{Net}
 use Rattle.wi_netjson.specs.File.{network_of}
 use Rattle.wi_netjson.specs.Reading.{Fails}
@@ -8,12 +9,20 @@ use Rattle.wi_netjson.specs.Written.{text_of}
 use Rattle.wi_cert.specs.declared.tree.TreeCertificate.{TreeCertificate}
 use Rattle.wi_cert.specs.Trees.{IsTreeText}
 use Rattle.wi_outcome.specs.declared.refusal.Refusal.{Refusal}
-use Rattle.wi_outcome.specs.declared.refusal.Refusal.TheVariants.{BadStack, CannotRead, CannotWrite, CannotWriteBelow, LargeCertificate, LargeNetwork, Memory, Network, NoMemoryBelow, Script as BadScript, TreeNotWritten}
+use Rattle.wi_outcome.specs.declared.refusal.Refusal.TheVariants.{BadStack, CannotRead, CannotWrite, CannotWriteBelow, LargeCertificate, LargeNetwork, Memory, Network, NoMemoryBelow, Policies as BadPolicies, Script as BadScript, TreeNotWritten}
 use Rattle.wi_files.specs.Certificates.{IsLarge}
 use Rattle.wi_files.specs.OnWire.{IsRefusedStack}
+use Rattle.wi_files.specs.Policies.{HavePoliciesFault}
 use Rattle.wi_files.specs.Protection.{FromPlan}
 use Rattle.wi_files.specs.Scripts.{IsBadScript}
 use Rattle.wi_files.specs.Shelves.{FetchFailed, IsCalm, StoreFailed, below_name}
+
+-- ---- fetching
+-- the call that was to fetch a file failed, or found no memory
+abbrev pub IsUnread : ShelfSeen → ShelfSeen → List ℕ → Refusal → Type 0
+IsUnread old new name (CannotRead said) = FetchFailed said name old new
+IsUnread old new name Memory = IsCalm old new
+IsUnread old new name refusal = ⊥
 
 -- ---- play
 -- the bytes of the script are the cause
@@ -46,6 +55,13 @@ abbrev pub FromStack : List ℕ → Refusal → Type 0
 FromStack bytes (BadStack refused) = IsRefusedStack bytes refused
 FromStack bytes Memory = Unit {0}
 FromStack bytes refusal = ⊥
+
+-- ---- policies
+-- bytes are the cause, which have no policies
+abbrev pub FromPolicyBytes : Net → Bounds → List ℕ → Refusal → Type 0
+FromPolicyBytes net given bytes (BadPolicies said) = HavePoliciesFault net given bytes said
+FromPolicyBytes net given bytes Memory = Unit {0}
+FromPolicyBytes net given bytes refusal = ⊥
 
 -- ---- storing
 -- the call that was to store under a name failed, or found no memory

@@ -64,3 +64,7 @@ returns-in-Unprotected-clause-said g c =
 pub returns-in-LargeNetwork-clause-said : goal.returns-in-LargeNetwork-clause-said
 returns-in-LargeNetwork-clause-said g c =
     said_words _ _ _ (g.E.Sink.seen c.args.err.now) (g.E.Sink.seen c.put-in-LargeNetwork.new.err) _ c.in-LargeNetwork.is c.status_of-status.ensures c.put-in-LargeNetwork.ensures.said
+
+pub returns-in-LongPolicies-clause-said : goal.returns-in-LongPolicies-clause-said
+returns-in-LongPolicies-clause-said g c =
+    said_words _ _ _ (g.E.Sink.seen c.args.err.now) (g.E.Sink.seen c.put-in-LongPolicies.new.err) _ c.in-LongPolicies.is c.status_of-status.ensures c.put-in-LongPolicies.ensures.said

@@ -4,6 +4,7 @@ use Rattle.wi_words.proofs.builder.program.Goals as goal
 pub returns : goal.returns
 returns c =
     c.with_command.ensures _ _
+    (c.with_command-whole-11.ensures _ _
     (c.with_command-whole-10.ensures _ _
     (c.with_command-whole-9.ensures _ _
     (c.with_command-whole-8.ensures _ _
@@ -23,4 +24,5 @@ returns c =
     c.protect.ensures.shape c.protect.ensures.local)
     c.packets.ensures.shape c.packets.ensures.local)
     c.stack.ensures.shape c.stack.ensures.local)
+    c.audit.ensures.shape c.audit.ensures.local)
     c.draw.ensures.shape c.draw.ensures.local

@@ -1,5 +1,5 @@
 use Rattle.wi_audit.proofs.Telling.{told_audited}
-use Rattle.wi_audit.proofs.audit.audited.Goals as goal
+use Rattle.wi_audit.proofs.asked.audited.Goals as goal
 
 pub returns : goal.returns
 returns c =

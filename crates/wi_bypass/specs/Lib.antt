@@ -1,0 +1,2 @@
+pub mod Bypasses
+pub mod private

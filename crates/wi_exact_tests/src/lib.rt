@@ -7,4 +7,6 @@ mod audits;
 #[cfg(test)]
 mod exact;
 #[cfg(test)]
+mod settling;
+#[cfg(test)]
 mod tolerance;

@@ -1,0 +1,4 @@
+pub mod Walking
+pub mod SetLaws
+pub mod Answering
+pub mod OutageLaws

@@ -1,0 +1,147 @@
+//! What is known of all outages takes the memory of the runs that were found, however many outages there are: which of them a run
+//! settles is seen from its links when an outage is looked up.
+ghost use Rattle.std.specs.Prelude.{◌≡◌, false, Some, OnErr, OnOk, IfOk};
+ghost use Rattle.std.specs.List.{list_any};
+ghost use Rattle.std.specs.Option.{option_map_or};
+ghost use Rattle.wi_net.specs.LinkSet.{is_apart};
+ghost use Rattle.wi_outage.specs.Survival.{is_survived};
+ghost use Rattle.wi_settle.specs.private.Asking.{begun, found_of, none_noted, noted};
+
+use crate::found::Found;
+use crate::sets::are_apart;
+use std::alloc::Global;
+use std::marker::Model;
+use wi_base::{Listed, NoMemory};
+use wi_net::{Bounds, FailSet, LinkId, Network};
+use wi_outage::is_survived;
+
+/// A run that was found: the links that have failed while it is a trace, and those that it uses.
+#[derive(Drop)]
+pub struct Witness {
+    pub fails: FailSet,
+    pub used: Listed<LinkId>,
+}
+
+/// What an exact answer gives.
+#[derive(Drop)]
+pub(crate) enum Asked {
+    Yes(Witness),
+    No,
+    Open,
+}
+
+/// What is known of a question for all outages at once.
+#[derive(Drop)]
+pub struct Settled {
+    // What is found while nothing is out.
+    own: Found,
+    witnesses: Vec<Witness>,
+    // Where it is known: each risk group without these links has no matching trace while it is out.
+    none: Option<FailSet>,
+}
+
+impl Model for Settled {
+    ghost use Rattle.wi_settle.specs.Findings.{Settling};
+
+    ghost Value = { Settling };
+
+    ghost view = { λ s. record { own = s.own; witnesses = s.witnesses.items; none = s.none } };
+}
+
+impl Settled {
+    /// What is known of a question that was asked while nothing is out.
+    pub(crate) fn of(alloc: Global, asked: Asked) -> Result<Settled, NoMemory>
+        ensures { IfOk result (λ settled. settled ≡ begun asked) }
+    {
+        let mut settled = Settled {
+            own: found_of(&asked),
+            witnesses: Vec::new(alloc),
+            none: None,
+        };
+        match settled.note(asked) {
+            Ok(_) => Ok(settled),
+            Err(error) => {
+                drop(settled);
+                Err(error)
+            }
+        }
+    }
+
+    /// Takes in what else was asked, and answers what was found.
+    pub(crate) fn note(&mut self, asked: Asked) -> Result<Found, NoMemory>
+        ensures found { IfOk result (λ found. found ≡ found_of asked) }
+        ensures ok { OnOk result (self.new ≡ noted self.old asked) }
+        ensures err { OnErr result (self.new ≡ self.old) }
+    {
+        match asked {
+            Asked::Yes(witness) => self.add(witness),
+            Asked::No => Ok(Found::No),
+            Asked::Open => Ok(Found::Open),
+        }
+    }
+
+    // Takes in a run that was found.
+    fn add(&mut self, witness: Witness) -> Result<Found, NoMemory>
+        ensures found { IfOk result (λ found. found ≡ Found.Yes) }
+        ensures ok { OnOk result (self.new ≡ noted self.old (Asked.Yes witness)) }
+        ensures err { OnErr result (self.new ≡ self.old) }
+    {
+        match self.witnesses.push(witness) {
+            Ok(()) => Ok(Found::Yes),
+            Err(_failed) => Err(NoMemory::Memory),
+        }
+    }
+
+    /// Takes in that each risk group without these links has no matching trace while it is out.
+    pub(crate) fn keep(&mut self, kept: FailSet)
+        ensures { self.new ≡ record self.old { none = Some kept } }
+    {
+        self.none = Some(kept);
+    }
+
+    /// Takes in that there is none, where that was asked of each risk group without these links.
+    pub(crate) fn keep_where_none(&mut self, asked: &Asked, kept: &FailSet) -> Result<(), NoMemory>
+        ensures { OnOk result (self.new ≡ none_noted self.old asked.now kept.now) }
+    {
+        match asked {
+            Asked::No => self.keep(kept.twin()?),
+            Asked::Yes(_) | Asked::Open => {}
+        }
+        Ok(())
+    }
+
+    /// What is found while nothing is out.
+    pub(crate) fn own(&self) -> Found
+        ensures { result ≡ self.now.own }
+    {
+        self.own
+    }
+
+    /// Whether a run that was found goes on in an outage.
+    pub(crate) fn survives(&self, net: &Network, bounds: &Bounds, outage: &FailSet) -> bool
+        ensures { result ≡ list_any (λ w. is_survived net.now bounds.now w.fails w.used outage.now) self.now.witnesses }
+    {
+        self.witnesses.iter().any(|w| is_survived(net, bounds, &w.fails, w.used.as_slice(), outage))
+    }
+
+    /// Whether there is known to be no matching trace while a risk group is out.
+    pub(crate) fn has_none(&self, outage: &FailSet) -> bool
+        ensures { result ≡ option_map_or (λ kept. is_apart outage.now kept) self.now.none false }
+    {
+        match &self.none {
+            Some(kept) => are_apart(outage, kept),
+            None => false,
+        }
+    }
+}
+
+// What was found.
+fn found_of(asked: &Asked) -> Found
+    ensures { result ≡ found_of asked.now }
+{
+    match asked {
+        Asked::Yes(_) => Found::Yes,
+        Asked::No => Found::No,
+        Asked::Open => Found::Open,
+    }
+}

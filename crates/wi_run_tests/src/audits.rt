@@ -2,7 +2,7 @@
 use crate::called::{begins, is_said, ran_over, shelf_with};
 use crate::doubles::doubles;
 use crate::samples::{guide, n1, n3};
-use std::alloc::{AllocError, Global};
+use std::alloc::Global;
 use std::process::Abort;
 use std::test::Fail;
 use wi_base::{FailingPut, MemoryShelf};
@@ -19,37 +19,51 @@ fn shelf_of(alloc: Global, network: &str, policies: &[u8]) -> Result<MemoryShelf
     }
 }
 
-// What `audit` ends with where standard output fails so, with these words behind those of the files.
+// What `audit` ends with where standard output fails so, and this is given besides, if anything is.
+fn audited_on(
+    alloc: Global,
+    shelf: &mut MemoryShelf,
+    given: Option<&str>,
+    out_fails: &[FailingPut],
+) -> Result<String, Fail> {
+    match given {
+        Some(text) => {
+            let words = ["whatif", "audit", "n", "p", "--given", text];
+            ran_over(alloc, &words, shelf, out_fails, &[])
+        }
+        None => ran_over(alloc, &["whatif", "audit", "n", "p"], shelf, out_fails, &[]),
+    }
+}
+
 fn audited_over(
     alloc: Global,
     network: &str,
     policies: &[u8],
-    more: &[&str],
+    given: Option<&str>,
     out_fails: &[FailingPut],
 ) -> Result<String, Fail> {
-    let words = words_with(alloc, more)?;
     let mut shelf = shelf_of(alloc, network, policies)?;
-    let said = ran_over(alloc, words.as_slice(), &mut shelf, out_fails, &[]);
-    drop((shelf, words));
+    let said = audited_on(alloc, &mut shelf, given, out_fails);
+    drop(shelf);
     said
 }
 
-fn words_with<'a>(alloc: Global, more: &[&'a str]) -> Result<Vec<&'a str>, AllocError> {
-    let mut words = Vec::from_slice(alloc, &["whatif", "audit", "n", "p"])?;
-    words.extend_from_slice(more)?;
-    Ok(words)
+fn audited(
+    alloc: Global,
+    network: &str,
+    policies: &[u8],
+    given: Option<&str>,
+) -> Result<String, Fail> {
+    audited_over(alloc, network, policies, given, &[])
 }
 
-fn audited(alloc: Global, network: &str, policies: &[u8], more: &[&str]) -> Result<String, Fail> {
-    audited_over(alloc, network, policies, more, &[])
-}
-
-// The bytes of a file of policies, the words behind, and what `audit` is to end with.
-type Case<'a> = (&'a [u8], &'a [&'a str], &'a str);
+// The bytes of a file of policies, what is given, and what `audit` is to end with.
+type Case<'a> = (&'a [u8], Option<&'a str>, &'a str);
 
 fn cases_are(rt: &impl Abort, alloc: Global, network: &str, cases: &[Case]) -> Result<(), Fail> {
-    for (policies, more, wanted) in cases {
-        is_said(rt, audited(alloc, network, policies, more), wanted)?;
+    for (policies, given, wanted) in cases {
+        let said = audited(alloc, network, policies, *given);
+        is_said(rt, said, wanted)?;
     }
     Ok(())
 }
@@ -89,19 +103,11 @@ fn policies_before_and_in_a_maintenance(rt: HostRuntime) -> Result<(), Fail> {
         &[
             (
                 OF_THE_GUIDE,
-                &[],
+                None,
                 "0<1..3\nok 1 - A arrives\nok 2 - A is never lost\nok 3 - customers see no labels\n><>",
             ),
-            (
-                OF_THE_GUIDE,
-                &["--given", "down [p3#pe2]"],
-                WITHOUT_ONE_CABLE,
-            ),
-            (
-                OF_THE_GUIDE,
-                &["--given", "down [pe2#p3]"],
-                WITHOUT_ONE_CABLE,
-            ),
+            (OF_THE_GUIDE, Some("down [p3#pe2]"), WITHOUT_ONE_CABLE),
+            (OF_THE_GUIDE, Some("down [pe2#p3]"), WITHOUT_ONE_CABLE),
         ],
     )
 }
@@ -113,7 +119,7 @@ fn policies_are_asked_exactly(rt: HostRuntime) -> Result<(), Fail> {
         rt.alloc(),
         n3(),
         b"no <ip1> [x#a] [a#c] [c#a] [a#b] .* <ip1> 5",
-        &[],
+        None,
     );
     is_said(&rt, said, "0<1..1\nok 1 - line 1\n><>")
 }
@@ -122,27 +128,27 @@ fn policies_are_asked_exactly(rt: HostRuntime) -> Result<(), Fail> {
 const ON_THE_FIRST_NETWORK: &[Case] = &[
     (
         b"yes a#b <ip1> [x#a] .* [b#y] <ip1> 0",
-        &["--given", ""],
+        Some(""),
         "0<1..1\nok 1 - a_b\n><>",
     ),
     (
         b"\r\n \t# c\r\n\tyes\tarrives \t\r<ip1> [x#a] .* [b#y] <ip1> 0\r\n\nno\\<ip1> [x#a] [a#c] .* <ip1> 1 up [a#b]",
-        &["--given="],
+        Some(""),
         "0<1..2\nok 1 - arrives\nok 2 - _\n><>",
     ),
     (
         b"no <ip1> [x#a] .* [b#y] <ip1> 0",
-        &["--given", " down [ a#b , a#c ] "],
+        Some(" down [ a#b , a#c ] "),
         "0<1..1\nok 1 - line 1\n><>",
     ),
     (
         b"yes <ip1> [x#a] [a#c] .* <ip1> 1\nyes <ip1> [x#a] [a#c] .* <ip1> 0",
-        &[],
+        None,
         "1<1..2\nok 1 - line 1\nnot ok 2 - line 2\n# line 2: yes is expected\n# answer: no\n# nodes: 1\n><>",
     ),
     (
         b"no \xc2\xa0 <ip1> [x#a] .* [b#y] <ip1> 0 down [b#y]",
-        &[],
+        None,
         "0<1..1\nok 1 - \u{a0}\n><>",
     ),
 ];
@@ -153,39 +159,39 @@ fn policies_on_the_first_network(rt: HostRuntime) -> Result<(), Fail> {
 }
 
 const FAULTS_OF_FILES: &[Case] = &[
-    (b"", &[], "17<><policies: none\n>"),
-    (b"# c\n\n", &[], "17<><policies: none\n>"),
+    (b"", None, "17<><policies: none\n>"),
+    (b"# c\n\n", None, "17<><policies: none\n>"),
     (
         b"yes <ip1> .* <ip1>",
-        &[],
+        None,
         "17<><policies: line 1: byte 18: syntax\n>",
     ),
     (
         b"no <ip1> .* <ip1> 0\n# \xff",
-        &[],
+        None,
         "17<><policies: line 2: not a policy\n>",
     ),
-    (b"# \xff", &[], "17<><policies: line 1: not a policy\n>"),
+    (b"# \xff", None, "17<><policies: line 1: not a policy\n>"),
     (
         b"\xef\xbb\xbf# c\n",
-        &[],
+        None,
         "17<><policies: line 1: not a policy\n>",
     ),
-    (b"\n\x0c\n", &[], "17<><policies: line 2: not a policy\n>"),
-    (b"yes", &[], "17<><policies: line 1: not a policy\n>"),
+    (b"\n\x0c\n", None, "17<><policies: line 2: not a policy\n>"),
+    (b"yes", None, "17<><policies: line 1: not a policy\n>"),
     (
         b"yes a\tb <ip1> .* <ip1> 0",
-        &[],
+        None,
         "17<><policies: line 1: not a policy\n>",
     ),
     (
         b"yesterday <ip1> .* <ip1> 0",
-        &[],
+        None,
         "17<><policies: line 1: not a policy\n>",
     ),
     (
         b"yes<ip2> .* <ip1> 0",
-        &[],
+        None,
         "17<><policies: line 1: byte 4: unknown label ip2\n>",
     ),
 ];
@@ -193,27 +199,27 @@ const FAULTS_OF_FILES: &[Case] = &[
 const FAULTS_OF_PAIRS: &[Case] = &[
     (
         b"no <ip1> [x#c] .* <ip1> 0",
-        &[],
+        None,
         "17<><policies: line 1: byte 10: no link\n>",
     ),
     (
         b"no <ip1> [^ x#c] .* <ip1> 0",
-        &[],
+        None,
         "17<><policies: line 1: byte 12: no link\n>",
     ),
     (
         b"no <ip1> . <ip1> 0 down [y#.]",
-        &[],
+        None,
         "17<><policies: line 1: byte 25: no link\n>",
     ),
     (
         b"no <ip1> [x#c] <ip1> 0 down [a#b] up [.#b]",
-        &[],
+        None,
         "17<><policies: line 1: link a.b#b.a both down and up\n>",
     ),
     (
         b"\nno <ip1> .* <ip1> 0 up [a#b]",
-        &["--given", "down [.#b]"],
+        Some("down [.#b]"),
         "17<><policies: line 2: link a.b#b.a both down and up\n>",
     ),
 ];
@@ -222,27 +228,27 @@ const FAULTS_OF_PAIRS: &[Case] = &[
 const FAULTS_OF_GIVEN_LINKS: &[Case] = &[
     (
         b"",
-        &["--given", "down [a#b, x#c] up [.#b]"],
+        Some("down [a#b, x#c] up [.#b]"),
         "4<><given: link a.b#b.a both down and up\n>",
     ),
     (
         b"",
-        &["--given", "down [x#c] up [q#.]"],
+        Some("down [x#c] up [q#.]"),
         "4<><given: byte 15: unknown router q\n>",
     ),
     (
         b"",
-        &["--given", "down [a.q#b]"],
+        Some("down [a.q#b]"),
         "4<><given: byte 8: unknown interface q\n>",
     ),
     (
         b"",
-        &["--given", "up [a#b] down [a#c]"],
+        Some("up [a#b] down [a#c]"),
         "4<><given: byte 9: syntax\n>",
     ),
     (
         b"",
-        &["--given", "down [a#b, x#c]"],
+        Some("down [a#b, x#c]"),
         "4<><given: byte 11: no link\n>",
     ),
 ];
@@ -257,7 +263,7 @@ fn faults_of_policies(rt: HostRuntime) -> Result<(), Fail> {
 #[test]
 fn a_file_that_is_too_long(rt: HostRuntime) -> Result<(), Fail> {
     let policies = vec![in rt.alloc(); b'\n'; 1_048_577]?;
-    let said = audited(rt.alloc(), n1(), policies.as_slice(), &[]);
+    let said = audited(rt.alloc(), n1(), policies.as_slice(), None);
     drop(policies);
     is_said(&rt, said, "17<><policies: over the limit 1048576\n>")
 }
@@ -265,32 +271,27 @@ fn a_file_that_is_too_long(rt: HostRuntime) -> Result<(), Fail> {
 #[test]
 fn a_given_text_that_is_too_long(rt: HostRuntime) -> Result<(), Fail> {
     let given = " ".repeat(rt.alloc(), 4097)?;
-    let said = audited(rt.alloc(), n1(), b"", &["--given", given.as_str()]);
+    let said = audited(rt.alloc(), n1(), b"", Some(given.as_str()));
     drop(given);
     is_said(&rt, said, "4<><given: 4097 bytes, limit 4096\n>")
 }
 
 // What `audit` ends with where the file of policies isn't there.
-fn audited_without_policies(alloc: Global, more: &[&str]) -> Result<String, Fail> {
-    let words = words_with(alloc, more)?;
+fn audited_without_policies(alloc: Global, given: Option<&str>) -> Result<String, Fail> {
     let mut shelf = shelf_with(alloc, n1().as_bytes())?;
-    let said = ran_over(alloc, words.as_slice(), &mut shelf, &[], &[]);
-    drop((shelf, words));
+    let said = audited_on(alloc, &mut shelf, given, &[]);
+    drop(shelf);
     said
 }
 
 // The first fault of those of the network, of what is given and of a file that isn't there.
 #[test]
 fn faults_in_their_order(rt: HostRuntime) -> Result<(), Fail> {
-    let given = ["--given", "down"];
-    is_said(
-        &rt,
-        audited(rt.alloc(), "", b"", &given),
-        "3<><network: file: not JSON\n>",
-    )?;
-    let said = audited_without_policies(rt.alloc(), &given);
+    let said = audited(rt.alloc(), "", b"", Some("down"));
+    is_said(&rt, said, "3<><network: file: not JSON\n>")?;
+    let said = audited_without_policies(rt.alloc(), Some("down"));
     is_said(&rt, said, "4<><given: byte 4: syntax\n>")?;
-    let said = audited_without_policies(rt.alloc(), &[]);
+    let said = audited_without_policies(rt.alloc(), None);
     is_said(&rt, said, "10<><whatif: cannot read p\n>")
 }
 
@@ -324,7 +325,7 @@ const BROKEN_OFF: &[(FailingPut, &str)] = &[
 #[test]
 fn puts_that_fail(rt: HostRuntime) -> Result<(), Fail> {
     for (put, wanted) in BROKEN_OFF {
-        let said = audited_over(rt.alloc(), n1(), THREE, &[], &[*put]);
+        let said = audited_over(rt.alloc(), n1(), THREE, None, &[*put]);
         is_said(&rt, said, wanted)?;
     }
     Ok(())
@@ -339,7 +340,7 @@ const BESIDE_ONE_THAT_IS_NOT_SO: &str =
 // What `audit` ends with where a label doubles so often that no run can be shown.
 fn audited_doubles(alloc: Global, policies: &[u8]) -> Result<String, Fail> {
     let network = doubles(alloc, 11)?;
-    let said = audited(alloc, network.as_str(), policies, &[]);
+    let said = audited(alloc, network.as_str(), policies, None);
     drop(network);
     said
 }

@@ -176,13 +176,8 @@ fn other_faults(rt: &impl Abort, alloc: Global, net: &Network) -> Result<(), Fai
     query_says(rt, alloc, net, QueryFault::Syntax(14), said)?;
     let said = "query: link a.b#\"b 1\".\"a.0\" both down and up\n";
     query_says(rt, alloc, net, QueryFault::DownAndUp(LinkId(0)), said)?;
-    query_says(
-        rt,
-        alloc,
-        net,
-        QueryFault::Memory,
-        "whatif: out of memory\n",
-    )
+    let said = "query: out of memory\n";
+    query_says(rt, alloc, net, QueryFault::Memory, said)
 }
 
 fn query_texts(rt: &impl Abort, alloc: Global, net: &Network) -> Result<(), Fail> {

@@ -192,7 +192,8 @@ lex_fed m (x ∷ xs) = lex_byte_fed m (class x) x xs (λ next. lex next (with_fe
 read_fed : (text : List ℕ) → read (with_feed text) ≡ read text
 read_fed text = rw (lex_fed between text) refl
 
-json_fed : (bytes : List ℕ) → json_of (with_feed bytes) ≡ json_of bytes
+-- bytes read as the same value with a line feed at their end
+pub json_fed : (bytes : List ℕ) → json_of (bytes ++ codes "\n") ≡ json_of bytes
 unfolding json_of
 json_fed bytes = λ i. cond (utf8_fed bytes i) (read_fed bytes i) None
 

@@ -1,8 +1,7 @@
 -- Links that were written are read as they were.
-use Rattle.std.proofs.Common.{◌≡◌, ℕ, suc, ◌+◌, ◌<◌, ◌≤◌, ◌⊎◌, inl, inr, Bool, true, false, cond, not, ◌&&◌, ◌==◌, nat_lt, nat_le, List, [], ◌∷◌, ◌++◌, map, take, drop, length, slice_get, Option, Some, None, Result, Ok, refl, sym, ap, ◌∙◌, append_assoc, append-nil, true≢false, arith}
-use Rattle.std.specs.List.{list_all}
+use Rattle.std.proofs.Common.{◌≡◌, ℕ, suc, ◌+◌, ◌^◌, ◌<◌, ◌≤◌, ◌⊎◌, inl, inr, Bool, true, false, cond, not, ◌&&◌, ◌==◌, nat_lt, nat_le, List, [], ◌∷◌, ◌++◌, map, take, drop, length, slice_get, Option, Some, None, Result, Ok, refl, sym, ap, ◌∙◌, append_assoc, append-nil, true≢false, arith}
 use Rattle.std.specs.Str.{bytes_eq}
-use Rattle.std.proofs.lemmas.Bool.{and_parts, leb-true, lt-ltb, le-ltb, eqb-true, cases_lt}
+use Rattle.std.proofs.lemmas.Bool.{and_parts, leb-true, le-leb, ltb-true, lt-ltb, le-ltb, eqb-true, cases_lt}
 use Rattle.std.proofs.lemmas.List.{take_all, length-take-le}
 use Rattle.std.proofs.lemmas.List.Sums.{prefix_len-le-length}
 use Rattle.std.proofs.lemmas.Option.{slice_get_within, get_or_from_slice_get}
@@ -23,7 +22,6 @@ use Rattle.wi_netjson.specs.declared.fault.NetFault.{NetFault}
 use Rattle.wi_netjson.specs.Reading.{each}
 use Rattle.wi_netjson.specs.Links.{link_at, link_rules}
 use Rattle.wi_netjson.specs.Written.{name_at, is_larger, has_larger, link_data}
-use Rattle.wi_netjson.specs.private.Written.{has_small_distance}
 use Rattle.wi_net.proofs.PlaceLemmas.{before, get_middle, longer, split_at, found_at, found_in_take, none_in_take}
 use Rattle.wi_net.proofs.ApartLemmas.{names_apart, name_in, same_out, same_in, outs_apart, ins_apart}
 use Rattle.wi_netjson.proofs.ReadGroups.{group_of, group_named, GroupsAre, GroupsStep, RiskFits, groups_step, link_of}
@@ -146,10 +144,9 @@ group_of_named links r lt = go (is_larger links r) refl
     go true e = rw e (group_named r lt)
     go false e = rw e refl
 
--- what is known of a network that was written
-pub record IsWritten (net : Net) : Type 0 where
-  pub kept : IsNetwork net
-  pub small : list_all has_small_distance net.links ≡ true
+-- a distance of 32 bits is one of a file
+near_small : (n : ℕ) → nat_lt n (2 ^ 32) ≡ true → nat_le n 4294967295 ≡ true
+near_small n e = le-leb n 4294967295 (let lt = ltb-true n (2 ^ 32) e in omega (arith, lt))
 
 get_pre : (pre post : List Link) (i : ℕ) (x : Link) → i < length pre → slice_get (pre ++ post) i ≡ Some x → slice_get pre i ≡ Some x
 get_pre pre post i x lt at =
@@ -203,9 +200,9 @@ record LinkRead (v : Bool) (net : Net) (before : Draft) (i : ℕ) (pre : List Li
   groups : GroupsAre net.links (pre ++ l ∷ []) named firsts
   read : link_at v before i (link_data net l) ≡ Ok (draft_at net (take h net.interfaces) (pre ++ l ∷ []) named firsts)
 
-link_step : (net : Net) (v : Bool) (pre post : List Link) (l : Link) (n m h i : ℕ) (named : List (List ℕ)) (firsts : List LinkId) → IsWritten net → has_larger net.links ≡ v → net.links ≡ pre ++ l ∷ post
+link_step : (net : Net) (v : Bool) (pre post : List Link) (l : Link) (n m h i : ℕ) (named : List (List ℕ)) (firsts : List LinkId) → IsNetwork net → has_larger net.links ≡ v → net.links ≡ pre ++ l ∷ post
     → named_next (Some n) l.out_if.0 ≡ Some m → named_next (Some m) l.in_if.0 ≡ Some h → GroupsAre net.links pre named firsts → LinkRead v net (draft_at net (take n net.interfaces) pre named firsts) i pre l h
-link_step net v pre post l n m h i named firsts w versioned is out_next in_next known =
+link_step net v pre post l n m h i named firsts k versioned is out_next in_next known =
     record {
       named = named_with named (group_of net.links l.risk.0);
       firsts = firsts_with named firsts (link_of (length pre)) (group_of net.links l.risk.0);
@@ -220,34 +217,34 @@ link_step net v pre post l n m h i named firsts w versioned is out_next in_next 
     here = ap (λ xs. slice_get xs (length pre)) is ∙ get_middle pre post l
 
     fits : RiskFits net.links pre l
-    fits = risk_fits net pre post l w.kept is
+    fits = risk_fits net pre post l k is
 
     step : GroupsStep net.links pre l named firsts
     step = groups_step net.links pre l named firsts known fits
 
     ends : HasEnds net l
-    ends = has_ends net (length pre) l w.kept here
+    ends = has_ends net (length pre) l k here
 
     small : nat_le l.distance 4294967295 ≡ true
-    small = all_get has_small_distance net.links (length pre) l w.small here
+    small = near_small l.distance (all_get (λ (x : Link). nat_lt x.distance (2 ^ 32)) net.links (length pre) l k.near here)
 
     larger : is_larger net.links l.risk.0 ≡ true → v ≡ true
     larger e = sym versioned ∙ any_here (λ (x : Link). is_larger net.links x.risk.0) net.links (length pre) l here e
 
     out : HasName net.interfaces l.out_if.0 (name_at net.interfaces l.out_if.0)
-    out = name_of net.interfaces l.out_if.0 w.kept.interfaces ends.out_if
+    out = name_of net.interfaces l.out_if.0 k.interfaces ends.out_if
 
     into : HasName net.interfaces l.in_if.0 (name_at net.interfaces l.in_if.0)
-    into = name_of net.interfaces l.in_if.0 w.kept.interfaces ends.in_if
+    into = name_of net.interfaces l.in_if.0 k.interfaces ends.in_if
 
     out_is : (number_of (take n net.interfaces) (name_at net.interfaces l.out_if.0) ≡ l.out_if.0) × (with_name (take n net.interfaces) (name_at net.interfaces l.out_if.0) ≡ take m net.interfaces)
-    out_is = named_step net.interfaces n l.out_if.0 m (name_at net.interfaces l.out_if.0) w.kept.interfaces out.at out_next
+    out_is = named_step net.interfaces n l.out_if.0 m (name_at net.interfaces l.out_if.0) k.interfaces out.at out_next
 
     in_is : (number_of (take m net.interfaces) (name_at net.interfaces l.in_if.0) ≡ l.in_if.0) × (with_name (take m net.interfaces) (name_at net.interfaces l.in_if.0) ≡ take h net.interfaces)
-    in_is = named_step net.interfaces m l.in_if.0 h (name_at net.interfaces l.in_if.0) w.kept.interfaces into.at in_next
+    in_is = named_step net.interfaces m l.in_if.0 h (name_at net.interfaces l.in_if.0) k.interfaces into.at in_next
 
     apart : are_ends_apart (pre ++ l ∷ post) ≡ true
-    apart = ap are_ends_apart (sym is) ∙ w.kept.ends
+    apart = ap are_ends_apart (sym is) ∙ k.ends
 
     risk_small : l.risk.0 < 20000
     risk_small = let low = fits.low in let few = fits.few in omega arith
@@ -255,9 +252,9 @@ link_step net v pre post l n m h i named firsts w versioned is out_next in_next 
     holds : link_rules before_link i (name_at net.routers l.from.0) (name_at net.interfaces l.out_if.0) (name_at net.routers l.to.0) (name_at net.interfaces l.in_if.0) l.distance (group_of net.links l.risk.0)
         ≡ Ok (with_new_link before_link l.from (name_at net.interfaces l.out_if.0) l.to (name_at net.interfaces l.in_if.0) l.distance (group_of net.links l.risk.0))
     holds = link_holds before_link i (name_at net.routers l.from.0) (name_at net.interfaces l.out_if.0) (name_at net.routers l.to.0) (name_at net.interfaces l.in_if.0) l.distance (group_of net.links l.risk.0) l.from l.to
-        (group_of_named net.links l.risk.0 risk_small) out.good into.good (router_is_found before_link.net l.from w.kept.routers ends.from) (router_is_found before_link.net l.to w.kept.routers ends.to)
-        (out_is_free before_link.net net.interfaces pre post l n (name_at net.interfaces l.out_if.0) w.kept.interfaces apart out.at)
-        (in_is_free before_link.net net.interfaces pre post l n (name_at net.interfaces l.in_if.0) w.kept.interfaces apart into.at)
+        (group_of_named net.links l.risk.0 risk_small) out.good into.good (router_is_found before_link.net l.from k.routers ends.from) (router_is_found before_link.net l.to k.routers ends.to)
+        (out_is_free before_link.net net.interfaces pre post l n (name_at net.interfaces l.out_if.0) k.interfaces apart out.at)
+        (in_is_free before_link.net net.interfaces pre post l n (name_at net.interfaces l.in_if.0) k.interfaces apart into.at)
 
 -- nothing is named after what can't be
 after_none : (links : List Link) (k : ℕ) → named_after None links ≡ Some k → ⊥
@@ -284,17 +281,17 @@ next_parts n l rest k next = by_out (named_next (Some n) l.out_if.0) refl
     by_out None e = absurd (after_none rest k (ap (λ o. named_after (named_next o l.in_if.0) rest) (sym e) ∙ next))
 
 -- links that were written are read as they were
-pub links_are_read : (net : Net) (v : Bool) (rest pre : List Link) (n i : ℕ) (named : List (List ℕ)) (firsts : List LinkId) → IsWritten net → has_larger net.links ≡ v → net.links ≡ pre ++ rest
+pub links_are_read : (net : Net) (v : Bool) (rest pre : List Link) (n i : ℕ) (named : List (List ℕ)) (firsts : List LinkId) → IsNetwork net → has_larger net.links ≡ v → net.links ≡ pre ++ rest
     → named_after (Some n) rest ≡ Some (length net.interfaces) → GroupsAre net.links pre named firsts → LinksRead v net (draft_at net (take n net.interfaces) pre named firsts) i rest
-links_are_read net v [] pre n i named firsts w versioned is next known =
+links_are_read net v [] pre n i named firsts k versioned is next known =
     let all : n ≡ length net.interfaces = cc in
     let names_are : take n net.interfaces ≡ net.interfaces = take_all n net.interfaces (omega (arith, all)) in
     let links_are : pre ≡ net.links = sym (append-nil pre) ∙ sym is in
     record { named = named; firsts = firsts; read = ap (λ xs. Ok (draft_at net xs pre named firsts)) names_are ∙ ap (λ ls. Ok (draft_at net net.interfaces ls named firsts)) links_are }
-links_are_read net v (l ∷ rest) pre n i named firsts w versioned is next known =
+links_are_read net v (l ∷ rest) pre n i named firsts k versioned is next known =
     let p = next_parts n l rest (length net.interfaces) next in
-    let one = link_step net v pre rest l n p.m p.h i named firsts w versioned is p.out p.into known in
+    let one = link_step net v pre rest l n p.m p.h i named firsts k versioned is p.out p.into known in
     let more : net.links ≡ (pre ++ l ∷ []) ++ rest = is ∙ sym (append_assoc pre (l ∷ []) rest) in
-    let later = links_are_read net v rest (pre ++ l ∷ []) p.h (i + 1) one.named one.firsts w versioned more p.rest one.groups in
+    let later = links_are_read net v rest (pre ++ l ∷ []) p.h (i + 1) one.named one.firsts k versioned more p.rest one.groups in
     let go : Result Draft NetFault → Result Draft NetFault = λ r. r >>= λ d. each (link_at v) d (i + 1) (items_of (map (link_data net) rest)) in
     record { named = later.named; firsts = later.firsts; read = ap go one.read ∙ later.read }

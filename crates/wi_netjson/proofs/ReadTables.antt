@@ -62,7 +62,7 @@ class_is Ip Smpls e = cc
 class_is Ip Ip e = refl
 
 -- the label of a name
-label_is_found : (net : Net) (rows : List TableRow) (l : Label) → IsNetwork net → l.0 < length net.labels → find_label (net_at net rows) (label_name net l) ≡ Some l
+pub label_is_found : (net : Net) (rows : List TableRow) (l : Label) → IsNetwork net → l.0 < length net.labels → find_label (net_at net rows) (label_name net l) ≡ Some l
 label_is_found net rows l k lt =
     let there = name_of net.labels l.0 k.labels lt in
     rw (found_at bytes_eq are_names names_apart net.labels l.0 (label_name net l) k.labels there.at) refl
@@ -91,7 +91,7 @@ ops_are_read net rows i j m (op ∷ rest) ops o k all =
     ap go (op_is_read net rows (Operation i j m o) op k parts.0) ∙ ops_are_read net rows i j m rest (ops ++ op ∷ []) (o + 1) k parts.1 ∙ ap Ok (append_assoc ops (op ∷ []) rest)
 
 -- the link that leaves a router by the name of its out interface
-out_is_found : (net : Net) (rows : List TableRow) (e : LinkId) (l : Link) → IsNetwork net → slice_get net.links e.0 ≡ Some l → find_out (net_at net rows) l.from (out_name net e) ≡ Some e
+pub out_is_found : (net : Net) (rows : List TableRow) (e : LinkId) (l : Link) → IsNetwork net → slice_get net.links e.0 ≡ Some l → find_out (net_at net rows) l.from (out_name net e) ≡ Some e
 out_is_found net rows e l k at =
     let ends = has_ends net e.0 l k at in
     let there = name_of net.interfaces l.out_if.0 k.interfaces ends.out_if in

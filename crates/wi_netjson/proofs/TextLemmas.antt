@@ -16,10 +16,10 @@ items_plain : {X : Type 0} (f : X → Data) (xs : List X) → ((x : X) → has_f
 items_plain f [] plain = refl
 items_plain f (x ∷ xs) plain = rw (plain x, items_plain f xs plain) refl
 
-list_plain : {X : Type 0} (f : X → Data) (xs : List X) → ((x : X) → has_float (f x) ≡ false) → has_float (list_of f xs) ≡ false
+pub list_plain : {X : Type 0} (f : X → Data) (xs : List X) → ((x : X) → has_float (f x) ≡ false) → has_float (list_of f xs) ≡ false
 list_plain f xs plain = items_plain f xs plain
 
-names_plain : (xs : List (List ℕ)) → has_float (list_of string xs) ≡ false
+pub names_plain : (xs : List (List ℕ)) → has_float (list_of string xs) ≡ false
 names_plain xs = list_plain string xs (λ x. refl)
 
 op_plain : (net : Net) (op : Op) → has_float (op_data net op) ≡ false
@@ -30,17 +30,17 @@ op_plain net Pop = refl
 way_plain : (net : Net) (m : Member) → has_float (way_data net m) ≡ false
 way_plain net m = rw (list_plain (op_data net) m.ops (op_plain net)) refl
 
-row_plain : (net : Net) (row : TableRow) → has_float (row_data net row) ≡ false
+pub row_plain : (net : Net) (row : TableRow) → has_float (row_data net row) ≡ false
 row_plain net row = rw (list_plain (group_data net) row.groups (λ g. list_plain (way_data net) g (way_plain net))) refl
 
-link_plain : (net : Net) (l : Link) → has_float (link_data net l) ≡ false
+pub link_plain : (net : Net) (l : Link) → has_float (link_data net l) ≡ false
 link_plain net l = go (is_larger net.links l.risk.0) refl
   where
     go : (b : Bool) → is_larger net.links l.risk.0 ≡ b → has_float (link_data net l) ≡ false
     go true e = rw e refl
     go false e = rw e refl
 
-labels_plain : (net : Net) → has_float (labels_data net) ≡ false
+pub labels_plain : (net : Net) → has_float (labels_data net) ≡ false
 labels_plain net = rw (names_plain (labels_in Ip net.classes net.labels), names_plain (labels_in Mpls net.classes net.labels), names_plain (labels_in Smpls net.classes net.labels)) refl
 
 pub network_plain : (net : Net) → has_float (network_data net) ≡ false

@@ -1,7 +1,7 @@
 -- Values that are written one by one.
 use Rattle.std.proofs.Common.{◌≡◌, ℕ, zero, suc, ◌+◌, ◌<◌, ◌≤◌, Bool, true, false, cond, ◌||◌, ◌==◌, List, [], ◌∷◌, ◌++◌, map, take, drop, set, length, slice_get, get_or, position, Option, Some, None, ◌⊎◌, inl, inr, refl, sym, ap, ◌∙◌, append-nil, arith}
 use Rattle.std.specs.Prelude.{is_none, codes, option_map}
-use Rattle.std.specs.List.{list_all, list_any}
+use Rattle.std.specs.List.{list_any}
 use Rattle.std.specs.Global.{Vec}
 use Rattle.std.proofs.lemmas.Bool.{and_parts, and_from, cases_lt, cases_eq, eq-eqb, ne_eqb}
 use Rattle.std.proofs.lemmas.List.{map_push, take_all, length-take, drop-append-le, get_or-set_same, get_or-set_other}
@@ -22,7 +22,7 @@ use Rattle.wi_net.specs.declared.parts.TableRow.{TableRow}
 use Rattle.wi_net.specs.Tables.{is_row, are_rows_apart, groups_in}
 use Rattle.wi_net.specs.Net.{Net, entry}
 use Rattle.wi_net.specs.Network.{IsNetwork, is_row_of}
-use Rattle.wi_net.proofs.KeptLists.{nothing_is, same_flip, all_get, all_push, get_there}
+use Rattle.wi_net.proofs.KeptLists.{nothing_is, same_flip, all_get, get_there}
 use Rattle.wi_net.proofs.PlaceLemmas.{longer, none_at}
 use Rattle.wi_netjson.specs.Written.{name_at, list_of, labels_in, op_data, way_data, group_data, row_data}
 
@@ -107,12 +107,6 @@ any_more p xs i x at = ap (list_any p) (longer xs i x at) ∙ list_any-append p 
 
 pub none_more : {X : Type 0} (p : X → Bool) (xs : List X) (i : ℕ) (x : X) → slice_get xs i ≡ Some x → list_any p (take i xs) ≡ false → p x ≡ false → list_any p (take (i + 1) xs) ≡ false
 none_more p xs i x at none other = any_more p xs i x at ∙ rw (none, other) refl
-
-pub all_more : {X : Type 0} (p : X → Bool) (xs : List X) (i : ℕ) (x : X) → slice_get xs i ≡ Some x → list_all p (take i xs) ≡ true → p x ≡ true → list_all p (take (i + 1) xs) ≡ true
-all_more p xs i x at all here = ap (list_all p) (longer xs i x at) ∙ all_push p (take i xs) x all here
-
-pub all_taken : {X : Type 0} (p : X → Bool) (xs : List X) (i : ℕ) → length xs ≤ i → list_all p (take i xs) ≡ true → list_all p xs ≡ true
-all_taken p xs i le all = ap (list_all p) (sym (take_all i xs le)) ∙ all
 
 pub any_here : {X : Type 0} (p : X → Bool) (xs : List X) (i : ℕ) (x : X) → slice_get xs i ≡ Some x → p x ≡ true → list_any p xs ≡ true
 any_here p [] i x at here = cc

@@ -16,4 +16,4 @@ mod written;
 pub use fault::{LinkPart, MemberPart, NetFault, Place, TablePart};
 pub use file::read_network;
 pub use laws::a_line_feed_changes_nothing;
-pub use written::write_network;
+pub use written::{network_members, write_network};

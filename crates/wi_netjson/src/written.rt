@@ -2,15 +2,15 @@
 //! The whole JSON value is made before its text.
 ghost use Rattle.std.specs.Prelude.{◌≡◌, ◌++◌, ◌∷◌, [], true, false, codes, decimal, string_bytes, slice_index_or, ◌≤◌, length, Ok, IfOk, OnOk};
 ghost use Rattle.std.specs.List.{list_all};
-ghost use Rattle.serde_json.specs.Data.{string, number, unsigned, object, member, no_members};
-ghost use Rattle.serde_json.specs.View.{view};
+ghost use Rattle.serde_json.specs.Data.{string, number, unsigned, object, member, no_members, put as with_member};
+ghost use Rattle.serde_json.specs.View.{view, members_view};
 ghost use Rattle.wi_net.specs.Network.{HasEnds, op_known, is_row_of};
 ghost use Rattle.wi_net.specs.private.Network.{is_member_of, are_groups_of};
-ghost use Rattle.wi_netjson.specs.private.Written.{AreLarger, has_small_distance};
+ghost use Rattle.wi_netjson.specs.private.Written.{AreLarger};
 ghost use Rattle.wi_netjson.specs.Written.{has_larger, format_of, list_of, labels_in, labels_data, link_data, op_data, way_data, group_data, row_data, network_data, text_of};
 ghost use Rattle.wi_netjson.specs.File.{network_of};
 
-use serde_json::{Value, json};
+use serde_json::{Map, Value, json, put};
 use std::alloc::{AllocError, Global};
 use wi_base::NoMemory;
 use wi_labels::{Class, Label, Op};
@@ -23,34 +23,54 @@ pub fn write_network(alloc: Global, network: &Network) -> Result<Vec<u8>, NoMemo
     ensures reads_back { IfOk result (λ bytes. length bytes.items ≤ 67108864 → network_of bytes.items ≡ Ok network.now) }
 {
     network.keeps();
-    let value = network_value(alloc, network)?;
+    let value = Value::Object(network_members(alloc, network)?);
     Ok(value.to_vec(alloc)?)
 }
 
-fn network_value(alloc: Global, network: &Network) -> Result<Value, NoMemory>
-    ensures value { IfOk result (λ v. view v ≡ network_data network.now) }
-    ensures small { OnOk result (list_all has_small_distance network.now.links ≡ true) }
+/// The members of a network's value, of which its canonical text is made.
+pub fn network_members(alloc: Global, network: &Network) -> Result<Map<String, Value>, NoMemory>
+    ensures { IfOk result (λ members. object (members_view members.entries) ≡ network_data network.now) }
 {
-    let larger = larger_groups(alloc, network)?;
-    let format = format_of(network, larger.as_slice());
-    let labels = labels_value(alloc, network)?;
-    let links = links_value(alloc, network, larger.as_slice())?;
-    let routers = routers_value(alloc, network)?;
-    let tables = tables_value(alloc, network)?;
-    Ok(network_object(alloc, format, labels, links, routers, tables)?)
+    let mut members = Map::new(alloc);
+    match put_network(alloc, network, &mut members) {
+        Ok(()) => Ok(members),
+        Err(error) => {
+            drop(members);
+            Err(error)
+        }
+    }
 }
 
-fn network_object(
+// Puts the members of a network into what has none yet. Each value is made just before it is put, so that one at a time is held.
+fn put_network(
     alloc: Global,
-    format: &str,
-    labels: Value,
-    links: Value,
-    routers: Value,
-    tables: Value,
-) -> Result<Value, AllocError>
-    ensures { IfOk result (λ v. view v ≡ object (member (codes "format") (string format.now) (member (codes "labels") (view labels) (member (codes "links") (view links) (member (codes "routers") (view routers) (member (codes "tables") (view tables) no_members)))))) }
+    network: &Network,
+    members: &mut Map<String, Value>,
+) -> Result<(), NoMemory>
+    requires { members.old.entries ≡ [] }
+    ensures { OnOk result (object (members_view members.new.entries) ≡ network_data network.now) }
 {
-    json!(in alloc; {"format": format, "labels": labels, "links": links, "routers": routers, "tables": tables})
+    put_links(alloc, network, members)?;
+    put(members, alloc, "labels", labels_value(alloc, network)?)?;
+    put(members, alloc, "routers", routers_value(alloc, network)?)?;
+    put(members, alloc, "tables", tables_value(alloc, network)?)?;
+    Ok(())
+}
+
+// Puts the links, and the version, which depends on their risk groups.
+fn put_links(
+    alloc: Global,
+    network: &Network,
+    members: &mut Map<String, Value>,
+) -> Result<(), NoMemory>
+    ensures { OnOk result (members_view members.new.entries ≡ with_member (codes "links") (list_of (link_data network.now) network.now.links) (with_member (codes "format") (string (format_of network.now)) (members_view members.old.entries))) }
+{
+    let larger = larger_groups(alloc, network)?;
+    let format = Value::try_from_str(alloc, format_of(network, larger.as_slice()))?;
+    put(members, alloc, "format", format)?;
+    let links = links_value(alloc, network, larger.as_slice())?;
+    put(members, alloc, "links", links)?;
+    Ok(())
 }
 
 // Whether a later link names a link as the least of its risk group, for each link.
@@ -142,8 +162,7 @@ fn class_value(alloc: Global, network: &Network, class: Class) -> Result<Value, 
 
 fn links_value(alloc: Global, network: &Network, larger: &[bool]) -> Result<Value, NoMemory>
     requires { AreLarger network.now.links larger.now }
-    ensures value { IfOk result (λ v. view v ≡ list_of (link_data network.now) network.now.links) }
-    ensures small { OnOk result (list_all has_small_distance network.now.links ≡ true) }
+    ensures { IfOk result (λ v. view v ≡ list_of (link_data network.now) network.now.links) }
 {
     network.keeps();
     let mut values = Vec::new(alloc);
@@ -161,8 +180,7 @@ fn link_value(
 ) -> Result<Value, NoMemory>
     requires larger { AreLarger network.now.links larger.now }
     requires ends { HasEnds network.now link.now }
-    ensures value { IfOk result (λ v. view v ≡ link_data network.now link.now) }
-    ensures small { OnOk result (has_small_distance link.now ≡ true) }
+    ensures { IfOk result (λ v. view v ≡ link_data network.now link.now) }
 {
     let from = network.router_name(link.from);
     let out_if = network.interface_name(link.out_if);

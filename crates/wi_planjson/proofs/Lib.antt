@@ -3,3 +3,6 @@ pub mod RouteLemmas
 pub mod StartLemmas
 pub mod ReadLemmas
 pub mod PlanLemmas
+pub mod PlanText
+pub mod ReadAgain
+mod Rows

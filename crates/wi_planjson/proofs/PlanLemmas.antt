@@ -22,6 +22,8 @@ use Rattle.wi_plan.specs.declared.plan.Path.{Path}
 use Rattle.wi_plan.specs.declared.plan.Bypass.{Bypass}
 use Rattle.wi_plan.specs.declared.plan.Plan.{Plan}
 use Rattle.wi_plan.specs.Plans.{is_joined, is_around, are_links_apart, is_path_of, first_of, sets_out, are_paths_apart, is_end, is_bypass_of, are_bypasses_apart, IsPlan}
+use Rattle.wi_planjson.specs.declared.bypasses.Form.{Form}
+use Rattle.wi_planjson.specs.declared.bypasses.Form.TheVariants.{Whole, Draft}
 use Rattle.wi_planjson.specs.declared.refused.Place.{Place}
 use Rattle.wi_planjson.specs.declared.refused.Place.TheVariants.{Paths, Path as PathAt, PathIp, PathLinks, PathLink, Bypasses, Bypass as BypassAt, BypassLink, BypassVia, ViaLink}
 use Rattle.wi_planjson.specs.declared.refused.PlanRefused.{PlanRefused}
@@ -31,7 +33,8 @@ use Rattle.wi_planjson.specs.Names.{names_of, link_of, ip_of, named, are_named, 
 use Rattle.wi_planjson.specs.Routes.{first_break, repeat_from, first_repeat}
 use Rattle.wi_planjson.specs.Paths.{is_free, path_rules, path_of, path_at, paths_of}
 use Rattle.wi_planjson.specs.Bypasses.{is_bypassed, place_of, bypass_rules, bypass_of, bypass_at, bypasses_of}
-use Rattle.wi_planjson.specs.Plan.{plan_of}
+use Rattle.wi_planjson.specs.Plan.{plan_by, drafted_bypasses_of}
+use Rattle.wi_planjson.specs.private.Forms.{bypasses_by}
 use Rattle.wi_planjson.proofs.RouteLemmas.{break_is}
 use Rattle.wi_planjson.proofs.StartLemmas.{never, untrue}
 use Rattle.wi_planjson.proofs.ReadLemmas.{nowhere_held, nowhere_is, rule_is, each_keeps, none_fail}
@@ -243,18 +246,36 @@ bypass_kept net bypasses i d next before e =
       apart = bypasses_push bypasses bypass.0 before.apart is.1;
     })
 
-pub plan_is : (net : Net) (d : Data) (plan : Plan) → plan_of net d ≡ Ok plan → IsPlan net plan
-unfolding plan_of paths_of bypasses_of
-plan_is net d plan e =
+bypasses_are : (net : Net) (d : Data) (bypasses : List Bypass) → bypasses_of net d ≡ Ok bypasses → AreBypasses net bypasses
+unfolding bypasses_of
+bypasses_are net d bypasses e =
+    let items = step_held (list Bypasses (get (codes "bypasses") d)) _ bypasses e in
+    each_keeps (bypass_at net) (AreBypasses net) (bypass_kept net) items.0 [] 0 bypasses (record { all = refl; apart = refl }) items.2
+
+-- where they may be left out, none are bypasses too
+drafted_are : (net : Net) (d : Data) (bypasses : List Bypass) → drafted_bypasses_of net d ≡ Ok bypasses → AreBypasses net bypasses
+unfolding drafted_bypasses_of
+drafted_are net d bypasses e = go (is_none (get (codes "bypasses") d)) e
+  where
+    go : (b : Bool) → cond b (Ok []) (bypasses_of net d) ≡ Ok bypasses → AreBypasses net bypasses
+    go true given = subst (AreBypasses net) (given_is [] bypasses given) (record { all = refl; apart = refl })
+    go false given = bypasses_are net d bypasses given
+
+by_form : (form : Form) (net : Net) (d : Data) (bypasses : List Bypass) → bypasses_by form net d ≡ Ok bypasses → AreBypasses net bypasses
+by_form Whole net d bypasses e = bypasses_are net d bypasses e
+by_form Draft net d bypasses e = drafted_are net d bypasses e
+
+plan_is : (form : Form) (net : Net) (d : Data) (plan : Plan) → plan_by (bypasses_by form) net d ≡ Ok plan → IsPlan net plan
+unfolding plan_by paths_of
+plan_is form net d plan e =
     let empty = rule_held NotEmpty (length net.rows == 0) _ plan e in
     let paths = step_held (paths_of net d) _ plan empty.1 in
     let path_items = step_held (list Paths (get (codes "paths") d)) _ paths.0 paths.1 in
-    let bypasses = step_held (bypasses_of net d) _ plan paths.2 in
-    let bypass_items = step_held (list Bypasses (get (codes "bypasses") d)) _ bypasses.0 bypasses.1 in
+    let bypasses = step_held (bypasses_by form net d) _ plan paths.2 in
     let ends = nowhere_held (λ i. Continues (PathAt i)) (position (λ path. not (is_end paths.0 path)) paths.0) _ plan bypasses.2 in
     let made = given_is (record { paths = paths.0; bypasses = bypasses.0 }) plan ends.1 in
     let are_paths = each_keeps (path_at net) (ArePaths net) (path_kept net) path_items.0 [] 0 paths.0 (record { all = refl; apart = refl }) path_items.2 in
-    let are_bypasses = each_keeps (bypass_at net) (AreBypasses net) (bypass_kept net) bypass_items.0 [] 0 bypasses.0 (record { all = refl; apart = refl }) bypass_items.2 in
+    let are_bypasses = by_form form net d bypasses.0 bypasses.1 in
     subst (IsPlan net) made (record {
       no_tables = no_rows net.rows empty.0;
       paths = are_paths.all;
@@ -265,6 +286,6 @@ plan_is net d plan e =
     })
 
 -- what is answered is a plan
-pub gives_plan : (net : Net) (d : Data) (r : Result Plan PlanRefused) → Gives (λ plan. plan) r (plan_of net d) → IfOk r (IsPlan net)
-gives_plan net d (Ok plan) e = plan_is net d plan e
-gives_plan net d (Err refused) e = tt
+pub gives_plan : (form : Form) (net : Net) (d : Data) (r : Result Plan PlanRefused) → Gives (λ plan. plan) r (plan_by (bypasses_by form) net d) → IfOk r (IsPlan net)
+gives_plan form net d (Ok plan) e = plan_is form net d plan e
+gives_plan form net d (Err refused) e = tt

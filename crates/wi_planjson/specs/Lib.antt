@@ -4,4 +4,5 @@ pub mod Routes
 pub mod Paths
 pub mod Bypasses
 pub mod Plan
+pub mod Written
 pub mod private

@@ -7,6 +7,8 @@ ghost use Rattle.wi_net.specs.Net.{is_link};
 ghost use Rattle.wi_plan.specs.Plans.{is_joined, is_around};
 ghost use Rattle.wi_planjson.specs.Reading.{Gives, each};
 ghost use Rattle.wi_planjson.specs.Bypasses.{is_bypassed, place_of, bypass_rules, bypass_of, bypass_at, bypasses_of};
+ghost use Rattle.wi_planjson.specs.Plan.{drafted_bypasses_of};
+ghost use Rattle.wi_planjson.specs.private.Forms.{bypasses_by};
 
 use crate::refused::{Place, PlanRefused};
 use crate::routes::{Route, are_named, first_break, link_at, links_in};
@@ -77,9 +79,51 @@ impl Bypasses {
     }
 }
 
+/// Whether a file has to say which bypasses it has.
+#[derive(Clone, Copy)]
+pub enum Form {
+    Whole,
+    Draft,
+}
+
 /// Adds the bypasses of a file.
-#[tactic(auto, unfolding(crate::specs::Bypasses::bypasses_of))]
 pub fn read_bypasses(
+    alloc: Global,
+    net: &Network,
+    bypasses: &mut Bypasses,
+    form: Form,
+    file: &Value,
+) -> Result<(), PlanRefused>
+    requires { bypasses.old ≡ [] }
+    ensures { Gives (λ _. bypasses.new) result (bypasses_by form net.now (view file.now)) }
+{
+    match form {
+        Form::Whole => listed_bypasses(alloc, net, bypasses, file),
+        Form::Draft => drafted_bypasses(alloc, net, bypasses, file),
+    }
+}
+
+// The same, where a file that doesn't speak of bypasses has none.
+#[tactic(auto, unfolding(crate::specs::Plan::drafted_bypasses_of))]
+fn drafted_bypasses(
+    alloc: Global,
+    net: &Network,
+    bypasses: &mut Bypasses,
+    file: &Value,
+) -> Result<(), PlanRefused>
+    requires { bypasses.old ≡ [] }
+    ensures { Gives (λ _. bypasses.new) result (drafted_bypasses_of net.now (view file.now)) }
+{
+    if file.get("bypasses").is_none() {
+        Ok(())
+    } else {
+        listed_bypasses(alloc, net, bypasses, file)
+    }
+}
+
+// The same, where they have to be there.
+#[tactic(auto, unfolding(crate::specs::Bypasses::bypasses_of))]
+fn listed_bypasses(
     alloc: Global,
     net: &Network,
     bypasses: &mut Bypasses,

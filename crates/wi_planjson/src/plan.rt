@@ -5,10 +5,11 @@ ghost use Rattle.serde_json.specs.View.{view};
 ghost use Rattle.wi_netjson.specs.File.{json_of, network_of};
 ghost use Rattle.wi_plan.specs.Plans.{IsPlan};
 ghost use Rattle.wi_planjson.specs.Reading.{Gives};
-ghost use Rattle.wi_planjson.specs.Plan.{plan_of, plan_in};
+ghost use Rattle.wi_planjson.specs.Plan.{plan_by, plan_in, draft_in, value_in};
+ghost use Rattle.wi_planjson.specs.private.Forms.{bypasses_by};
 ghost use Rattle.wi_planjson.specs.private.Made.{plan_with};
 
-use crate::bypasses::{Bypasses, read_bypasses};
+use crate::bypasses::{Bypasses, Form, read_bypasses};
 use crate::paths::{Paths, all_end, read_paths};
 use crate::refused::PlanRefused;
 use serde_json::Value;
@@ -19,17 +20,37 @@ use wi_plan::Plan;
 
 /// The plan that the file of a network has: all its paths and bypasses, in the order of the file, as numbers of the network's
 /// links and labels; or the file's first fault.
-#[tactic(auto, unfolding(crate::specs::Plan::plan_in, crate::specs::Plan::plan_of))]
+#[tactic(auto, unfolding(crate::specs::Plan::plan_in))]
 pub fn read_plan(alloc: Global, bytes: &[u8], net: &Network) -> Result<Plan, PlanRefused>
     requires { network_of bytes.now ≡ Ok net.now }
     ensures answer { Gives (λ plan. plan) result (plan_in net.now bytes.now) }
+    ensures plan { IfOk result (IsPlan net.now) }
+{
+    read_by(alloc, bytes, net, Form::Whole)
+}
+
+/// The same of a file that is not finished: where it has no member `bypasses`, there are none.
+#[tactic(auto, unfolding(crate::specs::Plan::draft_in))]
+pub fn read_draft(alloc: Global, bytes: &[u8], net: &Network) -> Result<Plan, PlanRefused>
+    requires { network_of bytes.now ≡ Ok net.now }
+    ensures answer { Gives (λ plan. plan) result (draft_in net.now bytes.now) }
+    ensures plan { IfOk result (IsPlan net.now) }
+{
+    read_by(alloc, bytes, net, Form::Draft)
+}
+
+// The plan of a file that has to say, or may leave out, which bypasses it has.
+#[tactic(auto, unfolding(crate::specs::Plan::plan_by))]
+fn read_by(alloc: Global, bytes: &[u8], net: &Network, form: Form) -> Result<Plan, PlanRefused>
+    requires { network_of bytes.now ≡ Ok net.now }
+    ensures answer { Gives (λ plan. plan) result (plan_by (bypasses_by form) net.now (value_in bytes.now)) }
     ensures plan { IfOk result (IsPlan net.now) }
 {
     if net.counts().rows != 0 {
         return Err(PlanRefused::NotEmpty);
     }
     let value = value_of(alloc, bytes)?;
-    let plan = plan_of(alloc, net, &value);
+    let plan = plan_of(alloc, net, form, &value);
     drop(value);
     plan
 }
@@ -50,13 +71,13 @@ fn value_of(alloc: Global, bytes: &[u8]) -> Result<Value, NoMemory>
 }
 
 // The plan that a value has.
-fn plan_of(alloc: Global, net: &Network, value: &Value) -> Result<Plan, PlanRefused>
+fn plan_of(alloc: Global, net: &Network, form: Form, value: &Value) -> Result<Plan, PlanRefused>
     requires { length net.now.rows ≡ 0 }
-    ensures { Gives (λ plan. plan) result (plan_of net.now (view value.now)) }
+    ensures { Gives (λ plan. plan) result (plan_by (bypasses_by form) net.now (view value.now)) }
 {
     let mut paths = Paths::new(alloc);
     let mut bypasses = Bypasses::new(alloc);
-    match fill(alloc, net, &mut paths, &mut bypasses, value) {
+    match fill(alloc, net, &mut paths, &mut bypasses, form, value) {
         Ok(()) => Ok(Plan {
             paths: paths.into_list(),
             bypasses: bypasses.into_list(),
@@ -70,20 +91,21 @@ fn plan_of(alloc: Global, net: &Network, value: &Value) -> Result<Plan, PlanRefu
 }
 
 // Adds all that a value has.
-#[tactic(auto, unfolding(crate::specs::Plan::plan_of))]
+#[tactic(auto, unfolding(crate::specs::Plan::plan_by))]
 fn fill(
     alloc: Global,
     net: &Network,
     paths: &mut Paths,
     bypasses: &mut Bypasses,
+    form: Form,
     value: &Value,
 ) -> Result<(), PlanRefused>
     requires rows { length net.now.rows ≡ 0 }
     requires paths { paths.old ≡ [] }
     requires bypasses { bypasses.old ≡ [] }
-    ensures { Gives (λ _. plan_with paths.new bypasses.new) result (plan_of net.now (view value.now)) }
+    ensures { Gives (λ _. plan_with paths.new bypasses.new) result (plan_by (bypasses_by form) net.now (view value.now)) }
 {
     read_paths(alloc, net, paths, value)?;
-    read_bypasses(alloc, net, bypasses, value)?;
+    read_bypasses(alloc, net, bypasses, form, value)?;
     all_end(paths)
 }

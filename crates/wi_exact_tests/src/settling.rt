@@ -32,8 +32,8 @@ enum Taken {
 }
 
 // A query, what is taken out, what is found while nothing is, and what is told of each outage, one after the other, each by the least
-// link of it.
-type Case<'a> = (&'a str, Taken, Found, &'a [(u32, Told)]);
+// link of it; and how many searches that takes in all.
+type Case<'a> = (&'a str, Taken, Found, &'a [(u32, Told)], u64);
 
 const YES: Told = Told::Known(Found::Yes);
 
@@ -124,8 +124,13 @@ fn problem_is(
     let mut settled = settle(alloc, problem, case.1 == Taken::Groups)?;
     own_is(rt, &settled, problem, case.2);
     let done = all_told(rt, alloc, &mut settled, problem, case);
+    searches_are(rt, &settled, case.4);
     drop(settled);
     done
+}
+
+fn searches_are(rt: &impl Abort, settled: &Settled, searches: u64) {
+    assert_eq!(rt; settled.searches(), searches);
 }
 
 fn case_is(rt: &impl Abort, alloc: Global, net: &Network, case: &Case) -> Result<(), Fail> {
@@ -165,12 +170,14 @@ const ARRIVING: &[Case] = &[
             (3, YES),
             (4, ASKED_NO),
         ],
+        4,
     ),
     (
         "<ip1> [x#a] .* [b#y] <ip1> 0 up [x#a, b#y]",
         Taken::Groups,
         Found::Yes,
         &[(1, ASKED_YES), (2, YES), (3, YES)],
+        2,
     ),
     (
         ARRIVES,
@@ -183,12 +190,14 @@ const ARRIVING: &[Case] = &[
             (2, YES),
             (4, ASKED_NO),
         ],
+        5,
     ),
     (
         "<ip1> [x#a] .* [b#y] <ip1> 0 down [a#b]",
         Taken::Groups,
         Found::Yes,
         &[(0, ASKED_NO), (2, ASKED_NO), (3, ASKED_NO), (4, ASKED_NO)],
+        5,
     ),
 ];
 
@@ -199,18 +208,21 @@ const LOST: &[Case] = &[
         Taken::Groups,
         Found::No,
         &[(0, NO), (1, NO), (2, NO), (3, NO), (4, YES)],
+        3,
     ),
     (
         "<ip1> [x#a] [^ .#y]* drop 0 up [b#y]",
         Taken::Groups,
         Found::No,
         &[(0, NO), (1, NO), (2, NO), (3, NO)],
+        2,
     ),
     (
         "<ip1> [x#a] [^ .#y]* drop 0 up [b#y]",
         Taken::Routers,
         Found::No,
         &[(0, ASKED_NO), (0, ASKED_NO), (2, ASKED_NO)],
+        4,
     ),
 ];
 
@@ -221,18 +233,21 @@ const DETOURS: &[Case] = &[
         Taken::Groups,
         Found::No,
         &[(0, NO), (1, YES), (2, NO), (3, NO), (4, NO)],
+        3,
     ),
     (
         "<ip1> [x#a] [a#c] .* <ip1> 1 up [x#a, a#b, a#c, c#b]",
         Taken::Groups,
         Found::No,
         &[(4, NO)],
+        1,
     ),
     (
         "<ip1> [x#a] [b#y] <ip1> 2",
         Taken::Groups,
         Found::No,
         &[(0, NO), (1, NO), (2, NO), (3, NO), (4, NO)],
+        2,
     ),
 ];
 
@@ -254,6 +269,7 @@ const TO_Z: &[Case] = &[
         Taken::Groups,
         Found::No,
         &[(0, NO), (1, YES), (2, NO), (3, NO), (5, NO)],
+        3,
     ),
     (
         "<ip1> [x#a] [a#c] .* [b#z] <ip1> 1",
@@ -267,12 +283,14 @@ const TO_Z: &[Case] = &[
             (4, YES),
             (5, ASKED_NO),
         ],
+        6,
     ),
     (
         "<ip1> [x#a] [a#c] .* [b#z] <ip1> 0 down [b#y]",
         Taken::Routers,
         Found::No,
         &[(0, ASKED_NO), (0, ASKED_NO), (2, ASKED_NO), (5, ASKED_NO)],
+        5,
     ),
 ];
 
@@ -282,6 +300,7 @@ const RETURNING: &[Case] = &[(
     Taken::Groups,
     Found::No,
     &[(0, NO), (1, NO), (2, NO), (3, NO), (4, NO), (5, NO)],
+    2,
 )];
 
 #[test]
@@ -330,6 +349,7 @@ const TOO_LONG: &[Case] = &[(
     Taken::Groups,
     Found::Open,
     &[(0, ASKED_NO), (1, ASKED_OPEN)],
+    3,
 )];
 
 #[test]

@@ -16,4 +16,5 @@ pub use laws::{
 };
 pub use outage::Outage;
 pub use routers::router_outages;
+pub use sets::are_apart;
 pub use survival::is_survived;

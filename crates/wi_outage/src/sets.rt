@@ -13,9 +13,9 @@ fn nth(set: &FailSet, i: usize) -> LinkId
     set.at(i).unwrap()
 }
 
-/// Whether two sets have no link in common.
+/// Whether two sets have no link in common. It takes no memory.
 #[tactic(auto, using(wi_labels::proofs::HeaderLemmas::drop_at))]
-pub(crate) fn are_apart(set: &FailSet, other: &FailSet) -> bool
+pub fn are_apart(set: &FailSet, other: &FailSet) -> bool
     ensures { result ≡ is_apart set.now other.now }
 {
     for i in 0..set.len() {

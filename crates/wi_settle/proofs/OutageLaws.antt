@@ -9,12 +9,14 @@ use Rattle.wi_net.specs.declared.parts.LinkId.{LinkId}
 use Rattle.wi_net.specs.declared.bounds.Bounds.{Bounds}
 use Rattle.wi_net.specs.LinkSet.{has, is_apart, is_within, outside}
 use Rattle.wi_net.specs.RiskGroups.{union}
-use Rattle.wi_net.specs.Net.{Net, links_where, risk_count}
+use Rattle.wi_net.specs.Net.{Net, links_where, risk_count, widened}
 use Rattle.wi_net.proofs.SetLemmas.{has_where, apart_has, union_link}
 use Rattle.wi_net.proofs.CountLemmas.{count_within}
-use Rattle.wi_world.specs.Moves.{AreBounds, IsAllowed, IsBounded}
+use Rattle.wi_world.specs.Holds.{Matches}
+use Rattle.wi_world.specs.Moves.{AreBounds, IsAllowed, IsBounded, is_trace}
+use Rattle.wi_world.specs.Runs.{used_by}
 use Rattle.wi_base.specs.declared.no_memory.NoMemory.{NoMemory}
-use Rattle.wi_build.specs.Problems.{Problem, IsProblem, allowing, within}
+use Rattle.wi_build.specs.Problems.{Problem, IsProblem, allowing, asks, within}
 use Rattle.wi_branch.specs.Tolerance.{HasTrace}
 use Rattle.wi_outage.specs.Survival.{is_survived, with_down, with_k, with_up}
 use Rattle.wi_outage.proofs.Unions.{apart_turned, apart_union, union_whole, whole_rising}
@@ -24,8 +26,8 @@ use Rattle.wi_settle.specs.declared.found.Found.{Found}
 use Rattle.wi_settle.specs.declared.settled.Witness.{Witness}
 use Rattle.wi_settle.specs.declared.settled.Asked.{Asked}
 use Rattle.wi_settle.specs.declared.settled.Asked.TheVariants.{Yes, No, Open}
-use Rattle.wi_settle.specs.Findings.{during, IsFound, IsWitness, IsNoneBesides, IsOutageOf, IsSettled, Settling}
-use Rattle.wi_settle.specs.private.Asking.{AreKept, IsAsked, begun, found_of, free_groups, kept_by, none_noted, noted}
+use Rattle.wi_settle.specs.Findings.{AskAlike, during, IsFound, IsWitness, IsNoneBesides, IsOutageOf, IsSettled, Settling}
+use Rattle.wi_settle.specs.private.Asking.{AreKept, IsAsked, begun, counted, found_of, free_groups, kept_by, none_noted, noted}
 use Rattle.wi_settle.proofs.SetLaws.{within_self, within_union, within_on, within_second, apart_within, union_within, outside_apart, outside_whole, others_whole}
 
 bounded : (problem : Problem) → IsProblem problem → IsBounded problem.net problem.bounds
@@ -53,21 +55,36 @@ witness_within problem bounds witness down up h = record {
   used = h.used;
 }
 
+-- one that is of the same question
+alike_witness : (known problem : Problem) (witness : Witness) → AskAlike known problem → IsWitness problem witness → IsWitness known witness
+alike_witness known problem witness alike h = record {
+  run = h.run;
+  union = subst (λ (n : Net). widened n witness.fails ≡ witness.fails) (sym alike.net) h.union;
+  down = subst (λ (b : Bounds). is_within b.down witness.fails ≡ true) (sym alike.bounds) h.down;
+  up = subst (λ (b : Bounds). is_apart witness.fails b.up ≡ true) (sym alike.bounds) h.up;
+  trace = subst (λ (n : Net). is_trace n witness.fails h.run ≡ true) (sym alike.net) h.trace;
+  matches = subst (λ (n : Net). Matches n (asks known) h.run) (sym alike.net) (alike.matches h.run (record { first = h.matches.first; path = h.matches.path; last = h.matches.last; end = h.matches.end }));
+  used = subst (λ (n : Net). witness.used ≡ used_by n h.run) (sym alike.net) h.used;
+}
+
+-- a search more, by which a run was found, or none
+with_witness : (problem : Problem) (settled : Settling) (witness : Witness) → IsWitness problem witness → IsSettled problem settled → IsSettled problem (noted settled (Yes witness))
+with_witness problem settled witness h s = record { own = s.own; witnesses = All-push (IsWitness problem) settled.witnesses witness s.witnesses h; none = s.none }
+
+with_none : (problem : Problem) (settled : Settling) → IsSettled problem settled → IsSettled problem (record settled { searches = counted settled.searches })
+with_none problem settled s = record { own = s.own; witnesses = s.witnesses; none = s.none }
+
 -- what was asked within bounds that know more is taken in
 pub noted_settled : (problem : Problem) (bounds : Bounds) (settled : Settling) (asked : Asked) → is_within problem.bounds.down bounds.down ≡ true → is_within problem.bounds.up bounds.up ≡ true
     → IsAsked (within problem bounds) asked → IsSettled problem settled → IsSettled problem (noted settled asked)
-noted_settled problem bounds settled (Yes witness) down up h s = record {
-  own = s.own;
-  witnesses = All-push (IsWitness problem) settled.witnesses witness s.witnesses (witness_within problem bounds witness down up h.1);
-  none = s.none;
-}
-noted_settled problem bounds settled No down up h s = s
-noted_settled problem bounds settled Open down up h s = s
+noted_settled problem bounds settled (Yes witness) down up h s = with_witness problem settled witness (witness_within problem bounds witness down up h.1) s
+noted_settled problem bounds settled No down up h s = with_none problem settled s
+noted_settled problem bounds settled Open down up h s = with_none problem settled s
 
 -- and what was asked first
 pub begun_settled : (problem : Problem) (asked : Asked) → IsAsked problem asked → IsSettled problem (begun asked)
 begun_settled problem asked h =
-    noted_settled problem problem.bounds (record { own = found_of asked; witnesses = []; none = None }) asked (within_self problem.bounds.down) (within_self problem.bounds.up) h
+    noted_settled problem problem.bounds (record { searches = 0; own = found_of asked; witnesses = []; none = None }) asked (within_self problem.bounds.down) (within_self problem.bounds.up) h
     (record { own = found_is problem asked h; witnesses = All-nil (IsWitness problem); none = tt })
 
 -- ---- an outage of which all is known to be down
@@ -203,14 +220,17 @@ none_besides problem single links None o one known h = absurd (true≢false (sym
 none_besides problem single links (Some kept) o one known h = known links (o.group one) o.up h
 
 -- what is asked for an outage by a search
-pub during_settled : (problem : Problem) (links : List LinkId) (settled : Settling) (asked : Asked) → IsAsked (during problem links) asked → IsSettled problem settled → IsSettled problem (noted settled asked)
-during_settled problem links settled asked h s =
-    noted_settled problem (with_down problem.bounds links) settled asked (within_union problem.bounds.down links) (within_self problem.bounds.up) h s
+during_settled : (known problem : Problem) (links : List LinkId) (settled : Settling) (asked : Asked) → AskAlike known problem → IsAsked (during problem links) asked → IsSettled known settled → IsSettled known (noted settled asked)
+during_settled known problem links settled (Yes witness) alike h s =
+    with_witness known settled witness (alike_witness known problem witness alike (witness_within problem (with_down problem.bounds links) witness (within_union problem.bounds.down links) (within_self problem.bounds.up) h.1)) s
+during_settled known problem links settled No alike h s = with_none known settled s
+during_settled known problem links settled Open alike h s = with_none known settled s
 
 -- it is taken in where memory suffices, and else all is as before
-pub during_kept : (r : Result Found NoMemory) (problem : Problem) (links : List LinkId) (settled new : Settling) (asked : Asked) → IsAsked (during problem links) asked → OnOk r (new ≡ noted settled asked) → OnErr r (new ≡ settled) → IsSettled problem settled → IsSettled problem new
-during_kept (Ok found) problem links settled new asked h ok err s = subst (λ (x : Settling). IsSettled problem x) (sym ok) (during_settled problem links settled asked h s)
-during_kept (Err error) problem links settled new asked h ok err s = subst (λ (x : Settling). IsSettled problem x) (sym err) s
+pub during_kept : (r : Result Found NoMemory) (problem : Problem) (links : List LinkId) (settled new : Settling) (asked : Asked) → IsAsked (during problem links) asked → OnOk r (new ≡ noted settled asked) → OnErr r (new ≡ settled)
+    → (known : Problem) → AskAlike known problem → IsSettled known settled → IsSettled known new
+during_kept (Ok found) problem links settled new asked h ok err known alike s = subst (λ (x : Settling). IsSettled known x) (sym ok) (during_settled known problem links settled asked alike h s)
+during_kept (Err error) problem links settled new asked h ok err known alike s = subst (λ (x : Settling). IsSettled known x) (sym err) s
 
 pub known_is : (problem : Problem) (single : Bool) (links : List LinkId) (bounds : Bounds) (settled : Settling) (found : Found) (b : Bool) → b ≡ is_within links bounds.down → b ≡ true → found ≡ settled.own
     → IsProblem problem → problem.bounds ≡ bounds → IsSettled problem settled → IsOutageOf problem single links → IsFound (during problem links) found

@@ -1,5 +1,5 @@
 -- What is found of a question while an outage's links are down, too, and what is known of many outages at once.
-use Rattle.std.specs.Prelude.{◌≡◌, Bool, true, List, Option}
+use Rattle.std.specs.Prelude.{◌≡◌, ℕ, Bool, true, List, Option}
 use Rattle.std.specs.List.{All}
 use Rattle.std.specs.Option.{IfSome}
 use Rattle.wi_net.specs.declared.parts.LinkId.{LinkId}
@@ -46,9 +46,10 @@ abbrev pub IsNoneBesides : Problem → List LinkId → Type 0
 IsNoneBesides problem kept =
     (links : List LinkId) → IsGroup problem.net links → is_apart links problem.bounds.up ≡ true → is_apart links kept ≡ true → HasTrace (during problem links) → ⊥
 
--- what is known of a question: what is found of it while nothing is out, traces of it, and, where that is known, links such that no risk
--- group without them has a matching trace while it is out
+-- what is known of a question: by how many searches, what is found of it while nothing is out, traces of it, and, where that is known,
+-- links such that no risk group without them has a matching trace while it is out
 pub record Settling : Type 0 where
+  pub searches : ℕ
   pub own : Found
   pub witnesses : List Witness
   pub none : Option (List LinkId)
@@ -58,6 +59,12 @@ pub record IsSettled (problem : Problem) (settled : Settling) : Type 0 where
   pub own : IsFound problem settled.own
   pub witnesses : All (IsWitness problem) settled.witnesses
   pub none : IfSome settled.none (IsNoneBesides problem)
+
+-- two problems are of one network and the same bounds, and what matches the one matches the other
+pub record AskAlike (one other : Problem) : Type 0 where
+  pub net : one.net ≡ other.net
+  pub bounds : one.bounds ≡ other.bounds
+  pub matches : (run : Run) → Matches other.net (asks other) run → Matches other.net (asks one) run
 
 -- an outage that a problem is asked for: whole risk groups, a single one where that is said, without a link that is known to be up
 pub record IsOutageOf (problem : Problem) (single : Bool) (links : List LinkId) : Type 0 where

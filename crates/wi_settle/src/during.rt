@@ -2,7 +2,8 @@
 ghost use Rattle.std.specs.Prelude.{◌≡◌, IfOk, OnOk};
 ghost use Rattle.wi_outage.specs.Survival.{with_down};
 ghost use Rattle.wi_world.specs.Moves.{AreBounds};
-ghost use Rattle.wi_settle.specs.Findings.{IsFound, IsSettled, during};
+ghost use Rattle.wi_build.specs.Problems.{Problem};
+ghost use Rattle.wi_settle.specs.Findings.{AskAlike, IsFound, IsSettled, during};
 ghost use Rattle.wi_settle.specs.private.Asking.{IsAsked};
 
 use crate::asking::ask;
@@ -15,7 +16,7 @@ use wi_net::{Bounds, FailSet};
 use wi_trace::insert_all;
 
 /// What is found of a problem while these links are down, too, by a search. A run that is found is taken in, so that it settles
-/// other outages. Where memory runs out, what is known is as before.
+/// other outages, also where what is known is of another reading of the same question. Where memory runs out, it is as before.
 pub fn ask_during(
     alloc: Global,
     settled: &mut Settled,
@@ -24,7 +25,7 @@ pub fn ask_during(
 ) -> Result<Found, NoMemory>
     requires { AreBounds problem.now.net (with_down problem.now.bounds outage.now) }
     ensures found { IfOk result (IsFound (during problem.now outage.now)) }
-    ensures settled { IsSettled problem.now settled.old → IsSettled problem.now settled.new }
+    ensures settled { (known : Problem) → AskAlike known problem.now → IsSettled known settled.old → IsSettled known settled.new }
 {
     let asked = asked_during(alloc, problem, outage)?;
     settled.note(asked)

@@ -1,24 +1,11 @@
 //! What is asked of two sets is answered without making a third: each link of the one is looked up in the other, by halves.
 ghost use Rattle.std.specs.Prelude.{◌≡◌, OnOk};
-ghost use Rattle.wi_net.specs.LinkSet.{is_apart, is_within, outside};
+ghost use Rattle.wi_net.specs.LinkSet.{is_within, outside};
 ghost use Rattle.wi_net.specs.RiskGroups.{union};
 
 use wi_base::NoMemory;
 use wi_net::FailSet;
 use wi_trace::nth;
-
-/// Whether two sets have no link in common.
-#[tactic(auto, using(wi_labels::proofs::HeaderLemmas::drop_at))]
-pub(crate) fn are_apart(set: &FailSet, other: &FailSet) -> bool
-    ensures { result ≡ is_apart set.now other.now }
-{
-    for i in 0..set.len() {
-        if other.contains(nth(set, i)) {
-            return false;
-        }
-    }
-    true
-}
 
 /// Whether each link of a set is in another one.
 #[tactic(auto, using(wi_labels::proofs::HeaderLemmas::drop_at))]

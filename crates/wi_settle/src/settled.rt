@@ -5,15 +5,14 @@ ghost use Rattle.std.specs.List.{list_any};
 ghost use Rattle.std.specs.Option.{option_map_or};
 ghost use Rattle.wi_net.specs.LinkSet.{is_apart};
 ghost use Rattle.wi_outage.specs.Survival.{is_survived};
-ghost use Rattle.wi_settle.specs.private.Asking.{begun, found_of, none_noted, noted};
+ghost use Rattle.wi_settle.specs.private.Asking.{begun, counted, found_of, none_noted, noted};
 
 use crate::found::Found;
-use crate::sets::are_apart;
 use std::alloc::Global;
 use std::marker::Model;
 use wi_base::{Listed, NoMemory};
 use wi_net::{Bounds, FailSet, LinkId, Network};
-use wi_outage::is_survived;
+use wi_outage::{are_apart, is_survived};
 
 /// A run that was found: the links that have failed while it is a trace, and those that it uses.
 #[derive(Drop)]
@@ -33,6 +32,8 @@ pub(crate) enum Asked {
 /// What is known of a question for all outages at once.
 #[derive(Drop)]
 pub struct Settled {
+    // How many searches it took.
+    searches: u64,
     // What is found while nothing is out.
     own: Found,
     witnesses: Vec<Witness>,
@@ -45,7 +46,7 @@ impl Model for Settled {
 
     ghost Value = { Settling };
 
-    ghost view = { λ s. record { own = s.own; witnesses = s.witnesses.items; none = s.none } };
+    ghost view = { λ s. record { searches = s.searches; own = s.own; witnesses = s.witnesses.items; none = s.none } };
 }
 
 impl Settled {
@@ -54,6 +55,7 @@ impl Settled {
         ensures { IfOk result (λ settled. settled ≡ begun asked) }
     {
         let mut settled = Settled {
+            searches: 0,
             own: found_of(&asked),
             witnesses: Vec::new(alloc),
             none: None,
@@ -73,23 +75,13 @@ impl Settled {
         ensures ok { OnOk result (self.new ≡ noted self.old asked) }
         ensures err { OnErr result (self.new ≡ self.old) }
     {
+        let found = found_of(&asked);
         match asked {
-            Asked::Yes(witness) => self.add(witness),
-            Asked::No => Ok(Found::No),
-            Asked::Open => Ok(Found::Open),
+            Asked::Yes(witness) => self.witnesses.push(witness)?,
+            Asked::No | Asked::Open => {}
         }
-    }
-
-    // Takes in a run that was found.
-    fn add(&mut self, witness: Witness) -> Result<Found, NoMemory>
-        ensures found { IfOk result (λ found. found ≡ Found.Yes) }
-        ensures ok { OnOk result (self.new ≡ noted self.old (Asked.Yes witness)) }
-        ensures err { OnErr result (self.new ≡ self.old) }
-    {
-        match self.witnesses.push(witness) {
-            Ok(()) => Ok(Found::Yes),
-            Err(_failed) => Err(NoMemory::Memory),
-        }
+        self.searches = counted(self.searches);
+        Ok(found)
     }
 
     /// Takes in that each risk group without these links has no matching trace while it is out.
@@ -108,6 +100,13 @@ impl Settled {
             Asked::Yes(_) | Asked::Open => {}
         }
         Ok(())
+    }
+
+    /// How many searches it took, those included that were made for single outages.
+    pub fn searches(&self) -> u64
+        ensures { result ≡ self.now.searches }
+    {
+        self.searches
     }
 
     /// What is found while nothing is out.
@@ -132,6 +131,17 @@ impl Settled {
             Some(kept) => are_apart(outage, kept),
             None => false,
         }
+    }
+}
+
+// One search more, as far as the number goes.
+fn counted(searches: u64) -> u64
+    ensures { result ≡ counted searches }
+{
+    if searches < u64::MAX {
+        searches + 1
+    } else {
+        searches
     }
 }
 

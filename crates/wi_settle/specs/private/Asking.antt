@@ -1,5 +1,5 @@
 -- What one exact answer gives, and what it adds to what is known.
-use Rattle.std.specs.Prelude.{◌≡◌, ℕ, true, List, [], ◌∷◌, ◌++◌, Option, Some, None}
+use Rattle.std.specs.Prelude.{◌≡◌, ℕ, ◌+◌, ◌-◌, ◌^◌, nat_lt, if◌then◌else◌, true, List, [], ◌∷◌, ◌++◌, Option, Some, None}
 use Rattle.wi_net.specs.declared.parts.LinkId.{LinkId}
 use Rattle.wi_net.specs.declared.bounds.Bounds.{Bounds}
 use Rattle.wi_net.specs.LinkSet.{is_within, outside}
@@ -35,11 +35,15 @@ found_of (Yes witness) = found.Yes
 found_of No = found.No
 found_of Open = found.Open
 
--- what is known once a trace was found besides
+-- one search more, as far as 64 bits go
+abbrev pub counted : ℕ → ℕ
+counted n = if nat_lt n (2 ^ 64 - 1) then n + 1 else n
+
+-- what is known once it was asked besides: a trace, where one was found
 abbrev pub noted : Settling → Asked → Settling
-noted settled (Yes witness) = record settled { witnesses = settled.witnesses ++ witness ∷ [] }
-noted settled No = settled
-noted settled Open = settled
+noted settled (Yes witness) = record settled { searches = counted settled.searches; witnesses = settled.witnesses ++ witness ∷ [] }
+noted settled No = record settled { searches = counted settled.searches }
+noted settled Open = record settled { searches = counted settled.searches }
 
 -- what is known once no trace was found while any risk group without these links may have failed
 abbrev pub none_noted : Settling → Asked → List LinkId → Settling
@@ -49,7 +53,7 @@ none_noted settled Open kept = settled
 
 -- what is known of a problem that was asked while nothing is out
 abbrev pub begun : Asked → Settling
-begun asked = noted (record { own = found_of asked; witnesses = []; none = None }) asked
+begun asked = noted (record { searches = 0; own = found_of asked; witnesses = []; none = None }) asked
 
 -- how many risk groups are neither known to be down nor known to be up
 abbrev pub free_groups : Net → Bounds → ℕ

@@ -176,7 +176,7 @@ fn other_faults(rt: &impl Abort, alloc: Global, net: &Network) -> Result<(), Fai
     query_says(rt, alloc, net, QueryFault::Syntax(14), said)?;
     let said = "query: link a.b#\"b 1\".\"a.0\" both down and up\n";
     query_says(rt, alloc, net, QueryFault::DownAndUp(LinkId(0)), said)?;
-    let said = "query: out of memory\n";
+    let said = "whatif: out of memory\n";
     query_says(rt, alloc, net, QueryFault::Memory, said)
 }
 

@@ -1,5 +1,5 @@
 -- From what is found to what the program does.
-use Rattle.std.proofs.Common.{◌≡◌, ℕ, ◌<◌, nat_eq, ◌⊎◌, inl, inr, true, false, List, length, Option, Some, None, Result, Ok, Err, refl, sym, ap, subst, ◌∙◌, arith}
+use Rattle.std.proofs.Common.{◌≡◌, ℕ, ◌<◌, nat_eq, ◌⊎◌, inl, inr, true, false, List, [], ◌∷◌, length, Option, Some, None, Result, Ok, Err, refl, sym, ap, subst, ◌∙◌, arith}
 use Rattle.std.specs.Prelude.{codes, IfOk, IfErr}
 use Rattle.std.specs.Option.{option_map}
 use Rattle.wi_base.specs.declared.shelf.CallKind.TheVariants.{Fetch, Store}
@@ -8,6 +8,7 @@ use Rattle.wi_base.specs.Sink.{SinkSeen}
 use Rattle.wi_base.specs.declared.sink.PutRefused.{PutRefused}
 use Rattle.wi_base.specs.declared.sink.PutRefused.TheVariants.{Failed, Memory as NoMemory}
 use Rattle.wi_net.specs.declared.bounds.Bounds.{Bounds}
+use Rattle.wi_net.specs.declared.parts.LinkId.{LinkId}
 use Rattle.wi_net.specs.Net.{Net}
 use Rattle.wi_netjson.specs.Reading.{Fails}
 use Rattle.wi_netjson.specs.declared.fault.NetFault.{NetFault}
@@ -48,12 +49,12 @@ use Rattle.wi_gen.specs.Ring.{net_of, ring_of}
 use Rattle.wi_gen.specs.Texts.{query_text, weights_text}
 use Rattle.wi_report.specs.Summaries.{summary_of}
 use Rattle.wi_words.specs.declared.Content.{Content}
-use Rattle.wi_words.specs.Commands.{Wanted, Verify, Check, Exact, CheckExact, Tolerate, Command, Ask, Play, Gen, Protect, Stack, Audit, Draw, command_of}
+use Rattle.wi_words.specs.declared.Tested.{Tested}
+use Rattle.wi_words.specs.Commands.{Wanted, Verify, Check, Exact, CheckExact, Tolerate, Command, Ask, Play, Gen, Protect, Stack, Audit, Bypass, Draw, command_of}
 use Rattle.wi_words.specs.Shown.{shown}
 use Rattle.wi_words.specs.declared.Command.{Command as Given}
 use Rattle.wi_wire.specs.declared.refused.StackRefused.{StackRefused}
 use Rattle.wi_wire.specs.declared.refused.StackRefused.TheVariants.{Cut, Reserved, Memory as StackMemory}
-use Rattle.wi_audit.specs.Audits.{IsBrokenOff}
 use Rattle.wi_outcome.specs.Edges.{Prints, Says, SaysWhy, kept, unprinted}
 use Rattle.wi_outcome.specs.Texts.{status_of, text_of}
 use Rattle.wi_outcome.specs.declared.printed.Printed.{Printed}
@@ -68,7 +69,9 @@ use Rattle.wi_files.specs.Scripts.{FromScript, IsBadScript, IsPlay}
 use Rattle.wi_files.specs.Shelves.{AllStand, IsCalm, IsLeft, StandBut}
 use Rattle.wi_files.proofs.Causes.{longer}
 use Rattle.wi_app.specs.Asked.{FromAsked}
-use Rattle.wi_app.specs.Audited.{EndsAudited}
+use Rattle.wi_bypass.specs.Bypasses.{with_found}
+use Rattle.wi_files.specs.Bypassing.{IsBypassed, left_unprotected, plan_status}
+use Rattle.wi_app.specs.Audited.{EndsAudited, IsBrokenOff}
 use Rattle.wi_app.specs.Certificates.{FromCertificate, FromStore, IsBelievedFile, IsCertificate, IsCertified, IsStored, IsTooLargeToWrite}
 use Rattle.wi_app.specs.Decided.{EndsUndecided, FromDecision, IsReported, printed_by, status_for}
 use Rattle.wi_app.specs.Exact.{EndsUnsplit, FromSplitting, FromTree, FromTreeStore, IsBelievedTreeFile, IsTreeTooLarge}
@@ -79,10 +82,10 @@ use Rattle.wi_app.specs.Wanted.{CanBeGiven, EndsAnswered, EndsExactly, FromAnswe
 use Rattle.wi_app.specs.private.Stages.{IsNotBelieved}
 use Rattle.wi_app.proofs.Answers.{answer_ends}
 use Rattle.wi_app.proofs.Asking.{asked_problem}
-use Rattle.wi_app.proofs.Auditing.{audit_ends, one_held, policies_want}
+use Rattle.wi_app.proofs.Auditing.{one_held, policies_want, tests_end, tests_fail}
 use Rattle.wi_app.proofs.Ending.{Ends, ends_as, wanting}
 use Rattle.wi_app.proofs.Exactly.{exact_answer_ends, tree_store_due, unsplit_due}
-use Rattle.wi_app.proofs.Protecting.{plan_due}
+use Rattle.wi_app.proofs.Protecting.{draft_due, plan_due}
 use Rattle.wi_app.proofs.Tolerating.{tolerance_ends, trees_due, untold_due}
 
 -- ---- what is printed with the status 0
@@ -202,6 +205,7 @@ words_memory held (Some (Ask asking wanted)) = inl refl
 words_memory held (Some (Play name script k)) = inl refl
 words_memory held (Some (Gen seed size)) = (refl, tt)
 words_memory held (Some (Protect name)) = inl refl
+words_memory held (Some (Bypass name)) = inl refl
 words_memory held (Some (Stack hex)) = (refl, tt)
 words_memory held (Some (Audit auditing)) = inl refl
 words_memory held (Some (Draw name)) = refl
@@ -452,6 +456,11 @@ refused_ends old new (Protect name) refusal t can calm (inr cause) = elim (plan_
   | inl want ↦ wanting (IsStatus old (Protect name)) refusal want
   | inr due ↦ (rw due.0 refl, inr (inr (due.0, (cause.0, cause.1 t, due.1))))
 ]
+refused_ends old new (Bypass name) refusal t can calm (inl network) = wanting (IsStatus old (Bypass name)) refusal (network_wants old new name refusal can.0 t can.1 calm network)
+refused_ends old new (Bypass name) refusal t can calm (inr cause) = elim (draft_due cause.0 refusal cause.2) [
+  | inl want ↦ wanting (IsStatus old (Bypass name)) refusal want
+  | inr due ↦ (rw due.0 refl, inr (inr (inr (due.0, (cause.0, cause.1 t, due.1)))))
+]
 refused_ends old new (Stack hex) refusal t can calm cause = stack_ends old hex refusal cause.1
 refused_ends old new (Audit auditing) refusal t can calm (inl network) = wanting EndsAudited refusal (network_wants old new auditing.network refusal can.0 t (can.3.network_is t) calm network)
 refused_ends old new (Audit auditing) refusal t can calm (inr cause) =
@@ -488,6 +497,14 @@ given_ends (Exact file) old new problem status text given = inl (exact_answer_en
 given_ends (CheckExact file) old new problem status text given = given.2
 given_ends (Tolerate most file) old new problem status text given = inl (tolerance_ends problem most file old new status text given)
 
+-- the status of a plan that is printed
+bypassed_ends : (old : ShelfSeen) (name : List ℕ) (status : ℕ) (text : List ℕ) → IsBypassed old name text status → IsStatus old (Bypass name) status
+bypassed_ends old name status text answer = by_links (left_unprotected answer.2.net (with_found answer.2.plan answer.2.found)) answer.2.status_is
+  where
+    by_links : (links : List LinkId) → status ≡ plan_status links → IsStatus old (Bypass name) status
+    by_links [] is = inl is
+    by_links (e ∷ links) is = inr (inl is)
+
 answered_ends : (old new : ShelfSeen) (command : Command) (status : ℕ) (text : List ℕ) → TellsFor old command → IsAnswered old new command status text → IsStatus old command status
 answered_ends old new (Ask asking wanted) status text t answer =
     let asked = answer.2 in
@@ -495,8 +512,9 @@ answered_ends old new (Ask asking wanted) status text t answer =
 answered_ends old new (Play name script k) status text t answer = answer.1
 answered_ends old new (Gen seed size) status text t answer = inl answer.1
 answered_ends old new (Protect name) status text t answer = inl answer.1
+answered_ends old new (Bypass name) status text t answer = bypassed_ends old name status text answer
 answered_ends old new (Stack hex) status text t answer = inl answer.1
-answered_ends old new (Audit auditing) status text t answer = audit_ends answer.4
+answered_ends old new (Audit auditing) status text t answer = tests_end auditing.tested answer.0 answer.1 answer.2 text status answer.4
 answered_ends old new (Draw name) status text t answer = answer.1
 
 -- want of memory is said with its own status, or can't be
@@ -520,12 +538,11 @@ done_completes command shelf_old shelf_new out_old out_new err_old err_new resul
 
 cut_completes : (command : Command) (shelf_old shelf_new : ShelfSeen) (out_old out_new err_old err_new : SinkSeen) (result : ℕ)
     → IsCutShort (Some command) shelf_old shelf_new out_old out_new err_old err_new result → CompletesBy command shelf_old shelf_new out_old out_new err_old err_new result
-cut_completes command shelf_old shelf_new out_old out_new err_old err_new result cut told can calm no_fault silent = inr (by_cause cut.broken.0 cut.broken.1 cut.broken.2 cut.refused cut.broken.4 cut.said)
+cut_completes command shelf_old shelf_new out_old out_new err_old err_new result cut told can calm no_fault silent = inr (by_cause cut.auditing.tested cut.broken.0 cut.broken.1 cut.broken.2 cut.refused cut.broken.4 cut.said)
   where
-    by_cause : (net : Net) (given : Bounds) (policies : List Policy) (refused : PutRefused) → IsBrokenOff net given policies refused out_old out_new → SaysWhy (unprinted refused) err_old err_new result → result ≡ 11
-    by_cause net given policies Failed (inl part) why = let less = part.fault in absurd (omega (arith, less, no_fault))
-    by_cause net given policies Failed (inr at) why = let less = at.fault in absurd (omega (arith, less, no_fault))
-    by_cause net given policies NoMemory broken why = memory_said err_old err_new result silent why
+    by_cause : (tested : Tested) (net : Net) (given : Bounds) (policies : List Policy) (refused : PutRefused) → IsBrokenOff tested net given policies refused out_old out_new → SaysWhy (unprinted refused) err_old err_new result → result ≡ 11
+    by_cause tested net given policies Failed broken why = let less = tests_fail tested net given policies out_old out_new broken in absurd (omega (arith, less, no_fault))
+    by_cause tested net given policies NoMemory broken why = memory_said err_old err_new result silent why
 
 -- what is printed is what a command does
 pub done_does : (command : Command) (shelf_old shelf_new : ShelfSeen) (out_old out_new err_old err_new : SinkSeen) (result status : ℕ) (text : List ℕ) → IsAnswered shelf_old shelf_new command status text → IsCalm shelf_old shelf_new

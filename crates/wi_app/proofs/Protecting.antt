@@ -7,6 +7,7 @@ use Rattle.wi_protect.specs.declared.refused.ProtectRefused.TheVariants as prote
 use Rattle.wi_outcome.specs.Texts.{status_of}
 use Rattle.wi_outcome.specs.declared.refusal.Refusal.{Refusal}
 use Rattle.wi_outcome.specs.declared.refusal.Refusal.TheVariants.{LargeNetwork, Memory, Plan as BadPlan, Unprotected}
+use Rattle.wi_files.specs.Bypassing.{FromDraft, HasNoDraft}
 use Rattle.wi_files.specs.Protection.{FromPlan, HasNoProtection}
 
 -- the status of a plan's refusal
@@ -33,3 +34,9 @@ plan_due bytes (Unprotected refused) cause = inr (protect_status refused cause.3
 plan_due bytes LargeNetwork cause = inr (refl, (LargeNetwork, λ same. cc, cause))
 plan_due bytes Memory cause = inl refl
 plan_due bytes refusal cause = elim cause [ ]
+
+pub draft_due : (bytes : List ℕ) (refusal : Refusal) → FromDraft bytes refusal → (status_of refusal ≡ 11) ⊎ ((status_of refusal ≡ 15) × HasNoDraft bytes)
+draft_due bytes (BadPlan refused) cause = inr (plan_status refused cause.2, (BadPlan refused, λ same. cc, cause))
+draft_due bytes LargeNetwork cause = inr (refl, (LargeNetwork, λ same. cc, cause))
+draft_due bytes Memory cause = inl refl
+draft_due bytes refusal cause = elim cause [ ]

@@ -7,12 +7,12 @@ use Rattle.wi_net.specs.Net.{Net}
 use Rattle.wi_query.specs.declared.query.Query.{Query}
 use Rattle.wi_quantity.specs.declared.vector.Part.{Part}
 use Rattle.wi_build.specs.Problems.{Problem, problem_of}
-use Rattle.wi_words.specs.Commands.{Asking, Auditing, Command, Ask, Play, Gen, Protect, Stack, Audit, Draw, command_of}
-use Rattle.wi_audit.specs.Audits.{IsBrokenOff}
+use Rattle.wi_words.specs.Commands.{Asking, Auditing, Command, Ask, Play, Gen, Protect, Stack, Audit, Bypass, Draw, command_of}
 use Rattle.wi_outcome.specs.Edges.{Prints, SaysWhy, Untouched, unprinted}
 use Rattle.wi_outcome.specs.declared.refusal.Refusal.{Refusal}
 use Rattle.wi_outcome.specs.declared.refusal.Refusal.TheVariants.{Memory, Usage}
 use Rattle.wi_files.specs.Asked.{IsAsked}
+use Rattle.wi_files.specs.Bypassing.{FromBypassing, HasNoDraft, IsBypassed}
 use Rattle.wi_files.specs.Networks.{FromNetwork, HoldsNetwork}
 use Rattle.wi_files.specs.Policies.{FromPolicies}
 use Rattle.wi_files.specs.OnWire.{FromHex, IsShownHex, ShowsNoStack}
@@ -20,7 +20,7 @@ use Rattle.wi_files.specs.Protection.{FromProtecting, HasNoProtection, IsProtect
 use Rattle.wi_files.specs.Scripts.{FromPlaying, IsPlay, IsPlayed}
 use Rattle.wi_files.specs.Shelves.{IsCalm, IsLeft}
 use Rattle.wi_app.specs.Asked.{ForAsked, FromAsked}
-use Rattle.wi_app.specs.Audited.{AreTold, EndsAudited, ForPolicies}
+use Rattle.wi_app.specs.Audited.{AreTold, EndsAudited, ForPolicies, IsBrokenOff}
 use Rattle.wi_app.specs.Decided.{EndsUndecided}
 use Rattle.wi_app.specs.Drawn.{IsDrawn}
 use Rattle.wi_app.specs.Generated.{ForRing, FromRing, IsSummary}
@@ -37,6 +37,7 @@ IsAnswered old new (Ask asking wanted) status text = ForAsking old asking (λ pr
 IsAnswered old new (Play name script k) status text = IsPlayed old name script k text × (status ≡ 0)
 IsAnswered old new (Gen seed size) status text = IsSummary seed size text × (status ≡ 0)
 IsAnswered old new (Protect name) status text = IsProtected old name text × (status ≡ 0)
+IsAnswered old new (Bypass name) status text = IsBypassed old name text status
 IsAnswered old new (Stack hex) status text = IsShownHex hex text × (status ≡ 0)
 IsAnswered old new (Audit auditing) status text = AreTold old auditing status text
 IsAnswered old new (Draw name) status text = IsDrawn old name text × (status ≡ 0)
@@ -61,6 +62,7 @@ FromCommand old new (Ask asking wanted) refusal =
 FromCommand old new (Play name script k) refusal = FromPlaying old new name script k refusal
 FromCommand old new (Gen seed size) refusal = IsCalm old new × FromRing seed size refusal
 FromCommand old new (Protect name) refusal = FromProtecting old new name refusal
+FromCommand old new (Bypass name) refusal = FromBypassing old new name refusal
 FromCommand old new (Stack hex) refusal = IsCalm old new × FromHex hex refusal
 FromCommand old new (Audit auditing) refusal = FromPolicies old new auditing.network auditing.given auditing.policies refusal
 FromCommand old new (Draw name) refusal = FromNetwork old new name refusal
@@ -73,7 +75,7 @@ FromWords old new None refusal = ⊥
 FromWords old new (Some command) refusal = FromCommand old new command refusal
 
 -- ---- what is done
--- the program answered: no call on the shelf failed, and what is to be printed was
+-- the program answered: no call on the shelf failed, and what is to be printed was; or it was said why not
 pub record IsDone (command : Option Command) (shelf_old shelf_new : ShelfSeen) (out_old out_new err_old err_new : SinkSeen) (result : ℕ) : Type 0 where
   pub status : ℕ
   pub text : List ℕ
@@ -89,13 +91,13 @@ pub record IsRefused (command : Option Command) (shelf_old shelf_new : ShelfSeen
   pub untouched : Untouched out_old out_new
   pub said : SaysWhy refusal err_old err_new result
 
--- an audit was broken off: what was printed until then stands, and it was said why
+-- tests were broken off: what was printed until then stands, and it was said why
 pub record IsCutShort (command : Option Command) (shelf_old shelf_new : ShelfSeen) (out_old out_new err_old err_new : SinkSeen) (result : ℕ) : Type 0 where
   pub auditing : Auditing
   pub asks : command ≡ Some (Audit auditing)
   pub calm : IsCalm shelf_old shelf_new
   pub refused : PutRefused
-  pub broken : ForPolicies shelf_old auditing (λ net given policies. IsBrokenOff net given policies refused out_old out_new)
+  pub broken : ForPolicies shelf_old auditing (λ net given policies. IsBrokenOff auditing.tested net given policies refused out_old out_new)
   pub said : SaysWhy (unprinted refused) err_old err_new result
 
 -- what a command does, if there is one
@@ -119,6 +121,7 @@ CanBeAnswered shelf (Ask asking wanted) =
 CanBeAnswered shelf (Play name script k) = (net : Net) × HoldsNetwork (shelf.file name) net × ((bytes text : List ℕ) × (shelf.file script ≡ Some bytes) × IsPlay net k bytes text)
 CanBeAnswered shelf (Gen seed size) = Unit {0}
 CanBeAnswered shelf (Protect name) = (net : Net) × HoldsNetwork (shelf.file name) net
+CanBeAnswered shelf (Bypass name) = (net : Net) × HoldsNetwork (shelf.file name) net
 CanBeAnswered shelf (Stack hex) = Unit {0}
 CanBeAnswered shelf (Audit auditing) = ForPolicies shelf auditing (λ net given policies. Unit {0})
 CanBeAnswered shelf (Draw name) = (net : Net) × HoldsNetwork (shelf.file name) net
@@ -129,6 +132,7 @@ IsStatus shelf (Ask asking wanted) status = (net : Net) × HoldsNetwork (shelf.f
 IsStatus shelf (Play name script k) status = status ≡ 0
 IsStatus shelf (Gen seed size) status = (status ≡ 0) ⊎ ForRing seed size (λ problem. EndsUndecided problem status)
 IsStatus shelf (Protect name) status = (status ≡ 0) ⊎ ((status ≡ 15) × ((bytes : List ℕ) × (shelf.file name ≡ Some bytes) × HasNoProtection bytes))
+IsStatus shelf (Bypass name) status = (status ≡ 0) ⊎ (status ≡ 1) ⊎ ((status ≡ 15) × ((bytes : List ℕ) × (shelf.file name ≡ Some bytes) × HasNoDraft bytes))
 IsStatus shelf (Stack hex) status = (status ≡ 0) ⊎ ((status ≡ 16) × ShowsNoStack hex)
 IsStatus shelf (Audit auditing) status = EndsAudited status
 IsStatus shelf (Draw name) status = status ≡ 0

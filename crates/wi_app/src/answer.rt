@@ -11,7 +11,7 @@ use crate::draw::draw;
 use crate::ring::summary_of_ring;
 use std::alloc::Global;
 use wi_base::{Shelf, Sink};
-use wi_files::{play, protect, stack};
+use wi_files::{bypass, play, protect, stack};
 use wi_outcome::{Printed, Refusal, print, say};
 use wi_words::Printing;
 
@@ -55,6 +55,7 @@ fn answer_to<'a, S: Shelf>(
         Printing::Play { network, script, k } => play(alloc, network, script, k, shelf),
         Printing::Gen { seed, size } => summary_of_ring(alloc, seed, size),
         Printing::Protect { plan } => protect(alloc, plan, shelf),
+        Printing::Bypass { plan } => bypass(alloc, plan, shelf),
         Printing::Stack { hex } => stack(alloc, hex),
         Printing::Draw { network } => draw(alloc, network, shelf),
     }

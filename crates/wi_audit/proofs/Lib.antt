@@ -1,4 +1,9 @@
 pub mod Known
-pub mod Rows
 pub mod Telling
 pub mod Putting
+pub mod Readings
+pub mod Trials
+pub mod Tries
+pub mod Zips
+pub mod Complaints
+pub mod Rows

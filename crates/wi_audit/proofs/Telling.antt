@@ -8,13 +8,13 @@ use Rattle.wi_query.specs.declared.query.Query.{Query}
 use Rattle.wi_build.specs.Problems.{Problem, problem_of}
 use Rattle.wi_policy.specs.declared.policy.Policy.{Policy}
 use Rattle.wi_policy.specs.Policies.{IsAsked}
-use Rattle.wi_audit.specs.declared.text.Audited.{Audited}
+use Rattle.wi_audit.specs.declared.series.Test.{Test}
 use Rattle.wi_audit.specs.Texts.{IsAudited}
 use Rattle.wi_audit.specs.private.Shows.{IsToldOf}
 
 -- what is told of the problem that a policy asks is told of the policy
-pub told_audited : (r : Result Audited NoMemory) (net : Net) (given : Bounds) (number : ℕ) (policy : Policy) (query : Query) (problem : Problem) → IsAsked net given (string_bytes policy.query) query → problem ≡ problem_of net query []
-    → IfOk r (λ a. IsToldOf problem number policy a.text a.fulfilment) → IfOk r (λ a. IsAudited net given number policy a.text a.fulfilment)
+pub told_audited : (r : Result Test NoMemory) (net : Net) (given : Bounds) (number : ℕ) (policy : Policy) (query : Query) (problem : Problem) → IsAsked net given (string_bytes policy.query) query → problem ≡ problem_of net query []
+    → IfOk r (IsToldOf problem number policy) → IfOk r (IsAudited net given number policy)
 told_audited (Err e) net given number policy query problem asked is told = tt
 told_audited (Ok a) net given number policy query problem asked is told = record {
   problem = problem;

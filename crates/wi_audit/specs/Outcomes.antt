@@ -1,5 +1,6 @@
 -- What becomes of a policy that is asked, and whether that is what it expects.
-use Rattle.std.specs.Prelude.{◌≡◌, Bool, true, false, if◌then◌else◌, [], length, string_bytes}
+use Rattle.std.specs.Prelude.{◌≡◌, Bool, true, false, if◌then◌else◌, List, [], length, string_bytes}
+use Rattle.std.specs.List.{list_any}
 use Rattle.wi_net.specs.declared.bounds.Bounds.{Bounds}
 use Rattle.wi_net.specs.Net.{Net}
 use Rattle.wi_world.specs.declared.answer.Word.{Word}
@@ -40,3 +41,19 @@ pub record IsAskedFor (net : Net) (given : Bounds) (policy : Policy) (problem : 
   pub is : problem ≡ problem_of net query []
   pub problem_is : IsProblem problem
   pub holds : IsOutcome problem outcome
+
+-- the answer isn't what is expected; or there is none
+abbrev pub is_unexpected : Fulfilment → Bool
+is_unexpected fulfilment.Unexpected = true
+is_unexpected f = false
+
+abbrev pub is_undecided : Fulfilment → Bool
+is_undecided fulfilment.Undecided = true
+is_undecided f = false
+
+-- the worst of some: an answer that isn't what is expected, else one that is missing
+abbrev pub worst : List Fulfilment → Fulfilment
+worst fulfilments =
+    if list_any is_unexpected fulfilments then fulfilment.Unexpected
+    else if list_any is_undecided fulfilments then fulfilment.Undecided
+    else fulfilment.AsExpected

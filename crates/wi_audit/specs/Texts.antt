@@ -9,6 +9,7 @@ use Rattle.wi_branch.specs.declared.refused.ExactRefused.TheVariants as refused
 use Rattle.wi_report.specs.RefusedDecisions.{nodes_over_limit_text, overflow_text, too_long_text}
 use Rattle.wi_report.specs.Reports.{exact_report_of, word_shown}
 use Rattle.wi_policy.specs.declared.policy.Policy.{Policy}
+use Rattle.wi_audit.specs.declared.series.Test.{Test}
 use Rattle.wi_audit.specs.declared.outcome.Outcome.{Outcome}
 use Rattle.wi_audit.specs.declared.outcome.Outcome.TheVariants.{Answered, Open}
 use Rattle.wi_audit.specs.declared.outcome.Fulfilment.{Fulfilment}
@@ -18,6 +19,10 @@ use Rattle.wi_audit.specs.Outcomes.{IsAskedFor, fulfilment_of}
 -- how many tests there are
 abbrev pub plan_text : ℕ → List ℕ
 plan_text n = codes "1.." ++ decimal n ++ codes "\n"
+
+-- a test line: whether the test is ok, its number, from 1, and what it is of
+abbrev pub test_line : List ℕ → ℕ → List ℕ → List ℕ
+test_line word number description = word ++ decimal number ++ codes " - " ++ description ++ codes "\n"
 
 -- readers differ on escapes, and words behind `#` would change what a line means
 abbrev pub safe_byte : ℕ → ℕ
@@ -50,22 +55,22 @@ abbrev pub diagnostics : Problem → Policy → Outcome → List ℕ
 diagnostics problem policy outcome =
     codes "# line " ++ decimal policy.line ++ codes ": " ++ word_shown policy.word ++ codes " is expected\n" ++ commented true (outcome_text problem outcome)
 
--- the test line of a policy with its number, from 1
-abbrev pub test_line : List ℕ → ℕ → Policy → List ℕ
-test_line word number policy = word ++ decimal number ++ codes " - " ++ called policy.line (string_bytes policy.name) ++ codes "\n"
+-- a policy's own test line
+abbrev pub policy_line : List ℕ → ℕ → Policy → List ℕ
+policy_line word number policy = test_line word number (called policy.line (string_bytes policy.name))
 
 -- the lines of a policy with its number, by whether it is as expected
 abbrev pub lines_by : Fulfilment → Problem → ℕ → Policy → Outcome → List ℕ
-lines_by fulfilment.AsExpected problem number policy outcome = test_line (codes "ok ") number policy
-lines_by _ problem number policy outcome = test_line (codes "not ok ") number policy ++ diagnostics problem policy outcome
+lines_by fulfilment.AsExpected problem number policy outcome = policy_line (codes "ok ") number policy
+lines_by _ problem number policy outcome = policy_line (codes "not ok ") number policy ++ diagnostics problem policy outcome
 
 abbrev pub policy_text : Problem → ℕ → Policy → Outcome → List ℕ
 policy_text problem number policy outcome = lines_by (fulfilment_of policy.word outcome) problem number policy outcome
 
--- a policy was asked, and these are its lines; whether it is as expected
-pub record IsAudited (net : Net) (given : Bounds) (number : ℕ) (policy : Policy) (text : List ℕ) (fulfilment : Fulfilment) : Type 0 where
+-- a policy was asked, and this is its test
+pub record IsAudited (net : Net) (given : Bounds) (number : ℕ) (policy : Policy) (test : Test) : Type 0 where
   pub problem : Problem
   pub outcome : Outcome
   pub asked : IsAskedFor net given policy problem outcome
-  pub text_is : text ≡ policy_text problem number policy outcome
-  pub fulfilment_is : fulfilment ≡ fulfilment_of policy.word outcome
+  pub text_is : test.text ≡ policy_text problem number policy outcome
+  pub fulfilment_is : test.fulfilment ≡ fulfilment_of policy.word outcome

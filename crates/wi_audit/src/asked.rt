@@ -9,7 +9,8 @@ ghost use Rattle.wi_audit.specs.Texts.{IsAudited, policy_text};
 ghost use Rattle.wi_audit.specs.private.Shows.{IsShowable, IsToldOf};
 
 use crate::outcome::{Outcome, fulfilment_of, outcome_of};
-use crate::text::{Audited, lines_by};
+use crate::series::Test;
+use crate::text::lines_by;
 use std::alloc::Global;
 use wi_base::NoMemory;
 use wi_build::Problem;
@@ -25,10 +26,10 @@ pub fn audited(
     given: &Bounds,
     number: usize,
     policy: &Policy,
-) -> Result<Audited, NoMemory>
+) -> Result<Test, NoMemory>
     requires bounds { AreBounds net.now given.now }
     requires askable { (query : Query) × IsAskable net.now given.now (string_bytes policy.now.query) query }
-    ensures { IfOk result (λ audited. IsAudited net.now given.now number policy.now audited.text audited.fulfilment) }
+    ensures { IfOk result (IsAudited net.now given.now number policy.now) }
 {
     let query = asked_by(alloc, net, given, policy)?;
     let vector = Vector::new(alloc);
@@ -43,8 +44,8 @@ fn audited_by(
     problem: &Problem<'_>,
     number: usize,
     policy: &Policy,
-) -> Result<Audited, NoMemory>
-    ensures { IfOk result (λ audited. IsToldOf problem.now number policy.now audited.text audited.fulfilment) }
+) -> Result<Test, NoMemory>
+    ensures { IfOk result (IsToldOf problem.now number policy.now) }
 {
     problem.keeps();
     let outcome = outcome_of(alloc, problem)?;
@@ -60,12 +61,12 @@ fn told_of(
     number: usize,
     policy: &Policy,
     outcome: &Outcome,
-) -> Result<Audited, NoMemory>
+) -> Result<Test, NoMemory>
     requires { IsShowable problem.now.net outcome.now }
-    ensures text { IfOk result (λ audited. audited.text ≡ policy_text problem.now number policy.now outcome.now) }
-    ensures fulfilment { IfOk result (λ audited. audited.fulfilment ≡ fulfilment_of policy.now.word outcome.now) }
+    ensures text { IfOk result (λ test. test.text ≡ policy_text problem.now number policy.now outcome.now) }
+    ensures fulfilment { IfOk result (λ test. test.fulfilment ≡ fulfilment_of policy.now.word outcome.now) }
 {
     let fulfilment = fulfilment_of(policy.word, outcome);
     let text = lines_by(alloc, fulfilment, problem, number, policy, outcome)?;
-    Ok(Audited { text, fulfilment })
+    Ok(Test { text, fulfilment })
 }

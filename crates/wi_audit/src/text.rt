@@ -1,8 +1,9 @@
 //! What is printed is what readers of the Test Anything Protocol, version 12, take: they know a test line by its first words, and
 //! whatever stands behind `#` is for people. Lines are put together in one list of bytes.
 ghost use Rattle.std.specs.Prelude.{◌≡◌, true, ◌∷◌, [], ◌++◌, map, codes, IfOk, OnOk};
+ghost use Rattle.std.specs.Fmt.{decimal};
 ghost use Rattle.wi_report.specs.Reports.{word_shown};
-ghost use Rattle.wi_audit.specs.Texts.{called, cause_text, commented, diagnostics, lines_by, outcome_text, plan_text, safe_byte, test_line};
+ghost use Rattle.wi_audit.specs.Texts.{called, cause_text, commented, diagnostics, lines_by, outcome_text, plan_text, policy_line, safe_byte};
 ghost use Rattle.wi_audit.specs.private.Shows.{IsShowable, mark};
 
 use crate::outcome::{Fulfilment, Outcome};
@@ -16,14 +17,7 @@ use wi_report::{exact_report, nodes_over_limit_text, overflow_text, too_long_tex
 use wi_text::Text;
 use wi_world::Word;
 
-/// The lines of a policy.
-#[derive(Drop)]
-pub struct Audited {
-    pub text: Text,
-    pub fulfilment: Fulfilment,
-}
-
-/// The first line of an audit of so many policies.
+/// The first line of so many tests.
 pub fn plan_text(alloc: Global, count: usize) -> Result<Text, NoMemory>
     ensures { IfOk result (λ text. text ≡ plan_text count) }
 {
@@ -56,10 +50,10 @@ pub(crate) fn lines_by(
 
 // The line of a policy that is as expected.
 fn ok_line(alloc: Global, number: usize, policy: &Policy) -> Result<Text, NoMemory>
-    ensures { IfOk result (λ text. text ≡ test_line (codes "ok ") number policy.now) }
+    ensures { IfOk result (λ text. text ≡ policy_line (codes "ok ") number policy.now) }
 {
     let mut line = Vec::new(alloc);
-    put_test_line("ok ", number, policy, &mut line)?;
+    put_policy_line("ok ", number, policy, &mut line)?;
     Ok(Text::of(line))
 }
 
@@ -72,28 +66,35 @@ fn not_ok_lines(
     outcome: &Outcome,
 ) -> Result<Text, NoMemory>
     requires { IsShowable problem.now.net outcome.now }
-    ensures { IfOk result (λ text. text ≡ test_line (codes "not ok ") number policy.now ++ diagnostics problem.now policy.now outcome.now) }
+    ensures { IfOk result (λ text. text ≡ policy_line (codes "not ok ") number policy.now ++ diagnostics problem.now policy.now outcome.now) }
 {
     let mut lines = Vec::new(alloc);
-    put_test_line("not ok ", number, policy, &mut lines)?;
+    put_policy_line("not ok ", number, policy, &mut lines)?;
     put_diagnostics(alloc, problem, policy, outcome, &mut lines)?;
     Ok(Text::of(lines))
 }
 
-// Adds a test line that begins so.
-fn put_test_line(
+// Adds a policy's own test line, which begins so.
+fn put_policy_line(
     word: &str,
     number: usize,
     policy: &Policy,
     to: &mut Vec<u8>,
 ) -> Result<(), NoMemory>
-    ensures { OnOk result (to.new.items ≡ to.old.items ++ test_line word.now number policy.now) }
+    ensures { OnOk result (to.new.items ≡ to.old.items ++ policy_line word.now number policy.now) }
+{
+    put_number(word, number, to)?;
+    put_called(policy.line, &policy.name, to)?;
+    put("\n", to)
+}
+
+/// Adds the words before a test's description.
+pub(crate) fn put_number(word: &str, number: usize, to: &mut Vec<u8>) -> Result<(), NoMemory>
+    ensures { OnOk result (to.new.items ≡ to.old.items ++ (word.now ++ decimal number ++ codes " - ")) }
 {
     put(word, to)?;
     write_decimal(number as u128, to)?;
-    put(" - ", to)?;
-    put_called(policy.line, &policy.name, to)?;
-    put("\n", to)
+    put(" - ", to)
 }
 
 // Adds what a policy is called, or where it stands.
@@ -108,8 +109,8 @@ fn put_called(line: usize, name: &str, to: &mut Vec<u8>) -> Result<(), NoMemory>
     }
 }
 
-// Adds the bytes of a name, with `_` for those that a reader may take for more.
-fn put_safe(name: &[u8], to: &mut Vec<u8>) -> Result<(), NoMemory>
+/// Adds the bytes of a name, with `_` for those that a reader may take for more.
+pub(crate) fn put_safe(name: &[u8], to: &mut Vec<u8>) -> Result<(), NoMemory>
     ensures { OnOk result (to.new.items ≡ to.old.items ++ map safe_byte name.now) }
 {
     for byte in name {
@@ -170,14 +171,16 @@ fn put_behind(begins: bool, byte: u8, to: &mut Vec<u8>) -> Result<(), NoMemory>
     Ok(())
 }
 
-fn put(piece: &str, to: &mut Vec<u8>) -> Result<(), NoMemory>
+/// Adds a piece.
+pub(crate) fn put(piece: &str, to: &mut Vec<u8>) -> Result<(), NoMemory>
     ensures { OnOk result (to.new.items ≡ to.old.items ++ piece.now) }
 {
     to.extend_from_slice(piece.as_bytes())?;
     Ok(())
 }
 
-fn word_text(word: Word) -> &'static str
+/// The word of an answer.
+pub(crate) fn word_text(word: Word) -> &'static str
     ensures { result.now ≡ word_shown word }
 {
     match word {

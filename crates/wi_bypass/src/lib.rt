@@ -6,6 +6,8 @@ mod inner;
 mod laws;
 mod marks;
 mod missing;
+mod whole;
 
 pub use laws::a_plan_without_unprotected_links_survives;
 pub use missing::{Found, bypasses};
+pub use whole::with_found;

@@ -7,7 +7,7 @@ use std::alloc::Global;
 use std::process::Abort;
 use std::str::from_utf8;
 use std::test::Fail;
-use wi_audit::{Audited, Fulfilment, audited, plan_text};
+use wi_audit::{Fulfilment, Test, audited, plan_text};
 use wi_net::{Bounds, Network};
 use wi_policy::{Policy, read_policies};
 use wi_query::read_given;
@@ -18,7 +18,7 @@ type Case<'a> = (&'a str, &'a [u8], Fulfilment, &'a str);
 
 fn is_told(
     rt: &impl Abort,
-    audited: &Audited,
+    audited: &Test,
     fulfilment: Fulfilment,
     text: &str,
 ) -> Result<(), Fail> {

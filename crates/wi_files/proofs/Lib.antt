@@ -5,3 +5,4 @@ mod Playing
 mod Listing
 pub mod Giving
 mod HexLemmas
+pub mod Bypassing

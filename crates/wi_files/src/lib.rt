@@ -2,6 +2,7 @@
 //! limits, or refused.
 #![tactic(auto)]
 
+mod bypass_file;
 mod certificate_file;
 mod fetch;
 mod hex_text;
@@ -13,6 +14,7 @@ mod texts;
 mod tree_file;
 mod trees_file;
 
+pub use bypass_file::bypass;
 pub use certificate_file::{fetch_certificate, store_certificate};
 pub use fetch::network;
 pub use hex_text::stack;

@@ -26,7 +26,7 @@ pub const NODE_LIMIT: u32 = 10_000;
 
 // What is said where the words are no command.
 const USAGE: &[u8] =
-    b"usage: whatif verify NETWORK QUERY [--weights W] [--certificate FILE]\n       whatif check NETWORK QUERY CERTIFICATE [--weights W]\n       whatif play NETWORK SCRIPT K\n       whatif gen SEED SIZE\n       whatif exact NETWORK QUERY [--weights W] [--certificate FILE]\n       whatif check-exact NETWORK QUERY CERTIFICATE [--weights W]\n       whatif tolerate NETWORK QUERY LIMIT [--weights W] [--certificate FILE]\n       whatif protect PLAN\n       whatif packets NETWORK QUERY [--weights W]\n       whatif stack HEX\n       whatif audit NETWORK POLICIES [--given TEXT]\n       whatif draw NETWORK [QUERY [--weights W]]\n";
+    b"usage: whatif verify NETWORK QUERY [--weights W] [--certificate FILE]\n       whatif check NETWORK QUERY CERTIFICATE [--weights W]\n       whatif play NETWORK SCRIPT K\n       whatif gen SEED SIZE\n       whatif exact NETWORK QUERY [--weights W] [--certificate FILE]\n       whatif check-exact NETWORK QUERY CERTIFICATE [--weights W]\n       whatif tolerate NETWORK QUERY LIMIT [--weights W] [--certificate FILE]\n       whatif protect PLAN\n       whatif packets NETWORK QUERY [--weights W]\n       whatif stack HEX\n       whatif audit NETWORK POLICIES [--given TEXT]\n       whatif outages NETWORK POLICIES [--given TEXT] [--routers]\n       whatif bypass PLAN\n       whatif draw NETWORK [QUERY [--weights W]]\n";
 
 // What is said where memory ran out.
 const NO_MEMORY: &[u8] = b"whatif: out of memory\n";

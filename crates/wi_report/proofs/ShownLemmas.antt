@@ -7,7 +7,7 @@ use Rattle.wi_net.specs.Net.{Net, is_link}
 use Rattle.wi_net.proofs.KeptLists.{all_get}
 use Rattle.wi_net.specs.declared.parts.LinkId.{LinkId}
 use Rattle.wi_world.specs.declared.world.State.{State}
-use Rattle.wi_report.specs.Shown.{label_shown, header_shown, link_shown, links_shown, more_links}
+use Rattle.wi_report.specs.Shown.{label_shown, header_shown, link_shown, links_shown, more_links, source_shown, sources_shown}
 use Rattle.wi_report.specs.States.{state_shown, states_shown}
 use Rattle.std.proofs.lemmas.List.{drop_more}
 use Rattle.std.proofs.lemmas.Option.{slice_get_past}
@@ -28,6 +28,14 @@ links_left net s i e text whole mid new is all space put =
     let later : List ℕ = more_links net (drop (i + 1) s) in
     let here : text ++ more_links net (e ∷ drop (i + 1) s) ≡ whole = rw (drop_at s i e is) at all in
     rw (put, space, append_assoc text (codes " ") (link_shown net e), append_assoc text (codes " " ++ link_shown net e) later) here
+
+-- the interface that a link leaves by is shown, and those after it are left
+pub sources_left : (net : Net) (s : List LinkId) (i : ℕ) (e : LinkId) (text whole mid new : List ℕ) → slice_get s i ≡ Some e → text ++ sources_shown net (drop i s) ≡ whole
+    → mid ≡ text ++ source_shown net e → new ≡ mid ++ codes " " → new ++ sources_shown net (drop (i + 1) s) ≡ whole
+sources_left net s i e text whole mid new is all put space =
+    let later : List ℕ = sources_shown net (drop (i + 1) s) in
+    let here : text ++ sources_shown net (e ∷ drop (i + 1) s) ≡ whole = rw (drop_at s i e is) at all in
+    rw (space, put, append_assoc text (source_shown net e) (codes " "), append_assoc text (source_shown net e ++ codes " ") later) here
 
 -- the first link of a set is shown, and the others behind it
 pub first_shown : {E : Type 0} (r : Result (Unit {0}) E) (net : Net) (s : List LinkId) (e : LinkId) (text mid new : List ℕ) → slice_get s 0 ≡ Some e → mid ≡ text ++ link_shown net e → OnOk r (new ≡ mid ++ more_links net (drop 1 s)) → OnOk r (new ≡ text ++ links_shown net s)

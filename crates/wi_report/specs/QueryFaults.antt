@@ -34,9 +34,14 @@ abbrev pub strict_fault_words : Net → StrictFault → List ℕ
 strict_fault_words net (InQuery fault) = query_fault_words net fault
 strict_fault_words net (NoLink byte) = byte_words byte (codes "no link")
 
--- what is said of it, and of what is wrong with given links
+-- what the words are said of: want of memory is no fault of the query
+abbrev pub query_fault_front : QueryFault → List ℕ
+query_fault_front Memory = codes "whatif: "
+query_fault_front fault = codes "query: "
+
+-- what is said of a query's fault, and of one of given links
 abbrev pub query_fault_text : Net → QueryFault → List ℕ
-query_fault_text net fault = codes "query: " ++ query_fault_words net fault ++ codes "\n"
+query_fault_text net fault = query_fault_front fault ++ query_fault_words net fault ++ codes "\n"
 
 abbrev pub given_fault_text : Net → StrictFault → List ℕ
 given_fault_text net fault = codes "given: " ++ strict_fault_words net fault ++ codes "\n"

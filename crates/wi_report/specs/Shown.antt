@@ -5,6 +5,8 @@ use Rattle.std.specs.Str.{bytes_eq}
 use Rattle.wi_labels.specs.declared.label.Label.{Label}
 use Rattle.wi_labels.specs.Header.{Entry}
 use Rattle.wi_net.specs.declared.parts.LinkId.{LinkId}
+use Rattle.wi_net.specs.declared.parts.NameId.{NameId}
+use Rattle.wi_net.specs.declared.parts.RouterId.{RouterId}
 use Rattle.wi_net.specs.Net.{Net}
 use Rattle.wi_world.specs.Moves.{Location}
 use Rattle.wi_text.specs.Names.{quoted, shown}
@@ -20,12 +22,25 @@ label_name_shown name = if is_class_word name then quoted name else shown name
 abbrev pub label_shown : Net → Label → List ℕ
 label_shown net l = label_name_shown (slice_index_or net.labels l.0 [])
 
+-- a router, and an interface of it as `A.i`
+abbrev pub router_shown : Net → RouterId → List ℕ
+router_shown net router = shown (slice_index_or net.routers router.0 [])
+
+abbrev pub end_shown : Net → RouterId → NameId → List ℕ
+end_shown net router interface = router_shown net router ++ codes "." ++ shown (slice_index_or net.interfaces interface.0 [])
+
 -- a link as `A.i#B.j`
 abbrev pub link_shown : Net → LinkId → List ℕ
-link_shown net e =
-    option_map_or (λ l.
-    shown (slice_index_or net.routers l.from.0 []) ++ codes "." ++ shown (slice_index_or net.interfaces l.out_if.0 [])
-    ++ codes "#" ++ shown (slice_index_or net.routers l.to.0 []) ++ codes "." ++ shown (slice_index_or net.interfaces l.in_if.0 [])) (slice_get net.links e.0) []
+link_shown net e = option_map_or (λ l. end_shown net l.from l.out_if ++ codes "#" ++ end_shown net l.to l.in_if) (slice_get net.links e.0) []
+
+-- the interface that a link leaves by
+abbrev pub source_shown : Net → LinkId → List ℕ
+source_shown net e = option_map_or (λ l. end_shown net l.from l.out_if) (slice_get net.links e.0) []
+
+-- those of links, each with a space behind it
+abbrev pub sources_shown : Net → List LinkId → List ℕ
+sources_shown net [] = []
+sources_shown net (e ∷ es) = source_shown net e ++ codes " " ++ sources_shown net es
 
 -- links with spaces between, or `none`
 abbrev pub more_links : Net → List LinkId → List ℕ

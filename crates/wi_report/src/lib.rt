@@ -26,7 +26,7 @@ pub use query_faults::{given_fault_text, query_fault_text};
 pub use refused_decisions::{nodes_over_limit_text, overflow_text, too_long_text};
 pub use reports::{accepted_text, exact_report, put_end, put_heading, report};
 pub use script_faults::script_fault_text;
-pub use shown::{put_header, put_known};
+pub use shown::{put_header, put_known, put_router, put_sources};
 pub use stacks::{stack_refused_text, stack_text};
 pub use state_lines::states;
 pub use summaries::summary;

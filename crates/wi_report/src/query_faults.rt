@@ -4,7 +4,7 @@ ghost use Rattle.std.specs.Prelude.{◌≡◌, ◌++◌, codes, IfOk, OnOk};
 ghost use Rattle.std.specs.Fmt.{decimal};
 ghost use Rattle.wi_text.specs.Names.{shown};
 ghost use Rattle.wi_report.specs.Shown.{label_name_shown, link_shown};
-ghost use Rattle.wi_report.specs.QueryFaults.{byte_words, down_and_up_words, given_fault_text, query_fault_text, query_fault_words, strict_fault_words};
+ghost use Rattle.wi_report.specs.QueryFaults.{byte_words, down_and_up_words, given_fault_text, query_fault_front, query_fault_text, query_fault_words, strict_fault_words};
 
 use crate::shown::{put_counted, put_known, put_label_name};
 use std::alloc::Global;
@@ -18,10 +18,20 @@ pub fn query_fault_text(alloc: Global, net: &Network, fault: &QueryFault) -> Res
     ensures { IfOk result (λ text. text ≡ query_fault_text net.now fault.now) }
 {
     let mut text = Text::new(alloc);
-    text.put("query: ")?;
+    text.put(front(fault))?;
     put_query_fault(net, fault, &mut text)?;
     text.put("\n")?;
     Ok(text)
+}
+
+// What the words are said of: want of memory is no fault of the query.
+fn front(fault: &QueryFault) -> &'static str
+    ensures { result.now ≡ query_fault_front fault.now }
+{
+    match fault {
+        QueryFault::Memory => "whatif: ",
+        _ => "query: ",
+    }
 }
 
 /// What is said of a fault of links that are given. Bytes count from 0.

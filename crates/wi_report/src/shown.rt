@@ -6,12 +6,13 @@ ghost use Rattle.std.specs.List.{list_all};
 ghost use Rattle.std.specs.Fmt.{decimal};
 ghost use Rattle.wi_net.specs.Net.{is_link, labels_known};
 ghost use Rattle.wi_text.specs.Names.{shown};
-ghost use Rattle.wi_report.specs.Shown.{is_class_word, label_name_shown, label_shown, link_shown, links_shown, more_links, header_shown, place_shown};
+ghost use Rattle.wi_report.specs.Shown.{is_class_word, label_name_shown, label_shown, link_shown, links_shown, more_links, header_shown, place_shown, end_shown, router_shown, source_shown, sources_shown};
 
 use wi_base::NoMemory;
 use wi_labels::{Header, Label};
 use wi_net::{FailSet, LinkId, NameId, Network, RouterId};
 use wi_text::Text;
+use wi_trace::nth;
 
 /// Adds a number in decimal between two pieces.
 pub(crate) fn put_counted(
@@ -109,6 +110,27 @@ fn put_link(net: &Network, link: LinkId, text: &mut Text) -> Result<(), NoMemory
     put_end(net, link.to, link.in_if, text)
 }
 
+/// Adds for each link the interface that it leaves by, as `A.i`, and a space.
+pub fn put_sources(net: &Network, links: &FailSet, text: &mut Text) -> Result<(), NoMemory>
+    requires { list_all (is_link net.now) links.now ≡ true }
+    ensures { OnOk result (text.new ≡ text.old ++ sources_shown net.now links.now) }
+{
+    for i in 0..links.len() {
+        put_source(net, nth(links, i), text)?;
+        text.put(" ")?;
+    }
+    Ok(())
+}
+
+// Adds the interface that a link leaves by.
+fn put_source(net: &Network, link: LinkId, text: &mut Text) -> Result<(), NoMemory>
+    requires { is_link net.now link ≡ true }
+    ensures { OnOk result (text.new ≡ text.old ++ source_shown net.now link) }
+{
+    let link = *net.link(link);
+    put_end(net, link.from, link.out_if, text)
+}
+
 // An interface of a router as `A.i`.
 fn put_end(
     net: &Network,
@@ -118,17 +140,18 @@ fn put_end(
 ) -> Result<(), NoMemory>
     requires router { router.0 < length net.now.routers }
     requires interface { interface.0 < length net.now.interfaces }
-    ensures { OnOk result (text.new ≡ text.old ++ (shown (slice_index_or net.now.routers router.0 []) ++ codes "." ++ shown (slice_index_or net.now.interfaces interface.0 []))) }
+    ensures { OnOk result (text.new ≡ text.old ++ end_shown net.now router interface) }
 {
     put_router(net, router, text)?;
     text.put(".")?;
     put_interface(net, interface, text)
 }
 
+/// Adds the name of a router.
 #[tactic(auto, using(std::proofs::lemmas::Option::get_or_from_slice_get))]
-fn put_router(net: &Network, router: RouterId, text: &mut Text) -> Result<(), NoMemory>
+pub fn put_router(net: &Network, router: RouterId, text: &mut Text) -> Result<(), NoMemory>
     requires { router.0 < length net.now.routers }
-    ensures { OnOk result (text.new ≡ text.old ++ shown (slice_index_or net.now.routers router.0 [])) }
+    ensures { OnOk result (text.new ≡ text.old ++ router_shown net.now router) }
 {
     text.put_name(net.router_name(router))
 }

@@ -7,8 +7,8 @@ use std::process::Abort;
 use std::test::Fail;
 use wi_base::{FailingPut, MemoryShelf};
 
-// A shelf with a network under `n`, and policies under `p`.
-fn shelf_of(alloc: Global, network: &str, policies: &[u8]) -> Result<MemoryShelf, Fail> {
+/// A shelf with a network under `n`, and policies under `p`.
+pub fn shelf_of(alloc: Global, network: &str, policies: &[u8]) -> Result<MemoryShelf, Fail> {
     let mut shelf = shelf_with(alloc, network.as_bytes())?;
     match shelf.insert("p", policies) {
         Ok(()) => Ok(shelf),
@@ -68,7 +68,8 @@ fn cases_are(rt: &impl Abort, alloc: Global, network: &str, cases: &[Case]) -> R
     Ok(())
 }
 
-const OF_THE_GUIDE: &[u8] = b"# customer A
+/// The policies of the guide.
+pub const OF_THE_GUIDE: &[u8] = b"# customer A
 yes A arrives                 <vpn_a> [ce1#pe1] .* [pe2#ce2] <vpn_a> 0
 no  A is never lost           <vpn_a> [ce1#pe1] [^ .#ce2]* drop 0
 no  customers see no labels   <.*> [ce1#.] .* [.#ce2] <mpls* smpls ip> 2

@@ -4,8 +4,13 @@ use crate::called::{begins, weighed};
 use std::alloc::{AllocError, Global};
 use std::test::Fail;
 
-// The file of the network with the labels `d0` to `dn`.
+/// The file of the network with the labels `d0` to `dn`.
 pub fn doubles(alloc: Global, n: usize) -> Result<String, AllocError> {
+    doubles_beside(alloc, n, "")
+}
+
+/// The same, where these links stand behind the one that is used, each after a comma.
+pub fn doubles_beside(alloc: Global, n: usize, links: &str) -> Result<String, AllocError> {
     let mut text = String::from_str(
         alloc,
         r#"{"format":"mpls-whatif-1","routers":["r"],"labels":{"smpls":["s1"],"ip":["ip1"],"mpls":["d0""#,
@@ -14,8 +19,10 @@ pub fn doubles(alloc: Global, n: usize) -> Result<String, AllocError> {
         let i = below + 1;
         text.push_str(&format!(in alloc; ",\"d{i}\"")?)?;
     }
+    text.push_str(r#"]},"links":[{"from":"r","out":"o","to":"r","in":"i","distance":1}"#)?;
+    text.push_str(links)?;
     text.push_str(
-        r#"]},"links":[{"from":"r","out":"o","to":"r","in":"i","distance":1}],"tables":[{"at":"r","in":"i","label":"d0","groups":[[{"out":"o","ops":[["pop"]]}]]}"#,
+        r#"],"tables":[{"at":"r","in":"i","label":"d0","groups":[[{"out":"o","ops":[["pop"]]}]]}"#,
     )?;
     for below in 0..n {
         let i = below + 1;

@@ -212,7 +212,7 @@ fn places_of_faults(rt: HostRuntime) -> Result<(), Fail> {
 
 // What is said of words that are no command.
 const USAGE: &str =
-    "9<><usage: whatif verify NETWORK QUERY [--weights W] [--certificate FILE]\n       whatif check NETWORK QUERY CERTIFICATE [--weights W]\n       whatif play NETWORK SCRIPT K\n       whatif gen SEED SIZE\n       whatif exact NETWORK QUERY [--weights W] [--certificate FILE]\n       whatif check-exact NETWORK QUERY CERTIFICATE [--weights W]\n       whatif tolerate NETWORK QUERY LIMIT [--weights W] [--certificate FILE]\n       whatif protect PLAN\n       whatif packets NETWORK QUERY [--weights W]\n       whatif stack HEX\n       whatif audit NETWORK POLICIES [--given TEXT]\n       whatif draw NETWORK [QUERY [--weights W]]\n>";
+    "9<><usage: whatif verify NETWORK QUERY [--weights W] [--certificate FILE]\n       whatif check NETWORK QUERY CERTIFICATE [--weights W]\n       whatif play NETWORK SCRIPT K\n       whatif gen SEED SIZE\n       whatif exact NETWORK QUERY [--weights W] [--certificate FILE]\n       whatif check-exact NETWORK QUERY CERTIFICATE [--weights W]\n       whatif tolerate NETWORK QUERY LIMIT [--weights W] [--certificate FILE]\n       whatif protect PLAN\n       whatif packets NETWORK QUERY [--weights W]\n       whatif stack HEX\n       whatif audit NETWORK POLICIES [--given TEXT]\n       whatif outages NETWORK POLICIES [--given TEXT] [--routers]\n       whatif bypass PLAN\n       whatif draw NETWORK [QUERY [--weights W]]\n>";
 
 const NO_COMMANDS: &[&[&str]] = &[
     &[],

@@ -8,6 +8,8 @@ mod answers;
 #[cfg(test)]
 mod audits;
 #[cfg(test)]
+mod bypasses;
+#[cfg(test)]
 mod called;
 #[cfg(test)]
 mod certificates;
@@ -23,6 +25,8 @@ mod edges;
 mod exact;
 #[cfg(test)]
 mod faults;
+#[cfg(test)]
+mod outages;
 #[cfg(test)]
 mod packets;
 #[cfg(test)]

@@ -5,19 +5,20 @@ use std::process::Abort;
 use std::test::Fail;
 use wi_base::MemoryShelf;
 
-// Routers and links as in the first network, with a second link from a to b, and one back; no tables.
-const PLAIN: &str =
+/// Routers and links as in the first network, with a second link from a to b, and one back; no tables.
+pub const PLAIN: &str =
     r#"{"format":"mpls-whatif-1","routers":["x","a","b","c","y"],"labels":{"mpls":[],"smpls":[],"ip":["ip1","ip2"]},"links":[{"from":"x","out":"o","to":"a","in":"x","distance":1},{"from":"a","out":"b","to":"b","in":"a","distance":1},{"from":"a","out":"c","to":"c","in":"a","distance":2},{"from":"c","out":"b","to":"b","in":"c","distance":2},{"from":"b","out":"y","to":"y","in":"b","distance":1},{"from":"a","out":"d","to":"b","in":"d","distance":1},{"from":"b","out":"a","to":"a","in":"b","distance":1}],"tables":[]}"#;
 
-// The first network's routers and links, and no tables.
-const BARE: &str =
+/// The first network's routers and links, and no tables.
+pub const BARE: &str =
     r#"{"format":"mpls-whatif-1","routers":["x","a","b","c","y"],"labels":{"mpls":[],"smpls":[],"ip":["ip1"]},"links":[{"from":"x","out":"o","to":"a","in":"x","distance":1},{"from":"a","out":"b","to":"b","in":"a","distance":1},{"from":"a","out":"c","to":"c","in":"a","distance":2},{"from":"c","out":"b","to":"b","in":"c","distance":2},{"from":"b","out":"y","to":"y","in":"b","distance":1}],"tables":[]}"#;
 
 const AROUND: &str =
     r#""paths":[{"ip":"ip1","links":[["x","o"],["a","b"],["b","y"]]}],"bypasses":[{"link":["a","b"],"via":[["a","c"],["c","b"]]}]"#;
 
-// Labels 0, 1 and 2 are b1.1, p1.1 and ip1; the tables are those of links 0, 1, 3 and 2, in this order.
-const PROTECTED: &str =
+/// The network of the bare one's path from x to y with a bypass by c. Labels 0, 1 and 2 are b1.1, p1.1 and ip1; the tables are those of
+/// links 0, 1, 3 and 2, in this order.
+pub const PROTECTED: &str =
     r#"{"format":"mpls-whatif-1","labels":{"ip":["ip1"],"mpls":["b1.1"],"smpls":["p1.1"]},"links":[{"distance":1,"from":"x","in":"x","out":"o","to":"a"},{"distance":1,"from":"a","in":"a","out":"b","to":"b"},{"distance":2,"from":"a","in":"a","out":"c","to":"c"},{"distance":2,"from":"c","in":"c","out":"b","to":"b"},{"distance":1,"from":"b","in":"b","out":"y","to":"y"}],"routers":["x","a","b","c","y"],"tables":[{"at":"a","groups":[[{"ops":[["push","p1.1"]],"out":"b"}],[{"ops":[["push","p1.1"],["push","b1.1"]],"out":"c"}]],"in":"x","label":"ip1"},{"at":"b","groups":[[{"ops":[["pop"]],"out":"y"}]],"in":"a","label":"p1.1"},{"at":"b","groups":[[{"ops":[["pop"]],"out":"y"}]],"in":"c","label":"p1.1"},{"at":"c","groups":[[{"ops":[["pop"]],"out":"b"}]],"in":"a","label":"b1.1"}]}"#;
 
 // A path that passes a twice, and a bypass of one link, which is a link of the same path.
@@ -148,8 +149,8 @@ const REFUSED: &[(&str, &str, &str)] = &[
     ),
 ];
 
-// A text of a network with these members besides.
-fn with_members(alloc: Global, network: &str, members: &str) -> Result<String, AllocError> {
+/// A text of a network with these members besides.
+pub fn with_members(alloc: Global, network: &str, members: &str) -> Result<String, AllocError> {
     let front = network.strip_suffix("}").unwrap_or(network);
     if members.is_empty() {
         return String::from_str(alloc, network);
@@ -157,8 +158,8 @@ fn with_members(alloc: Global, network: &str, members: &str) -> Result<String, A
     format!(in alloc; "{front},{members}}}")
 }
 
-// What `protect` ends with for a file.
-fn protected(alloc: Global, file: &str) -> Result<String, Fail> {
+/// What `protect` ends with for a file.
+pub fn protected(alloc: Global, file: &str) -> Result<String, Fail> {
     let mut shelf = shelf_with(alloc, file.as_bytes())?;
     let said = ran(alloc, &["whatif", "protect", "n"], &mut shelf);
     drop(shelf);

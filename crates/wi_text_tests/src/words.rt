@@ -2,7 +2,7 @@
 use std::alloc::Global;
 use std::process::Abort;
 use std::test::Fail;
-use wi_words::{Command, Content, Printing, Wanted, command_of};
+use wi_words::{Command, Content, Printing, Tested, Wanted, command_of};
 
 fn words_of(alloc: Global, text: &str) -> Result<Vec<String>, Fail> {
     let mut words = Vec::new(alloc);
@@ -178,22 +178,42 @@ fn is_protect(rt: &impl Abort, alloc: Global, text: &str, plan: &str) -> Result<
     Ok(())
 }
 
+fn is_bypass(rt: &impl Abort, alloc: Global, text: &str, plan: &str) -> Result<(), Fail> {
+    let words = words_of(alloc, text)?;
+    match command_of(alloc, words.as_slice())? {
+        Some(Command::Print(Printing::Bypass { plan: p })) => assert!(rt; p == plan, "{text}"),
+        _ => assert!(rt; false, "{text}"),
+    }
+    Ok(())
+}
+
+// How the tables write what each test line is about.
+fn name_of(tested: Tested) -> &'static str {
+    match tested {
+        Tested::Policies => "policies",
+        Tested::RiskGroups => "risk groups",
+        Tested::Routers => "routers",
+    }
+}
+
 fn is_audit(
     rt: &impl Abort,
     alloc: Global,
     text: &str,
-    network: &str,
-    policies: &str,
-    given: &str,
+    (policies, given): (&str, &str),
+    tested: &str,
 ) -> Result<(), Fail> {
     let words = words_of(alloc, text)?;
     match command_of(alloc, words.as_slice())? {
         Some(Command::Audit(auditing)) => {
             assert!(rt;
-                auditing.network == network && auditing.policies == policies,
+                auditing.network == "n" && auditing.policies == policies,
                 "{text}"
             );
-            assert!(rt; auditing.given == given, "{text}");
+            assert!(rt;
+                auditing.given == given && name_of(auditing.tested) == tested,
+                "{text}"
+            );
         }
         _ => assert!(rt; false, "{text}"),
     }
@@ -411,6 +431,21 @@ fn words_of_protect_are_found(rt: HostRuntime) -> Result<(), Fail> {
     Ok(())
 }
 
+// Words with the file of `bypass`.
+const BYPASSES: &[(&str, &str)] = &[
+    ("whatif|bypass|n", "n"),
+    ("whatif|bypass|", ""),
+    ("whatif|bypass|--|-n", "-n"),
+];
+
+#[test]
+fn words_of_bypass_are_found(rt: HostRuntime) -> Result<(), Fail> {
+    for (text, plan) in BYPASSES {
+        is_bypass(&rt, rt.alloc(), text, plan)?;
+    }
+    Ok(())
+}
+
 // Words with the files of `audit`, and the text of what is given, which is empty where there is none.
 const AUDITS: &[(&str, &str, &str)] = &[
     ("whatif|audit|n|p", "p", ""),
@@ -425,7 +460,62 @@ const AUDITS: &[(&str, &str, &str)] = &[
 #[test]
 fn words_of_audit_are_found(rt: HostRuntime) -> Result<(), Fail> {
     for (text, policies, given) in AUDITS {
-        is_audit(&rt, rt.alloc(), text, "n", policies, given)?;
+        is_audit(&rt, rt.alloc(), text, (policies, given), "policies")?;
+    }
+    Ok(())
+}
+
+// Words with the file of policies of `outages`, the text of what is given, and what goes out in turn.
+const OUTAGES: &[(&str, &str, &str, &str)] = &[
+    ("whatif|outages|n|p", "p", "", "risk groups"),
+    ("whatif|outages|n|p|--given|x", "p", "x", "risk groups"),
+    ("whatif|outages|n|p|--given=", "p", "", "risk groups"),
+    ("whatif|outages|n|p|--routers", "p", "", "routers"),
+    ("whatif|outages|n|--routers|p", "p", "", "routers"),
+    ("whatif|outages|--routers|n|p", "p", "", "routers"),
+    (
+        "whatif|outages|n|p|--given|x|--routers",
+        "p",
+        "x",
+        "routers",
+    ),
+    (
+        "whatif|outages|n|p|--routers|--given|x",
+        "p",
+        "x",
+        "routers",
+    ),
+    (
+        "whatif|outages|--given=x|--routers|n|p",
+        "p",
+        "x",
+        "routers",
+    ),
+    (
+        "whatif|outages|--routers|--given|x|n|p",
+        "p",
+        "x",
+        "routers",
+    ),
+    // A text that reads like the flag's own is no flag, and neither is a word behind `--`.
+    (
+        "whatif|outages|n|p|--given|true",
+        "p",
+        "true",
+        "risk groups",
+    ),
+    (
+        "whatif|outages|n|--|--routers",
+        "--routers",
+        "",
+        "risk groups",
+    ),
+];
+
+#[test]
+fn words_of_outages_are_found(rt: HostRuntime) -> Result<(), Fail> {
+    for (text, policies, given, tested) in OUTAGES {
+        is_audit(&rt, rt.alloc(), text, (policies, given), tested)?;
     }
     Ok(())
 }
@@ -448,6 +538,8 @@ const NO_COMMANDS: &[&str] = &[
     "whatif|Protect|n",
     "whatif|drawing|n",
     "whatif|audits|n|p",
+    "whatif|outage|n|p",
+    "whatif|Bypass|n",
     // Help.
     "whatif|--help",
     "whatif|-h",
@@ -475,10 +567,16 @@ const NO_COMMANDS: &[&str] = &[
     "whatif|draw|n|q|x",
     "whatif|audit|n",
     "whatif|audit|n|p|q",
+    "whatif|outages|n",
+    "whatif|outages|n|--routers",
+    "whatif|outages|n|p|q",
+    "whatif|outages|--routers|n|p|q",
     "whatif|stack",
     "whatif|stack|00|00",
     "whatif|protect",
     "whatif|protect|n|n",
+    "whatif|bypass",
+    "whatif|bypass|n|n",
     // No number from 0 to 65,535.
     "whatif|play|n|s|",
     "whatif|play|n|s|65536",
@@ -533,6 +631,19 @@ const NO_COMMANDS: &[&str] = &[
     "whatif|verify|n|q|--given|a",
     "whatif|stack|00|--weights|a",
     "whatif|protect|n|--weights|a",
+    "whatif|bypass|n|--weights|a",
+    "whatif|outages|n|p|--given",
+    "whatif|outages|n|p|--given|a|--given|b",
+    "whatif|outages|n|p|--weights|a",
+    // A flag with a value, one given twice, one for a value, one cut short, and one of another command.
+    "whatif|outages|n|p|--routers=1",
+    "whatif|outages|n|p|--routers=true",
+    "whatif|outages|n|p|--routers=",
+    "whatif|outages|n|p|--routers|--routers",
+    "whatif|outages|n|p|--given|--routers",
+    "whatif|outages|n|p|--router",
+    "whatif|audit|n|p|--routers",
+    "whatif|bypass|n|--routers",
     "whatif|stack|-1",
     "whatif|verify|n|q|--=W",
     "whatif|verify|-n|q",

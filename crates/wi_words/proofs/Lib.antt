@@ -2,3 +2,5 @@ pub mod Parsed
 pub mod Numbers
 pub mod Building
 pub mod Names
+pub mod Entered
+pub mod Rows

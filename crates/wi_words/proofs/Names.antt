@@ -16,6 +16,6 @@ not_wanted name rows verify check exact check_exact tolerate packets draw =
     rw (differs name _ verify, differs name _ check, differs name _ exact, differs name _ check_exact, differs name _ tolerate, differs name _ packets, differs name _ draw) refl
 
 -- the name is none of those that may ask nothing
-pub asks : (name : Text) (rows : List Row) → (name ≡ codes "play" → ⊥) → (name ≡ codes "gen" → ⊥) → (name ≡ codes "protect" → ⊥) → (name ≡ codes "stack" → ⊥) → (name ≡ codes "audit" → ⊥) → (name ≡ codes "draw" → ⊥) → asked_of name rows ≡ command_named (name, rows)
-asks name rows play gen protect stack audit draw =
-    rw (differs name _ play, differs name _ gen, differs name _ protect, differs name _ stack, differs name _ audit, differs name _ draw) refl
+pub asks : (name : Text) (rows : List Row) → (name ≡ codes "play" → ⊥) → (name ≡ codes "gen" → ⊥) → (name ≡ codes "protect" → ⊥) → (name ≡ codes "stack" → ⊥) → (name ≡ codes "audit" → ⊥) → (name ≡ codes "outages" → ⊥) → (name ≡ codes "bypass" → ⊥) → (name ≡ codes "draw" → ⊥) → asked_of name rows ≡ command_named (name, rows)
+asks name rows play gen protect stack audit outages bypass draw =
+    rw (differs name _ play, differs name _ gen, differs name _ protect, differs name _ stack, differs name _ audit, differs name _ outages, differs name _ bypass, differs name _ draw) refl

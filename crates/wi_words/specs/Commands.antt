@@ -4,13 +4,15 @@ use Rattle.std.specs.Prelude.{ℕ, ◌-◌, ◌^◌, ◌≤◌, ◌&&◌, nat_le
 use Rattle.std.specs.Option.{option_map, option_and_then}
 use Rattle.std.specs.Str.{bytes_eq}
 use Rattle.std.specs.Str.Parse.{digits_value}
-use Rattle.clap.specs.declared.builder.action.ArgAction.TheVariants.{Set}
+use Rattle.clap.specs.declared.builder.action.ArgAction.TheVariants.{Set, SetTrue}
 use Rattle.clap.specs.Walk.{Text, Row, Rule, first_of}
 use Rattle.clap.specs.Simple.{App, Shape, new_rule, new_shape, with_subcommand, subcommand_of}
 use Rattle.clap.specs.Faults.{fault_of}
 use Rattle.wi_text.specs.Characters.{is_number}
 use Rattle.wi_words.specs.declared.Content.{Content}
 use Rattle.wi_words.specs.declared.Content.TheVariants.{Report, Packets, Drawing}
+use Rattle.wi_words.specs.declared.Tested.{Tested}
+use Rattle.wi_words.specs.declared.Tested.TheVariants.{Policies, RiskGroups, Routers}
 
 -- a word that has to be there, in its place
 abbrev pub operand : Text → Rule
@@ -24,6 +26,10 @@ optional id = record (new_rule id) { action = Some Set }
 abbrev pub option : Text → Rule
 option name = record (new_rule name) { long = Some name; action = Some Set }
 
+-- `--NAME`, without a value, which may be left out
+abbrev pub flag : Text → Rule
+flag name = record (new_rule name) { long = Some name; action = Some SetTrue }
+
 -- a shape with such an operand added
 abbrev pub with_optional : Text → Shape → Shape
 with_optional id shape = record shape { rules = shape.rules ++ optional id ∷ [] }
@@ -31,6 +37,10 @@ with_optional id shape = record shape { rules = shape.rules ++ optional id ∷ [
 -- a shape with an option added
 abbrev pub with_option : Text → Shape → Shape
 with_option name shape = record shape { rules = shape.rules ++ option name ∷ [] }
+
+-- a shape with a flag added
+abbrev pub with_flag : Text → Shape → Shape
+with_flag name shape = record shape { rules = shape.rules ++ flag name ∷ [] }
 
 -- a shape with the options `--weights W` and `--certificate FILE` added
 abbrev pub with_options : Shape → Shape
@@ -68,17 +78,30 @@ gen = record (new_shape (codes "gen")) { rules = operand (codes "SEED") ∷ oper
 abbrev pub tolerate : Shape
 tolerate = with_options (record (new_shape (codes "tolerate")) { rules = operand (codes "NETWORK") ∷ operand (codes "QUERY") ∷ operand (codes "LIMIT") ∷ [] })
 
--- `protect PLAN`
+-- `NAME PLAN`
+abbrev pub planning : Text → Shape
+planning name = record (new_shape name) { rules = operand (codes "PLAN") ∷ [] }
+
 abbrev pub protect : Shape
-protect = record (new_shape (codes "protect")) { rules = operand (codes "PLAN") ∷ [] }
+protect = planning (codes "protect")
+
+abbrev pub bypass : Shape
+bypass = planning (codes "bypass")
 
 -- `packets NETWORK QUERY [--weights W]`
 abbrev pub packets : Shape
 packets = record (new_shape (codes "packets")) { rules = operand (codes "NETWORK") ∷ operand (codes "QUERY") ∷ option (codes "weights") ∷ [] }
 
--- `audit NETWORK POLICIES [--given TEXT]`
+-- `NAME NETWORK POLICIES [--given TEXT]`
+abbrev pub auditing : Text → Shape
+auditing name = with_option (codes "given") (record (new_shape name) { rules = operand (codes "NETWORK") ∷ operand (codes "POLICIES") ∷ [] })
+
 abbrev pub audit : Shape
-audit = with_option (codes "given") (record (new_shape (codes "audit")) { rules = operand (codes "NETWORK") ∷ operand (codes "POLICIES") ∷ [] })
+audit = auditing (codes "audit")
+
+-- `outages NETWORK POLICIES [--given TEXT] [--routers]`
+abbrev pub outages : Shape
+outages = with_flag (codes "routers") (auditing (codes "outages"))
 
 -- `draw NETWORK [QUERY [--weights W]]`
 abbrev pub draw : Shape
@@ -91,7 +114,7 @@ stack = record (new_shape (codes "stack")) { rules = operand (codes "HEX") ∷ [
 -- the program's commands, one of which has to be given
 abbrev pub program : App
 program =
-    with_subcommand (with_subcommand (with_subcommand (with_subcommand (with_subcommand (with_subcommand (with_subcommand (with_subcommand (with_subcommand (with_subcommand (with_subcommand (with_subcommand (record { top = record (new_shape (codes "whatif")) { subcommand_required = true }; subs = [] }) verify) check) play) gen) exact) check_exact) tolerate) protect) packets) stack) audit) draw
+    with_subcommand (with_subcommand (with_subcommand (with_subcommand (with_subcommand (with_subcommand (with_subcommand (with_subcommand (with_subcommand (with_subcommand (with_subcommand (with_subcommand (with_subcommand (with_subcommand (record { top = record (new_shape (codes "whatif")) { subcommand_required = true }; subs = [] }) verify) check) play) gen) exact) check_exact) tolerate) protect) packets) stack) audit) outages) bypass) draw
 
 -- clap takes the words: its parse has no fault
 abbrev pub is_empty : {X : Type 0} → List X → Bool
@@ -107,11 +130,13 @@ pub record Asking : Type 0 where
   pub query : Text
   pub weights : Option Text
 
--- what policies are asked of: the names of the network's file and of theirs, and the text of the links that are given, empty where none are
+-- what policies are asked of: the names of the network's file and of theirs, the text of the links that are given, empty where none are,
+-- and what each test line is about
 pub record Auditing : Type 0 where
   pub network : Text
   pub policies : Text
   pub given : Text
+  pub tested : Tested
 
 -- what is wanted of it: an answer, of which this is printed, or an exact one, or whether one is accepted, with the name of the
 -- certificate's file; or up to how many failures
@@ -129,6 +154,7 @@ pub data Command : Type 0 where
   Play : (network script : Text) (k : ℕ) → Command
   Gen : (seed size : ℕ) → Command
   Protect : (plan : Text) → Command
+  Bypass : (plan : Text) → Command
   Stack : (hex : Text) → Command
   Audit : (auditing : Auditing) → Command
   Draw : (network : Text) → Command
@@ -181,8 +207,15 @@ play_of rows =
 abbrev pub gen_of : List Row → Option Command
 gen_of rows = option_and_then (λ seed. option_map (λ size. Gen seed size) (option_and_then size_in (first_of (codes "SIZE") rows))) (option_and_then seed_in (first_of (codes "SEED") rows))
 
+-- the name of the file that has a plan
+abbrev pub plan_in : List Row → Option Text
+plan_in rows = first_of (codes "PLAN") rows
+
 abbrev pub protect_of : List Row → Option Command
-protect_of rows = option_map (λ plan. Protect plan) (first_of (codes "PLAN") rows)
+protect_of rows = option_map (λ plan. Protect plan) (plan_in rows)
+
+abbrev pub bypass_of : List Row → Option Command
+bypass_of rows = option_map (λ plan. Bypass plan) (plan_in rows)
 
 abbrev pub stack_of : List Row → Option Command
 stack_of rows = option_map (λ hex. Stack hex) (first_of (codes "HEX") rows)
@@ -191,12 +224,23 @@ stack_of rows = option_map (λ hex. Stack hex) (first_of (codes "HEX") rows)
 abbrev pub given_in : List Row → Text
 given_in rows = elim (first_of (codes "given") rows) [ None ↦ [] | Some text ↦ text ]
 
-abbrev pub auditing_in : List Row → Option Auditing
-auditing_in rows =
-    option_and_then (λ network. option_map (λ policies. record { network = network; policies = policies; given = given_in rows }) (first_of (codes "POLICIES") rows)) (first_of (codes "NETWORK") rows)
+-- a flag is among the words: clap makes the text `true` of it, and `false` where it is left out
+abbrev pub has_flag : Text → List Row → Bool
+has_flag name rows = elim (first_of name rows) [ None ↦ false | Some text ↦ bytes_eq text (codes "true") ]
 
-abbrev pub audit_of : List Row → Option Command
-audit_of rows = option_map (λ auditing. Audit auditing) (auditing_in rows)
+-- what the outages are of
+abbrev pub tested_by : List Row → Tested
+tested_by rows = if has_flag (codes "routers") rows then Routers else RiskGroups
+
+abbrev pub auditing_in : Tested → List Row → Option Auditing
+auditing_in tested rows =
+    option_and_then (λ network. option_map (λ policies. record { network = network; policies = policies; given = given_in rows; tested = tested }) (first_of (codes "POLICIES") rows)) (first_of (codes "NETWORK") rows)
+
+abbrev pub audit_of : Tested → List Row → Option Command
+audit_of tested rows = option_map (λ auditing. Audit auditing) (auditing_in tested rows)
+
+abbrev pub outages_of : List Row → Option Command
+outages_of rows = audit_of (tested_by rows) rows
 
 -- without a query, and then without weights, the network alone is drawn
 abbrev pub draw_alone : List Row → Option Command
@@ -211,7 +255,9 @@ command_named met =
     else if bytes_eq met.0 (codes "gen") then gen_of met.1
     else if bytes_eq met.0 (codes "protect") then protect_of met.1
     else if bytes_eq met.0 (codes "stack") then stack_of met.1
-    else if bytes_eq met.0 (codes "audit") then audit_of met.1
+    else if bytes_eq met.0 (codes "audit") then audit_of Policies met.1
+    else if bytes_eq met.0 (codes "outages") then outages_of met.1
+    else if bytes_eq met.0 (codes "bypass") then bypass_of met.1
     else if bytes_eq met.0 (codes "draw") then draw_of met.1
     else asked_of met.0 met.1
 

@@ -1,6 +1,6 @@
 -- A command as contracts see it.
 use Rattle.std.specs.Option.{option_map}
-use Rattle.wi_words.specs.Commands.{Asking, Auditing, Wanted, Verify, Check, Exact, CheckExact, Tolerate, Command, Ask, Play, Gen, Protect, Stack, Audit, Draw}
+use Rattle.wi_words.specs.Commands.{Asking, Auditing, Wanted, Verify, Check, Exact, CheckExact, Tolerate, Command, Ask, Play, Gen, Protect, Bypass, Stack, Audit, Draw}
 use Rattle.wi_words.specs.declared.Asking.{Asking as GivenAsking}
 use Rattle.wi_words.specs.declared.Auditing.{Auditing as GivenAuditing}
 use Rattle.wi_words.specs.declared.Wanted.{Wanted as GivenWanted}
@@ -15,7 +15,7 @@ abbrev pub asking_shown : GivenAsking → Asking
 asking_shown asking = record { network = asking.network.now; query = asking.query.now; weights = option_map (λ s. s.now) asking.weights }
 
 abbrev pub auditing_shown : GivenAuditing → Auditing
-auditing_shown auditing = record { network = auditing.network.now; policies = auditing.policies.now; given = auditing.given.now }
+auditing_shown auditing = record { network = auditing.network.now; policies = auditing.policies.now; given = auditing.given.now; tested = auditing.tested }
 
 abbrev pub wanted_shown : GivenWanted → Wanted
 wanted_shown (wanted.Verify content certificate) = Verify content (option_map (λ s. s.now) certificate)
@@ -29,6 +29,7 @@ printing_shown (printing.Ask asking wanted) = Ask (asking_shown asking) (wanted_
 printing_shown (printing.Play network script k) = Play network.now script.now k
 printing_shown (printing.Gen seed size) = Gen seed size
 printing_shown (printing.Protect plan) = Protect plan.now
+printing_shown (printing.Bypass plan) = Bypass plan.now
 printing_shown (printing.Stack hex) = Stack hex.now
 printing_shown (printing.Draw network) = Draw network.now
 

@@ -4,7 +4,7 @@ ghost use Rattle.std.specs.Prelude.{◌≡◌, IfOk, map, false};
 ghost use Rattle.clap.specs.Words.{app_of, rule_of, shape_of};
 ghost use Rattle.clap.specs.Simple.{App, Shape, new_shape, with_subcommand};
 ghost use Rattle.clap.specs.declared.builder.command.Command.TheViews.{out-Command as fields_of};
-ghost use Rattle.wi_words.specs.Commands.{asking, audit, checking, draw, gen, operand, option, optional, packets, play, program, protect, stack, tolerate, with_option, with_optional, with_options};
+ghost use Rattle.wi_words.specs.Commands.{asking, auditing, checking, draw, flag, gen, operand, option, optional, outages, packets, planning, play, program, stack, tolerate, with_flag, with_option, with_optional, with_options};
 
 use clap::{Arg, ArgAction, Command};
 use std::alloc::{AllocError, Global};
@@ -31,6 +31,14 @@ fn option<'a>(alloc: Global, name: &'a str) -> Arg<'a>
     ensures local { result.global ≡ false }
 {
     Arg::new(alloc, name).long(name).action(ArgAction::Set)
+}
+
+// `--NAME`, without a value, which may be left out.
+fn flag<'a>(alloc: Global, name: &'a str) -> Arg<'a>
+    ensures rule { rule_of result ≡ flag name.entry.now }
+    ensures local { result.global ≡ false }
+{
+    Arg::new(alloc, name).long(name).action(ArgAction::SetTrue)
 }
 
 // A command with operands of these names, in this order.
@@ -67,6 +75,18 @@ fn with_option<'a>(
     ensures local { IfOk command.entry (λ c. (fields_of c).has_globals ≡ false) → IfOk result (λ c. (fields_of c).has_globals ≡ false) }
 {
     command?.arg(option(alloc, name))
+}
+
+// A command with a flag added, where there was memory for both.
+fn with_flag<'a>(
+    alloc: Global,
+    command: Result<Command<'a>, AllocError>,
+    name: &'a str,
+) -> Result<Command<'a>, AllocError>
+    ensures shape { (s : Shape) → IfOk command.entry (λ c. shape_of c ≡ s) → IfOk result (λ c. shape_of c ≡ with_flag name.entry.now s) }
+    ensures local { IfOk command.entry (λ c. (fields_of c).has_globals ≡ false) → IfOk result (λ c. (fields_of c).has_globals ≡ false) }
+{
+    command?.arg(flag(alloc, name))
 }
 
 // A command with the options `--weights W` and `--certificate FILE` added, where there was memory for it.
@@ -127,12 +147,12 @@ fn tolerate<'a>(alloc: Global) -> Result<Command<'a>, AllocError>
     )
 }
 
-// `protect PLAN`
-fn protect<'a>(alloc: Global) -> Result<Command<'a>, AllocError>
-    ensures shape { IfOk result (λ c. shape_of c ≡ protect) }
+// `NAME PLAN`
+fn planning<'a>(alloc: Global, name: &'a str) -> Result<Command<'a>, AllocError>
+    ensures shape { IfOk result (λ c. shape_of c ≡ planning name.entry.now) }
     ensures local { IfOk result (λ c. (fields_of c).has_globals ≡ false) }
 {
-    verb(alloc, "protect", &["PLAN"])
+    verb(alloc, name, &["PLAN"])
 }
 
 // `packets NETWORK QUERY [--weights W]`
@@ -155,16 +175,20 @@ fn stack<'a>(alloc: Global) -> Result<Command<'a>, AllocError>
     verb(alloc, "stack", &["HEX"])
 }
 
-// `audit NETWORK POLICIES [--given TEXT]`
-fn audit<'a>(alloc: Global) -> Result<Command<'a>, AllocError>
-    ensures shape { IfOk result (λ c. shape_of c ≡ audit) }
+// `NAME NETWORK POLICIES [--given TEXT]`
+fn auditing<'a>(alloc: Global, name: &'a str) -> Result<Command<'a>, AllocError>
+    ensures shape { IfOk result (λ c. shape_of c ≡ auditing name.entry.now) }
     ensures local { IfOk result (λ c. (fields_of c).has_globals ≡ false) }
 {
-    with_option(
-        alloc,
-        verb(alloc, "audit", &["NETWORK", "POLICIES"]),
-        "given",
-    )
+    with_option(alloc, verb(alloc, name, &["NETWORK", "POLICIES"]), "given")
+}
+
+// `outages NETWORK POLICIES [--given TEXT] [--routers]`
+fn outages<'a>(alloc: Global) -> Result<Command<'a>, AllocError>
+    ensures shape { IfOk result (λ c. shape_of c ≡ outages) }
+    ensures local { IfOk result (λ c. (fields_of c).has_globals ≡ false) }
+{
+    with_flag(alloc, auditing(alloc, "outages"), "routers")
 }
 
 // `draw NETWORK [QUERY [--weights W]]`
@@ -210,9 +234,11 @@ pub fn program<'a>(alloc: Global) -> Result<Command<'a>, AllocError>
     let whole = with_command(whole, asking(alloc, "exact"));
     let whole = with_command(whole, checking(alloc, "check-exact"));
     let whole = with_command(whole, tolerate(alloc));
-    let whole = with_command(whole, protect(alloc));
+    let whole = with_command(whole, planning(alloc, "protect"));
     let whole = with_command(whole, packets(alloc));
     let whole = with_command(whole, stack(alloc));
-    let whole = with_command(whole, audit(alloc));
+    let whole = with_command(whole, auditing(alloc, "audit"));
+    let whole = with_command(whole, outages(alloc));
+    let whole = with_command(whole, planning(alloc, "bypass"));
     with_command(whole, draw(alloc))
 }

@@ -20,7 +20,8 @@ use wi_base::NoMemory;
 pub enum Command<'a> {
     /// Something is to be printed, whole.
     Print(Printing<'a>),
-    /// Policies are asked of a network, and what becomes of each is printed as soon as it is known.
+    /// Policies are asked of a network, by themselves or during outages, and what becomes of each test is printed as soon as it
+    /// is known.
     Audit(Auditing<'a>),
 }
 
@@ -47,6 +48,10 @@ pub enum Printing<'a> {
     Protect {
         plan: &'a str,
     },
+    /// `bypass PLAN`: the name of the network file that has the plan.
+    Bypass {
+        plan: &'a str,
+    },
     /// `stack HEX`: the text that is to be bytes, whatever it is.
     Stack {
         hex: &'a str,
@@ -68,7 +73,7 @@ pub struct Asking<'a> {
     pub weights: Option<&'a str>,
 }
 
-/// What policies are asked of: `audit NETWORK POLICIES [--given TEXT]`.
+/// What policies are asked of: `audit NETWORK POLICIES [--given TEXT]`, or `outages NETWORK POLICIES [--given TEXT] [--routers]`.
 #[derive(Clone, Copy)]
 pub struct Auditing<'a> {
     /// The name of the network file.
@@ -77,6 +82,19 @@ pub struct Auditing<'a> {
     pub policies: &'a str,
     /// The text of the links that are given as down and up. Without the option it is empty, which gives none.
     pub given: &'a str,
+    /// What each test line is about.
+    pub tested: Tested,
+}
+
+/// What each test line of an audit is about.
+#[derive(Clone, Copy)]
+pub enum Tested {
+    /// `audit`: a policy.
+    Policies,
+    /// `outages`: an outage of a risk group, during which all policies are asked.
+    RiskGroups,
+    /// `outages --routers`: an outage of a router.
+    Routers,
 }
 
 /// What is wanted of what is asked.

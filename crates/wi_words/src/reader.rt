@@ -4,10 +4,10 @@ ghost use Rattle.std.specs.Prelude.{◌≡◌, ◌≤◌, ◌^◌, true, None, I
 ghost use Rattle.std.specs.Str.Parse.{digits_value};
 ghost use Rattle.wi_text.specs.Characters.{is_number};
 ghost use Rattle.clap.specs.Words.{first_of, found_of, rows_of, subcommand_rows_of};
-ghost use Rattle.wi_words.specs.Commands.{IsFit, Verify, asked_of, asking_in, audit_of, auditing_in, command_named, draw_alone, draw_of, gen_of, most_failed, number_within, play_of, protect_of, seed_in, size_in, stack_of, wanted_named};
+ghost use Rattle.wi_words.specs.Commands.{IsFit, Verify, asked_of, asking_in, audit_of, auditing_in, bypass_of, command_named, draw_alone, draw_of, gen_of, has_flag, most_failed, number_within, outages_of, plan_in, play_of, protect_of, seed_in, size_in, stack_of, tested_by, wanted_named};
 ghost use Rattle.wi_words.specs.Shown.{asking_shown, auditing_shown, shown, wanted_shown};
 
-use crate::{Asking, Auditing, Command, Content, Printing, Wanted};
+use crate::{Asking, Auditing, Command, Content, Printing, Tested, Wanted};
 use clap::ArgMatches;
 use wi_text::is_number;
 
@@ -24,6 +24,16 @@ fn value_of<'a>(matches: &ArgMatches<'a>, id: &str) -> Option<&'a str>
     ensures { option_map (λ s. s.now) result ≡ first_of id.now (rows_of (found_of matches.now)) }
 {
     matches.get_str(id)
+}
+
+// Whether a flag is among the words: clap makes the text `true` of it, and `false` where it is left out.
+fn has_flag(matches: &ArgMatches<'_>, name: &str) -> bool
+    ensures { result ≡ has_flag name.now (rows_of (found_of matches.now)) }
+{
+    match value_of(matches, name) {
+        Some(text) => text == "true",
+        None => false,
+    }
 }
 
 // The number of risk groups that a text is, from 0 to 65,535.
@@ -157,12 +167,27 @@ fn gen_of<'a>(matches: &ArgMatches<'a>) -> Option<Command<'a>>
     Some(Command::Print(Printing::Gen { seed, size }))
 }
 
+// The name of the file that has a plan.
+fn plan_in<'a>(matches: &ArgMatches<'a>) -> Option<&'a str>
+    ensures { option_map (λ s. s.now) result ≡ plan_in (rows_of (found_of matches.now)) }
+{
+    value_of(matches, "PLAN")
+}
+
 fn protect_of<'a>(matches: &ArgMatches<'a>) -> Option<Command<'a>>
     ensures command { option_map shown result ≡ protect_of (rows_of (found_of matches.now)) }
     ensures fit { IfSome result (λ c. IsFit (shown c)) }
 {
-    let plan = value_of(matches, "PLAN")?;
+    let plan = plan_in(matches)?;
     Some(Command::Print(Printing::Protect { plan }))
+}
+
+fn bypass_of<'a>(matches: &ArgMatches<'a>) -> Option<Command<'a>>
+    ensures command { option_map shown result ≡ bypass_of (rows_of (found_of matches.now)) }
+    ensures fit { IfSome result (λ c. IsFit (shown c)) }
+{
+    let plan = plan_in(matches)?;
+    Some(Command::Print(Printing::Bypass { plan }))
 }
 
 fn stack_of<'a>(matches: &ArgMatches<'a>) -> Option<Command<'a>>
@@ -173,9 +198,20 @@ fn stack_of<'a>(matches: &ArgMatches<'a>) -> Option<Command<'a>>
     Some(Command::Print(Printing::Stack { hex }))
 }
 
+// What the outages are of: routers where the flag is among the words, and else risk groups.
+fn tested_by(matches: &ArgMatches<'_>) -> Tested
+    ensures { result ≡ tested_by (rows_of (found_of matches.now)) }
+{
+    if has_flag(matches, "routers") {
+        Tested::Routers
+    } else {
+        Tested::RiskGroups
+    }
+}
+
 // What a subcommand's entries ask policies of. Where nothing is given, the text is empty.
-fn auditing_in<'a>(matches: &ArgMatches<'a>) -> Option<Auditing<'a>>
-    ensures { option_map auditing_shown result ≡ auditing_in (rows_of (found_of matches.now)) }
+fn auditing_in<'a>(tested: Tested, matches: &ArgMatches<'a>) -> Option<Auditing<'a>>
+    ensures { option_map auditing_shown result ≡ auditing_in tested (rows_of (found_of matches.now)) }
 {
     let network = value_of(matches, "NETWORK")?;
     let policies = value_of(matches, "POLICIES")?;
@@ -184,15 +220,23 @@ fn auditing_in<'a>(matches: &ArgMatches<'a>) -> Option<Auditing<'a>>
         network,
         policies,
         given,
+        tested,
     })
 }
 
-fn audit_of<'a>(matches: &ArgMatches<'a>) -> Option<Command<'a>>
-    ensures command { option_map shown result ≡ audit_of (rows_of (found_of matches.now)) }
+fn audit_of<'a>(tested: Tested, matches: &ArgMatches<'a>) -> Option<Command<'a>>
+    ensures command { option_map shown result ≡ audit_of tested (rows_of (found_of matches.now)) }
     ensures fit { IfSome result (λ c. IsFit (shown c)) }
 {
-    let auditing = auditing_in(matches)?;
+    let auditing = auditing_in(tested, matches)?;
     Some(Command::Audit(auditing))
+}
+
+fn outages_of<'a>(matches: &ArgMatches<'a>) -> Option<Command<'a>>
+    ensures command { option_map shown result ≡ outages_of (rows_of (found_of matches.now)) }
+    ensures fit { IfSome result (λ c. IsFit (shown c)) }
+{
+    audit_of(tested_by(matches), matches)
 }
 
 // A network alone is drawn: there are no weights without a query.
@@ -229,7 +273,9 @@ fn command_named<'a>(name: &str, matches: &ArgMatches<'a>) -> Option<Command<'a>
         "gen" => gen_of(matches),
         "protect" => protect_of(matches),
         "stack" => stack_of(matches),
-        "audit" => audit_of(matches),
+        "audit" => audit_of(Tested::Policies, matches),
+        "outages" => outages_of(matches),
+        "bypass" => bypass_of(matches),
         "draw" => draw_of(matches),
         _ => asked_of(name, matches),
     }

@@ -10,10 +10,11 @@ use Rattle.wi_cert.specs.declared.certificate.Certificate.{Certificate}
 use Rattle.wi_cert.specs.declared.tree.TreeCertificate.{TreeCertificate}
 use Rattle.wi_accept.specs.Causes.{IsRefusal}
 use Rattle.wi_accept.specs.Trees.{IsTreeRefusal}
-use Rattle.wi_audit.specs.Audits.{IsAudit, IsBrokenOff}
+use Rattle.wi_words.specs.declared.Tested.{Tested}
 use Rattle.wi_outcome.specs.Edges.{PutAll, SaysWhy, Untouched, unprinted}
 use Rattle.wi_outcome.specs.declared.refusal.Refusal.{Refusal}
 use Rattle.wi_outcome.specs.declared.refusal.Refusal.TheVariants.{Memory, NotAccepted}
+use Rattle.wi_app.specs.Audited.{AreTested, IsBrokenOff}
 
 -- ---- check
 -- this speaks against the certificate
@@ -30,8 +31,8 @@ IsTreeNotBelieved problem t Memory = Unit {0}
 IsTreeNotBelieved problem t refusal = ⊥
 
 -- ---- audit
--- all policies are told, and nothing is said; or that is broken off, and it is said why
-abbrev pub IsTelling : Net → Bounds → List Policy → SinkSeen → SinkSeen → SinkSeen → SinkSeen → ℕ → Type 0
-IsTelling net given policies out_old out_new err_old err_new result =
-    ((text : List ℕ) × IsAudit net given policies text result × PutAll text out_old out_new × Untouched err_old err_new)
-    ⊎ ((refused : PutRefused) × IsBrokenOff net given policies refused out_old out_new × SaysWhy (unprinted refused) err_old err_new result)
+-- all is tested, and nothing is said; or that is broken off, and it is said why
+abbrev pub IsTelling : Tested → Net → Bounds → List Policy → SinkSeen → SinkSeen → SinkSeen → SinkSeen → ℕ → Type 0
+IsTelling tested net given policies out_old out_new err_old err_new result =
+    ((text : List ℕ) × AreTested tested net given policies text result × PutAll text out_old out_new × Untouched err_old err_new)
+    ⊎ ((refused : PutRefused) × IsBrokenOff tested net given policies refused out_old out_new × SaysWhy (unprinted refused) err_old err_new result)

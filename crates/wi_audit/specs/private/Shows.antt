@@ -6,7 +6,7 @@ use Rattle.wi_report.specs.Reports.{IsKnownRun}
 use Rattle.wi_policy.specs.declared.policy.Policy.{Policy}
 use Rattle.wi_audit.specs.declared.outcome.Outcome.{Outcome}
 use Rattle.wi_audit.specs.declared.outcome.Outcome.TheVariants.{Answered, Open}
-use Rattle.wi_audit.specs.declared.outcome.Fulfilment.{Fulfilment}
+use Rattle.wi_audit.specs.declared.series.Test.{Test}
 use Rattle.wi_audit.specs.Outcomes.{IsOutcome, fulfilment_of}
 use Rattle.wi_audit.specs.Texts.{policy_text}
 
@@ -20,9 +20,9 @@ abbrev pub mark : Bool → List ℕ
 mark begins = if begins then codes "# " else []
 
 -- a problem has an outcome, and these are the lines of a policy with it
-pub record IsToldOf (problem : Problem) (number : ℕ) (policy : Policy) (text : List ℕ) (fulfilment : Fulfilment) : Type 0 where
+pub record IsToldOf (problem : Problem) (number : ℕ) (policy : Policy) (test : Test) : Type 0 where
   pub problem_is : IsProblem problem
   pub outcome : Outcome
   pub holds : IsOutcome problem outcome
-  pub text_is : text ≡ policy_text problem number policy outcome
-  pub fulfilment_is : fulfilment ≡ fulfilment_of policy.word outcome
+  pub text_is : test.text ≡ policy_text problem number policy outcome
+  pub fulfilment_is : test.fulfilment ≡ fulfilment_of policy.word outcome

@@ -2,18 +2,24 @@
 use Rattle.std.specs.Prelude.{◌≡◌, ℕ, ◌<◌, ◌≤◌, true, List, ◌++◌, length, codes, Some, Ok}
 use Rattle.wi_base.specs.Shelf.{ShelfSeen, IsLonger}
 use Rattle.wi_net.specs.declared.bounds.Bounds.{Bounds}
+use Rattle.wi_net.specs.declared.parts.LinkId.{LinkId}
 use Rattle.wi_net.specs.Net.{Net}
 use Rattle.wi_netjson.specs.File.{network_of}
 use Rattle.wi_netjson.specs.Reading.{Fails}
 use Rattle.wi_netjson.specs.Written.{text_of}
 use Rattle.wi_cert.specs.declared.tree.TreeCertificate.{TreeCertificate}
 use Rattle.wi_cert.specs.Trees.{IsTreeText}
+use Rattle.wi_plan.specs.declared.plan.Bypass.{Bypass}
+use Rattle.wi_plan.specs.declared.plan.Plan.{Plan}
+use Rattle.wi_plan.specs.Plans.{IsPlan}
+use Rattle.wi_bypass.specs.Bypasses.{AreFound, wanting, with_found}
 use Rattle.wi_outcome.specs.declared.refusal.Refusal.{Refusal}
 use Rattle.wi_outcome.specs.declared.refusal.Refusal.TheVariants.{BadStack, CannotRead, CannotWrite, CannotWriteBelow, LargeCertificate, LargeNetwork, Memory, Network, NoMemoryBelow, Policies as BadPolicies, Script as BadScript, TreeNotWritten}
+use Rattle.wi_files.specs.Bypassing.{FromDraft, left_unprotected, plan_status, printed_plan}
 use Rattle.wi_files.specs.Certificates.{IsLarge}
 use Rattle.wi_files.specs.OnWire.{IsRefusedStack}
 use Rattle.wi_files.specs.Policies.{HavePoliciesFault}
-use Rattle.wi_files.specs.Protection.{FromPlan}
+use Rattle.wi_files.specs.Protection.{FromPlan, IsPlanned}
 use Rattle.wi_files.specs.Scripts.{IsBadScript}
 use Rattle.wi_files.specs.Shelves.{FetchFailed, IsCalm, StoreFailed, below_name}
 
@@ -48,6 +54,33 @@ abbrev pub FromWriting : Net → Refusal → Type 0
 FromWriting net LargeNetwork = 67108864 < length (text_of net)
 FromWriting net Memory = Unit {0}
 FromWriting net refusal = ⊥
+
+-- ---- bypass
+-- bytes are no network's, or their plan is the cause
+abbrev pub FromDraftFile : List ℕ → Refusal → Type 0
+FromDraftFile bytes (Network fault) = Fails fault (network_of bytes)
+FromDraftFile bytes refusal = FromDraft bytes refusal
+
+-- a plan with what was found for it, and the inner links that have no detour then
+pub record IsFoundFor (net : Net) (plan whole : Plan) (lacking : List LinkId) : Type 0 where
+  pub found : List Bypass
+  pub are : AreFound net (wanting plan) found
+  pub whole_is : whole ≡ with_found plan found
+  pub plan_is : IsPlan net whole
+  pub lacking_is : lacking ≡ left_unprotected net whole
+
+-- a plan is printed, and with what status; as a file it is that plan
+pub record IsPlanWritten (net : Net) (plan : Plan) (text : List ℕ) (status : ℕ) : Type 0 where
+  pub text_is : text ≡ printed_plan net plan
+  pub short : length text ≤ 67108864
+  pub again : IsPlanned text net plan
+  pub status_is : status ≡ plan_status (left_unprotected net plan)
+
+-- it is too long
+abbrev pub FromPlanWriting : Net → Plan → Refusal → Type 0
+FromPlanWriting net plan LargeNetwork = 67108864 < length (printed_plan net plan)
+FromPlanWriting net plan Memory = Unit {0}
+FromPlanWriting net plan refusal = ⊥
 
 -- ---- stack
 -- bytes are the cause, which begin with no stack

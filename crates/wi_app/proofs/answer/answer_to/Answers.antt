@@ -30,6 +30,12 @@ returns-in-Protect-clause-answered g c =
 pub returns-in-Protect-clause-refused : goal.returns-in-Protect-clause-refused
 returns-in-Protect-clause-refused g c = rw c.in-Protect.is c.protect.ensures.refused
 
+pub returns-in-Bypass-clause-answered : goal.returns-in-Bypass-clause-answered
+returns-in-Bypass-clause-answered g c = rw c.in-Bypass.is c.bypass.ensures.bypassed
+
+pub returns-in-Bypass-clause-refused : goal.returns-in-Bypass-clause-refused
+returns-in-Bypass-clause-refused g c = rw c.in-Bypass.is c.bypass.ensures.refused
+
 pub returns-in-Stack-clause-answered : goal.returns-in-Stack-clause-answered
 returns-in-Stack-clause-answered g c =
     rw c.in-Stack.is (with_status_0 c.stack.result (IsShownHex c.in-Stack.hex.now) c.stack.ensures.status c.stack.ensures.shown)

@@ -4,6 +4,8 @@ use Rattle.wi_words.proofs.builder.program.Goals as goal
 pub returns : goal.returns
 returns c =
     c.with_command.ensures _ _
+    (c.with_command-whole-13.ensures _ _
+    (c.with_command-whole-12.ensures _ _
     (c.with_command-whole-11.ensures _ _
     (c.with_command-whole-10.ensures _ _
     (c.with_command-whole-9.ensures _ _
@@ -21,8 +23,10 @@ returns c =
     c.asking-2.ensures.shape c.asking-2.ensures.local)
     c.checking-2.ensures.shape c.checking-2.ensures.local)
     c.tolerate.ensures.shape c.tolerate.ensures.local)
-    c.protect.ensures.shape c.protect.ensures.local)
+    c.planning.ensures.shape c.planning.ensures.local)
     c.packets.ensures.shape c.packets.ensures.local)
     c.stack.ensures.shape c.stack.ensures.local)
-    c.audit.ensures.shape c.audit.ensures.local)
+    c.auditing.ensures.shape c.auditing.ensures.local)
+    c.outages.ensures.shape c.outages.ensures.local)
+    c.planning-2.ensures.shape c.planning-2.ensures.local)
     c.draw.ensures.shape c.draw.ensures.local

@@ -1,7 +1,7 @@
 -- The first of what parts ask, part by part.
 use Rattle.std.specs.Prelude.{◌≡◌, ℕ, suc, ◌+◌, ◌<◌, Bool, true, false, List, ◌∷◌, ◌++◌, Option, Some, None, length, find, is_some, option_map}
 use Rattle.std.specs.Option.{option_or}
-use Rattle.std.proofs.Common.{sym, ap, ◌∙◌, drop, get_or, add-one}
+use Rattle.std.proofs.Common.{refl, sym, ap, ◌∙◌, drop, get_or, add-one}
 use Rattle.std.proofs.Math.Seq.{drop-cons}
 use Rattle.std.proofs.lemmas.List.Folds.{find-append}
 
@@ -33,6 +33,17 @@ module _ {A B : Type 0} (test : B → Bool) (all : List A → List B) (part : A 
   -- where it has none, the first of all is the first of the parts after it
   pub part_none : is_some o ≡ false → find test (all (drop (i + 1) xs)) ≡ whole
   part_none = or_none o (find test (all (drop (i + 1) xs))) whole step
+
+-- what was found in earlier parts stands before what this part has
+pub part_behind : {A B : Type 0} (test : B → Bool) (all : List A → List B) (part : A → List B) (grows : (x : A) (xs : List A) → all (x ∷ xs) ≡ part x ++ all xs)
+    (xs : List A) (i : ℕ) (x d : A) (before o whole : Option B) → i < length xs → x ≡ get_or xs i d → o ≡ option_or before (find test (part x))
+    → option_or before (find test (all (drop i xs))) ≡ whole → option_or o (find test (all (drop (i + 1) xs))) ≡ whole
+part_behind test all part grows xs i x d None o whole within at found so_far = step test all part grows xs i x d o whole within at found so_far
+part_behind test all part grows xs i x d (Some b) o whole within at found so_far = ap (λ y. option_or y (find test (all (drop (i + 1) xs)))) found ∙ so_far
+
+pub not_some : {A : Type 0} (o : Option A) → is_some o ≡ false → o ≡ None
+not_some None h = refl
+not_some (Some x) h = cc
 
 pub is_some_mapped : {A B : Type 0} (f : A → B) (o : Option A) (b : Bool) → is_some o ≡ b → is_some (option_map f o) ≡ b
 is_some_mapped f None b h = h

@@ -1,14 +1,16 @@
 //! What bounds every run is judged without a run: the heads and pairs lead nowhere else, no row is for the goal, and the rows leave
 //! out nothing that weighs less than the run that is shown. A certificate has this once, and a tree for each of its leaves.
-ghost use Rattle.std.specs.Prelude.{◌≡◌, IfErr, OnOk, option_map};
+ghost use Rattle.std.specs.Prelude.{◌≡◌, None, IfErr, OnOk, option_map};
 ghost use Rattle.wi_quantity.specs.Weighing.{components};
 ghost use Rattle.wi_cert.specs.Shown.{IsShown};
 ghost use Rattle.wi_cert.specs.Closed.{IsClosed};
-ghost use Rattle.wi_accept.specs.Causes.{bound_of};
+ghost use Rattle.wi_accept.specs.Causes.{bound_of, missing_in, open_in};
+ghost use Rattle.wi_check.specs.private.Rows.{demanded};
 ghost use Rattle.wi_check.specs.private.Stages.{IsGap, NoneClosed};
 
-use crate::heads::first_missing;
-use crate::rows::{Rows, first_open, weight_to};
+use crate::closing::first_lack;
+use crate::heads::Listings;
+use crate::rows::{Demand, Rows, weight_to};
 use crate::weights::weight_of;
 use std::alloc::Global;
 use wi_accept::Need;
@@ -47,28 +49,35 @@ pub(crate) fn check_closed(
     ensures passed { OnOk result (NoneClosed system.now shown.now closed.now 3) }
     ensures refused { IfErr result (IsGap system.now shown.now closed.now) }
 {
-    check_heads(alloc, system, shown, closed)?;
+    let listed = Listings {
+        heads: closed.heads.as_slice(),
+        pairs: closed.pairs.as_slice(),
+    };
+    let lack = first_lack(
+        alloc,
+        system,
+        listed,
+        rows_of(shown, closed),
+        bound_of(shown),
+    )?;
+    check_heads(system, shown, closed, lack.need)?;
     check_goal(system, shown, closed)?;
-    check_rows(alloc, system, shown, closed)
+    check_rows(system, shown, closed, lack.demand)
 }
 
-// Checks that heads and pairs are closed.
+// Checks that heads and pairs lack nothing.
 fn check_heads(
-    alloc: Global,
     system: &LazySystem<'_>,
     shown: &Shown,
     closed: &Closed,
+    need: Option<Need>,
 ) -> Result<(), Gap>
-    requires closed { IsClosed shown.now closed.now }
+    requires { need ≡ missing_in system.now closed.now }
+    ensures none { OnOk result (need ≡ None) }
     ensures passed { OnOk result (NoneClosed system.now shown.now closed.now 1) }
     ensures refused { IfErr result (IsGap system.now shown.now closed.now) }
 {
-    match first_missing(
-        alloc,
-        system,
-        closed.heads.as_slice(),
-        closed.pairs.as_slice(),
-    )? {
+    match need {
         None => Ok(()),
         Some(Need::Head(p, g)) => Err(Gap::Closed(ClosedRefused::HeadMissing(p, g))),
         Some(Need::Pair(u, v)) => Err(Gap::Closed(ClosedRefused::PairMissing(u, v))),
@@ -89,22 +98,19 @@ fn check_goal(system: &LazySystem<'_>, shown: &Shown, closed: &Closed) -> Result
     }
 }
 
-// Checks that the rows are closed under what is shown.
+// Checks that no row is open under what is shown.
 fn check_rows(
-    alloc: Global,
     system: &LazySystem<'_>,
     shown: &Shown,
     closed: &Closed,
+    demand: Option<Demand>,
 ) -> Result<(), Gap>
-    requires shown { IsShown shown.now }
-    requires closed { IsClosed shown.now closed.now }
+    requires demand { option_map demanded demand ≡ open_in system.now shown.now.terms (bound_of shown.now) closed.now }
     requires before { NoneClosed system.now shown.now closed.now 2 }
     ensures passed { OnOk result (NoneClosed system.now shown.now closed.now 3) }
     ensures refused { IfErr result (IsGap system.now shown.now closed.now) }
 {
-    let heads = closed.heads.as_slice();
-    let bound = bound_of(shown);
-    match first_open(alloc, system, heads, rows_of(shown, closed), bound)? {
+    match demand {
         None => Ok(()),
         Some(demand) => Err(Gap::Closed(ClosedRefused::NotClosed {
             head: demand.head,

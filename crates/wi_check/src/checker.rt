@@ -3,10 +3,11 @@
 //! told. That an accepted answer holds is a law there, and that what `decide` writes is accepted is another.
 //!
 //! What it costs: the run that is shown is walked along five times at most, each time with one header that moves in place. Then each
-//! listed head is asked for its rules twice, once for heads and pairs and once for rows. What a rule leads to is looked up by halves in
-//! the certificate's own sorted lists, of which no copy is made; the pairs of two symbols, and the heads of a spot, by one walk along
-//! both lists, once for two symbols; and each row that a rule demands among those of its head. Besides the certificate it keeps the
-//! run's links, its steps, what one head's rules are, and for which two symbols no pair is missing.
+//! listed head is asked for its rules once, for heads and pairs and for rows. What a rule leads to is looked up by halves in the
+//! certificate's own sorted lists, of which no copy is made; the pairs of two symbols, and the heads of a spot, by one walk along both
+//! lists, once for two symbols; and each row that a rule demands among those of its head. Besides the certificate it keeps the run's
+//! links, its steps, the links on which a packet may set out, what one head's rules are, for which two symbols no pair is missing, and
+//! the first row that is open.
 ghost use Rattle.std.specs.Prelude.{◌≡◌, IfOk, IfErr, OnOk};
 ghost use Rattle.wi_cert.specs.Text.{IsWritable};
 ghost use Rattle.wi_accept.specs.Answers.{IsDecided, answer_of, word_of};
@@ -41,8 +42,10 @@ pub fn check(
 {
     problem.keeps();
     check_shown(alloc, problem, &certificate.shown)?;
-    let system = LazySystem::of(problem);
-    match check_closed(alloc, &system, &certificate.shown, &certificate.closed) {
+    let system = LazySystem::of(alloc, problem)?;
+    let closed = check_closed(alloc, &system, &certificate.shown, &certificate.closed);
+    drop(system);
+    match closed {
         Ok(()) => Ok(Accepted {
             word: word_of(certificate.shown.claim),
         }),

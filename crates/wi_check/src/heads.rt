@@ -3,17 +3,14 @@
 //! gone along once.
 ghost use Rattle.std.specs.Prelude.{◌≡◌, map, find, IfOk, OnOk};
 ghost use Rattle.wi_cert.specs.Order.{pair_below};
-ghost use Rattle.wi_build.specs.Systems.{rules};
-ghost use Rattle.wi_accept.specs.Needs.{pairs_of, needs, needs_at, needs_of, is_missing, first_missing};
+ghost use Rattle.wi_accept.specs.Needs.{pairs_of, needs, needs_at, is_missing};
 ghost use Rattle.wi_check.specs.private.Lists.{Rises, symbol_below, AreWhole};
 
 use crate::lists::{first_absent, has_head, has_pair, heads_of, pairs_of};
-use std::alloc::Global;
 use std::collections::HashSet;
 use wi_accept::Need;
 use wi_base::NoMemory;
-use wi_build::LazySystem;
-use wi_pds::{Rule, System, Word2};
+use wi_pds::{Rule, Word2};
 use wi_quantity::Weight;
 
 /// Heads and pairs of a certificate.
@@ -23,73 +20,8 @@ pub(crate) struct Listings<'a> {
     pub pairs: &'a [(u32, u32)],
 }
 
-/// The first head or pair that is needed and isn't listed: the start's, and then head by head.
-pub(crate) fn first_missing(
-    alloc: Global,
-    system: &LazySystem<'_>,
-    heads: &[(u64, u32)],
-    pairs: &[(u32, u32)],
-) -> Result<Option<Need>, NoMemory>
-    requires heads { Rises pair_below heads.now }
-    requires pairs { Rises pair_below pairs.now }
-    ensures { IfOk result (λ found. found ≡ first_missing (rules system.now) (0, 0) heads.now pairs.now) }
-{
-    let (p, g) = system.start();
-    if !has_head(heads, p, g) {
-        return Ok(Some(Need::Head(p, g)));
-    }
-    let mut whole = HashSet::new(alloc);
-    let found = missing_by_heads(alloc, system, Listings { heads, pairs }, &mut whole, heads);
-    drop(whole);
-    found
-}
-
-// The first that the rules of some heads need and that isn't listed.
-fn missing_by_heads(
-    alloc: Global,
-    system: &LazySystem<'_>,
-    listed: Listings<'_>,
-    whole: &mut HashSet<(u32, u32)>,
-    heads: &[(u64, u32)],
-) -> Result<Option<Need>, NoMemory>
-    requires heads { Rises pair_below listed.heads.now }
-    requires pairs { Rises pair_below listed.pairs.now }
-    requires whole { AreWhole listed.pairs.now whole.old.keys }
-    ensures { IfOk result (λ found. found ≡ find (λ n. is_missing listed.entry.heads.now listed.entry.pairs.now n) (needs_of (rules system.now) listed.entry.pairs.now heads.now)) }
-{
-    for (p, g) in heads {
-        let found = missing_at_head(alloc, system, listed, whole, *p, *g)?;
-        if found.is_some() {
-            return Ok(found);
-        }
-    }
-    Ok(None)
-}
-
-// The first that the rules of a head need and that isn't listed.
-fn missing_at_head(
-    alloc: Global,
-    system: &LazySystem<'_>,
-    listed: Listings<'_>,
-    whole: &mut HashSet<(u32, u32)>,
-    p: u64,
-    g: u32,
-) -> Result<Option<Need>, NoMemory>
-    requires heads { Rises pair_below listed.heads.now }
-    requires pairs { Rises pair_below listed.pairs.now }
-    requires whole { AreWhole listed.pairs.now whole.old.keys }
-    ensures found { IfOk result (λ found. found ≡ find (λ n. is_missing listed.entry.heads.now listed.entry.pairs.now n) (needs_at listed.entry.pairs.now g (rules system.now p g))) }
-    ensures whole { OnOk result (AreWhole listed.entry.pairs.now whole.new.keys) }
-{
-    let rules = system.rules_of(alloc, p, g)?;
-    let below = pairs_of(listed.pairs, g);
-    let found = missing_by_rules(listed, whole, g, below, rules.as_slice());
-    drop(rules);
-    found
-}
-
-// The first that rules over a symbol need and that isn't listed; `below` are the pairs of the symbol.
-fn missing_by_rules(
+/// The first that rules over a symbol need and that isn't listed; `below` are the pairs of the symbol.
+pub(crate) fn missing_by_rules(
     listed: Listings<'_>,
     whole: &mut HashSet<(u32, u32)>,
     g: u32,

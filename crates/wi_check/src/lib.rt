@@ -3,6 +3,7 @@
 
 mod bounded;
 mod checker;
+mod closing;
 mod heads;
 mod lists;
 mod matched;

@@ -1,23 +1,20 @@
 //! Whether rows are closed: for each rule of each listed head the rows for what it writes are gone through, and the row that they
 //! demand is looked up among those of the head, which stand together. A row's weight is read where it is looked at, so the rows
 //! aren't copied.
-ghost use Rattle.std.specs.Prelude.{◌≡◌, ◌^◌, ◌∷◌, [], map, find, IfOk, option_map};
+ghost use Rattle.std.specs.Prelude.{◌≡◌, ◌^◌, ◌∷◌, [], map, find, option_map};
 ghost use Rattle.std.specs.List.{flat_map, All};
 ghost use Rattle.wi_weight.specs.Weights.{EachBelow, plus};
 ghost use Rattle.wi_pds.specs.Closed.{Summary};
 ghost use Rattle.wi_quantity.specs.Weighing.{components};
-ghost use Rattle.wi_build.specs.Systems.{scale, rules};
+ghost use Rattle.wi_build.specs.Systems.{scale};
 ghost use Rattle.wi_accept.specs.Causes.{rows_of};
-ghost use Rattle.wi_accept.specs.Demands.{row, rows_at, demands, demands_at, demands_of, is_within, is_met, is_open, first_open, weight_to};
+ghost use Rattle.wi_accept.specs.Demands.{row, rows_at, demands, demands_at, is_within, is_met, is_open, weight_to};
 ghost use Rattle.wi_check.specs.private.Rows.{AreRows, AreOwn, HaveTerms, summaries, demanded};
 
 use crate::lists::{row_to, rows_at};
 use crate::weights::weight_of;
-use std::alloc::Global;
-use wi_base::NoMemory;
-use wi_build::LazySystem;
 use wi_cert::Row;
-use wi_pds::{Rule, System, Word2};
+use wi_pds::{Rule, Word2};
 use wi_quantity::Weight;
 use wi_weight::Domain;
 
@@ -36,45 +33,8 @@ pub(crate) struct Demand {
     pub weight: Weight,
 }
 
-/// The first row that there must be below the bound, and isn't: head by head, rule by rule, row by row.
-pub(crate) fn first_open(
-    alloc: Global,
-    system: &LazySystem<'_>,
-    heads: &[(u64, u32)],
-    rows: Rows<'_>,
-    bound: Option<Weight>,
-) -> Result<Option<Demand>, NoMemory>
-    requires { AreRows rows }
-    ensures { IfOk result (λ found. option_map demanded found ≡ first_open scale components (rules system.now) heads.now (summaries rows.entry) (option_map components bound)) }
-{
-    for head in heads {
-        let found = open_at_head(alloc, system, rows, bound, *head)?;
-        if found.is_some() {
-            return Ok(found);
-        }
-    }
-    Ok(None)
-}
-
-// The first that the rules of a head demand.
-fn open_at_head(
-    alloc: Global,
-    system: &LazySystem<'_>,
-    rows: Rows<'_>,
-    bound: Option<Weight>,
-    head: (u64, u32),
-) -> Result<Option<Demand>, NoMemory>
-    requires { AreRows rows }
-    ensures { IfOk result (λ found. option_map demanded found ≡ find (λ d. is_open scale (option_map components bound) (summaries rows.entry) d) (demands_at components (summaries rows.entry) head.0 head.1 (rules system.now head.0 head.1))) }
-{
-    system.keeps();
-    let rules = system.rules_of(alloc, head.0, head.1)?;
-    let own = own_rows(rows, head);
-    Ok(open_by_rules(rows, own, bound, head, rules.as_slice()))
-}
-
-// The rows of a head.
-fn own_rows(rows: Rows<'_>, head: (u64, u32)) -> Rows<'_>
+/// The rows of a head.
+pub(crate) fn own_rows(rows: Rows<'_>, head: (u64, u32)) -> Rows<'_>
     requires { AreRows rows }
     ensures { AreOwn rows.entry head result }
 {
@@ -84,8 +44,8 @@ fn own_rows(rows: Rows<'_>, head: (u64, u32)) -> Rows<'_>
     }
 }
 
-// The first that rules of a head demand.
-fn open_by_rules(
+/// The first row that there must be below the bound by rules of a head, and isn't: rule by rule, row by row.
+pub(crate) fn open_by_rules(
     rows: Rows<'_>,
     own: Rows<'_>,
     bound: Option<Weight>,

@@ -186,8 +186,10 @@ fn check_leaf(
     ensures refused { IfErr result (IsNodeRefused problem.now shown.now branch.now (Node.Closed closed.now) number) }
 {
     let within = problem.within(branch);
-    let system = LazySystem::of(&within);
-    match check_closed(alloc, &system, shown, closed) {
+    let system = LazySystem::of(alloc, &within)?;
+    let closed = check_closed(alloc, &system, shown, closed);
+    drop(system);
+    match closed {
         Ok(()) => Ok(()),
         Err(Gap::Closed(refused)) => Err(CheckRefused::Leaf(number, refused)),
         Err(Gap::Memory) => Err(CheckRefused::Memory),

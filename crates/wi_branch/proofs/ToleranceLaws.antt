@@ -1,5 +1,5 @@
 -- What an exact answer tells of the traces under so many failures, and that more risk groups than there are change nothing.
-use Rattle.std.proofs.Common.{◌≡◌, ℕ, zero, suc, ◌+◌, ◌<◌, ◌≤◌, min, true, nat_le, List, [], ◌∷◌, length, drop, slice_get, Option, Some, None, inl, inr, refl, arith, ap, ◌∙◌, subst, add-one}
+use Rattle.std.proofs.Common.{◌≡◌, ℕ, zero, suc, ◌+◌, ◌-◌, ◌<◌, ◌≤◌, min, true, nat_le, List, [], ◌∷◌, length, drop, slice_get, Option, Some, None, inl, inr, refl, arith, ap, ◌∙◌, subst, add-one}
 use borrow.Author.Count.{below_more}
 use Rattle.std.proofs.lemmas.Bool.{cases_lt}
 use Rattle.std.proofs.lemmas.Bool.Decides.{nat_tests}
@@ -25,11 +25,16 @@ use Rattle.wi_trees.specs.Trees.{HoldsExactly}
 use Rattle.wi_cert.specs.declared.tree.TreeCertificate.{TreeCertificate}
 use Rattle.wi_build.specs.Problems.{Problem, asks, weighs, allowing}
 use Rattle.wi_accept.specs.Trees.{IsDecidedExactly, IsTreeAccepted}
-use Rattle.wi_branch.specs.Exactly.{IsExact, IsInexact}
-use Rattle.wi_branch.specs.Tolerance.{HasTrace, IsStoppedUpTo, IsTolerated, ShowsBelow, ShowsNo}
+use Rattle.wi_branch.specs.Exactly.{IsExact, IsExactRefused}
+use Rattle.wi_branch.specs.Tolerance.{HasTrace, IsStoppedUpTo, IsTolerated, ShowsBelow, ShowsNo, TellsTolerance}
+use Rattle.wi_branch.specs.declared.counting.Between.{Between}
+use Rattle.wi_branch.specs.declared.counting.Trial.{Trial}
+use Rattle.wi_branch.specs.declared.counting.Trial.TheVariants.{Enough}
+use Rattle.wi_branch.specs.declared.tolerance.Tolerance.{Tolerance}
+use Rattle.wi_branch.specs.declared.tolerance.Tolerance.TheVariants.{At, NoneUpTo}
 use Rattle.wi_branch.specs.declared.refused.ExactRefused.{ExactRefused}
 use Rattle.wi_branch.specs.declared.refused.ExactRefused.TheVariants as exact
-use Rattle.wi_branch.specs.private.Counting.{AreTolerated, IsTrial, groups_besides, stopped_with, trial_by}
+use Rattle.wi_branch.specs.private.Counting.{AreTolerated, IsBetween, IsProbe, IsShownTolerated, IsTrial, groups_besides, met, narrowed, narrowed_by, stopped_with, trial_by}
 
 -- ---- what an exact answer tells
 
@@ -54,12 +59,12 @@ module _ (problem : Problem) (answer : Answer) (holds : IsDecidedExactly problem
   abbrev HoldsAs : Word → Type 0
   HoldsAs word = HoldsExactly problem.net (asks problem) (weighs problem) word (option_map components answer.weight) answer.run answer.verdict
 
-  yes_traced : answer.word ≡ Yes → HasTrace problem
+  pub yes_traced : answer.word ≡ Yes → HasTrace problem
   yes_traced is =
       let shown = yes_shows problem.net (asks problem) (weighs problem) (option_map components answer.weight) answer.run answer.verdict (subst HoldsAs is holds) in
       record { fails = shown.0; run = shown.1; allowed = shown.2; trace = shown.3; matches = shown.4 }
 
-  no_traced : answer.word ≡ No → HasTrace problem → ⊥
+  pub no_traced : answer.word ≡ No → HasTrace problem → ⊥
   no_traced is has =
       no_says problem.net (asks problem) (weighs problem) (option_map components answer.weight) answer.run answer.verdict (subst HoldsAs is holds)
       has.fails has.run has.allowed has.trace has.matches
@@ -100,7 +105,7 @@ none_shows problem limit answer tree tolerated exact accepted = go answer.word r
 
 -- ---- where there is no exact answer
 
-pub stopped_tells : (asked : ℕ → Problem) (limit k : ℕ) (refused : ExactRefused) → AreTolerated asked k → IsInexact (asked k) limit refused
+pub stopped_tells : (asked : ℕ → Problem) (limit k : ℕ) (refused : ExactRefused) → AreTolerated asked k → IsExactRefused (asked k) limit refused
     → (most : ℕ) → k ≤ most → IsStoppedUpTo asked most limit (stopped_with k refused)
 stopped_tells asked limit k (exact.Overflow opened head target w) fewer inexact most within = (within, fewer, (λ e. cc), inexact)
 stopped_tells asked limit k (exact.TooLong opened n) fewer inexact most within = (within, fewer, (λ e. cc), inexact)
@@ -119,15 +124,19 @@ all_union net =
     filter_same (λ e. list_any (λ d. same_risk net d e) (all_links net)) (λ e. true) (all_links net) (λ e h. any_in (λ d. same_risk net d e) (all_links net) e h (same_risk_self net e))
     ∙ filter_true (all_links net)
 
--- no more risk groups fail than there are
-groups_suffice : (problem : Problem) (j n : ℕ) → groups_besides problem.net problem.bounds.down ≤ n → HasTrace (allowing problem j) → HasTrace (allowing problem n)
-groups_suffice problem j n all has = record {
+-- a trace is one within another number, if no more risk groups have failed
+within_number : (problem : Problem) (j n : ℕ) (has : HasTrace (allowing problem j)) → nat_le (risk_count problem.net (outside has.fails problem.bounds.down)) n ≡ true → HasTrace (allowing problem n)
+within_number problem j n has few = record {
   fails = has.fails;
   run = has.run;
   allowed = record { union = has.allowed.union; down = has.allowed.down; up = has.allowed.up; few = few };
   trace = has.trace;
   matches = record { first = has.matches.first; path = has.matches.path; last = has.matches.last; end = has.matches.end };
 }
+
+-- no more risk groups fail than there are
+groups_suffice : (problem : Problem) (j n : ℕ) → groups_besides problem.net problem.bounds.down ≤ n → HasTrace (allowing problem j) → HasTrace (allowing problem n)
+groups_suffice problem j n all has = within_number problem j n has few
   where
     net : Net
     net = problem.net
@@ -168,3 +177,83 @@ counted_all net known n i all counted =
     let none : drop i (all_links net) ≡ [] = drop_all i (all_links net) (omega (arith, length-map-range_with_len make 0 (length net.links), all)) in
     let rest : n + risk_count net (outside [] known) ≡ groups_besides net known = rw none at counted in
     omega (arith, rest)
+
+-- ---- a number that is enough, and one below which all are too few
+
+-- what matches with few failures matches with more
+more_suffice : (problem : Problem) (j n : ℕ) → j ≤ n → HasTrace (allowing problem j) → HasTrace (allowing problem n)
+more_suffice problem j n less has = within_number problem j n has (let fewer = has.allowed.few in grind (arith, nat_tests, fewer, less))
+
+none_below : (problem : Problem) (n : ℕ) → (HasTrace (allowing problem n) → ⊥) → (j : ℕ) → j ≤ n → IsTolerated (allowing problem) j
+none_below problem n none j less has = none (more_suffice problem j n less has)
+
+-- an exact answer by few nodes is one by more
+pub wider : (problem : Problem) (few limit : ℕ) (answer : Answer) (tree : TreeCertificate) → few ≤ limit → IsExact problem few answer tree → IsExact problem limit answer tree
+wider problem few limit answer tree less exact = let short = exact.few in record {
+  holds = exact.holds;
+  made = exact.made;
+  opened = exact.opened;
+  walk = exact.walk;
+  nodes = exact.nodes;
+  few = omega (arith, short, less);
+}
+
+-- what the most that is asked for tells: a no is one for each smaller number
+pub most_tells : (problem : Problem) (most limit : ℕ) (answer : Answer) (tree : TreeCertificate) (word : Word) → answer.word ≡ word → (word ≡ Yes → ⊥) → IsProbe (allowing problem most) limit answer tree → TellsTolerance (allowing problem) most limit (NoneUpTo tree)
+most_tells problem most limit answer tree Yes is other probe = absurd (other refl)
+most_tells problem most limit answer tree No is other probe = (none_below problem most (no_traced (allowing problem most) answer probe.exact.holds is), record { answer = answer; word = is; exact = probe.exact; accepted = probe.accepted })
+most_tells problem most limit answer tree Inconclusive is other probe = absurd (is_conclusive (allowing problem most) answer probe.exact.holds is)
+
+-- a yes there is the first number that is enough
+pub between_first : (problem : Problem) (most limit : ℕ) (answer : Answer) (tree : TreeCertificate) → answer.word ≡ Yes → IsProbe (allowing problem most) limit answer tree
+    → IsBetween (allowing problem) most limit (record { low = 0; below = None; high = most; answer = answer; yes = tree })
+between_first problem most limit answer tree is probe = record {
+  order = omega arith;
+  within = omega arith;
+  fewer = λ j less. absurd (omega (arith, less));
+  below = tt;
+  there = yes_traced (allowing problem most) answer probe.exact.holds is;
+  shown = record { word = is; exact = probe.exact; accepted = probe.accepted };
+}
+
+-- a number between the two takes the place of one of them
+pub between_next : (problem : Problem) (most limit : ℕ) (between : Between) (k : ℕ) (answer : Answer) (tree : TreeCertificate) → IsBetween (allowing problem) most limit between → between.low ≤ k → k < between.high
+    → IsProbe (allowing problem k) limit answer tree → IsBetween (allowing problem) most limit (narrowed between k answer tree)
+between_next problem most limit between k answer tree b least less probe = go answer.word refl
+  where
+    go : (word : Word) → answer.word ≡ word → IsBetween (allowing problem) most limit (narrowed_by word between k answer tree)
+    go Yes is = let within = b.within in record {
+      order = least;
+      within = omega (arith, less, within);
+      fewer = b.fewer;
+      below = b.below;
+      there = yes_traced (allowing problem k) answer probe.exact.holds is;
+      shown = record { word = is; exact = probe.exact; accepted = probe.accepted };
+    }
+    go No is = record {
+      order = omega (arith, less);
+      within = b.within;
+      fewer = λ j small. none_below problem k (no_traced (allowing problem k) answer probe.exact.holds is) j (omega (arith, small));
+      below = shows_below (allowing problem) limit k tree (record { answer = answer; word = is; exact = probe.exact; accepted = probe.accepted });
+      there = b.there;
+      shown = b.shown;
+    }
+    go Inconclusive is = absurd (is_conclusive (allowing problem k) answer probe.exact.holds is)
+
+-- where the two meet, it is the least number
+pub met_tells : (asked : ℕ → Problem) (most limit : ℕ) (between : Between) → IsBetween asked most limit between → between.high ≤ between.low → TellsTolerance asked most limit (met between)
+met_tells asked most limit between b meets =
+    let order = b.order in
+    let same : between.low ≡ between.high = omega (arith, order, meets) in
+    (b.within, record { there = b.there; least = λ j less. b.fewer j (omega (arith, less, same)) }, b.shown, subst (λ (k : ℕ). ShowsBelow asked limit k between.below) same b.below)
+
+-- where all below it are too few, the number that is enough is the least
+pub all_below_tell : (asked : ℕ → Problem) (most limit : ℕ) (between : Between) (tree : TreeCertificate) → IsBetween asked most limit between → between.low < between.high → IsShownTolerated asked limit (between.high - 1) tree
+    → TellsTolerance asked most limit (At between.high between.answer between.yes (Some tree))
+all_below_tell asked most limit between tree b apart shown =
+    let same : between.high - 1 + 1 ≡ between.high = omega (arith, apart) in
+    (b.within, record { there = b.there; least = λ j less. shown.0 j (omega (arith, less, apart)) }, b.shown, subst (λ (k : ℕ). ShowsBelow asked limit k (Some tree)) same (shows_below asked limit (between.high - 1) tree shown.1))
+
+-- what is the least number from one on is it from a later one on
+pub trial_later : (asked : ℕ → Problem) (limit first last : ℕ) (trial : Trial) (found : Tolerance) → trial ≡ Enough found → first ≤ last → IsTrial asked limit first trial → IsTrial asked limit last (Enough found)
+trial_later asked limit first last trial found is order tried most within = (subst (λ (t : Trial). IsTrial asked limit first t) is tried) most (omega (arith, order, within))

@@ -28,7 +28,7 @@ use Rattle.wi_branch.specs.declared.finding.Told.{Told}
 use Rattle.wi_branch.specs.declared.finding.Told.TheVariants.{Nothing, Fitting, Splitting}
 use Rattle.wi_accept.proofs.Visits.{matches_within}
 use Rattle.wi_branch.specs.Walks.{is_fitting, IsNode, cut_after, left_after, IsWalk}
-use Rattle.wi_branch.specs.Exactly.{IsInexact}
+use Rattle.wi_branch.specs.Exactly.{IsExactRefused}
 use Rattle.wi_branch.specs.private.Courses.{node_of, IsToldWell, Opening, cut_of, after_told, AreBranches, IsOpening, IsOpenedAt, IsStoppedAt}
 
 -- the order of weights is transitive
@@ -167,7 +167,7 @@ module _ (problem : Problem) where
       opening_next after o = subst (IsOpening problem limit) (sym o.after_is) (opening_told o.told o.node o.well)
 
       -- the branch that is next can't be searched
-      pub stopped_next : (refused : ExactRefused) → IsStoppedAt (within problem branch) (cut_of now.best) now.opened refused → IsInexact problem limit refused
+      pub stopped_next : (refused : ExactRefused) → IsStoppedAt (within problem branch) (cut_of now.best) now.opened refused → IsExactRefused problem limit refused
       stopped_next (Overflow opened head target w) s =
           let P : List Opened → Type 0 = λ os. IsWalk problem None os (problem.bounds ∷ []) (cut_of now.best) (branch ∷ now.left) in
           let Q : List Opened → Type 0 = λ os. length os < limit in
@@ -194,7 +194,7 @@ module _ (problem : Problem) where
 
   -- where as many were opened as may be, one more is over the limit
   pub limit_next : (limit : ℕ) (now : Opening) (branch : Bounds) → IsOpening problem limit (record now { left = branch ∷ now.left }) → limit ≤ length now.opened
-      → IsInexact problem limit (NodeLimit now.opened)
+      → IsExactRefused problem limit (NodeLimit now.opened)
   limit_next limit now branch h full = (omega (arith, full, h.few), record { cut = cut_of now.best; branch = branch; left = now.left; walk = h.walk })
 
 -- what the code computes tells whether a run fits

@@ -39,10 +39,10 @@ pub record IsNext (problem : Problem) (opened : List Opened) : Type 0 where
   pub walk : IsWalk problem None opened (problem.bounds ∷ []) cut (branch ∷ left)
 
 -- at the next branch a summary doesn't fit, or the least run is too long; or it would be one more than the limit
-abbrev pub IsInexact : Problem → ℕ → ExactRefused → Type 0
-IsInexact problem limit (Overflow opened head target w) =
+abbrev pub IsExactRefused : Problem → ℕ → ExactRefused → Type 0
+IsExactRefused problem limit (Overflow opened head target w) =
     (length opened < limit) × ((next : IsNext problem opened) × IsOverflowingBelow (within problem next.branch) next.cut head target (components w))
-IsInexact problem limit (TooLong opened n) =
+IsExactRefused problem limit (TooLong opened n) =
     (length opened < limit) × ((next : IsNext problem opened) × IsTooLongBelow (within problem next.branch) next.cut n)
-IsInexact problem limit (NodeLimit opened) = (length opened ≡ limit) × IsNext problem opened
-IsInexact problem limit Memory = Unit {0}
+IsExactRefused problem limit (NodeLimit opened) = (length opened ≡ limit) × IsNext problem opened
+IsExactRefused problem limit Memory = Unit {0}

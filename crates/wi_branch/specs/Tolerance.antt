@@ -9,7 +9,7 @@ use Rattle.wi_trace.specs.declared.answer.Answer.{Answer}
 use Rattle.wi_cert.specs.declared.tree.TreeCertificate.{TreeCertificate}
 use Rattle.wi_build.specs.Problems.{Problem, asks}
 use Rattle.wi_accept.specs.Trees.{IsTreeAccepted}
-use Rattle.wi_branch.specs.Exactly.{IsExact, IsInexact}
+use Rattle.wi_branch.specs.Exactly.{IsExact, IsExactRefused}
 use Rattle.wi_branch.specs.declared.refused.ExactRefused.TheVariants as exact
 use Rattle.wi_branch.specs.declared.tolerance.Tolerance.{Tolerance}
 use Rattle.wi_branch.specs.declared.tolerance.Tolerance.TheVariants.{At, NoneUpTo}
@@ -61,5 +61,5 @@ TellsTolerance asked most limit (NoneUpTo tree) = ((j : ℕ) → j ≤ most → 
 -- there is no exact answer for this number, and each smaller one is fewer than it takes
 abbrev pub IsStoppedUpTo : (ℕ → Problem) → ℕ → ℕ → TolerateRefused → Type 0
 IsStoppedUpTo asked most limit (Exact k refused) =
-    (k ≤ most) × ((j : ℕ) → j < k → IsTolerated asked j) × (refused ≡ exact.Memory → ⊥) × IsInexact (asked k) limit refused
+    (k ≤ most) × ((j : ℕ) → j < k → IsTolerated asked j) × (refused ≡ exact.Memory → ⊥) × IsExactRefused (asked k) limit refused
 IsStoppedUpTo asked most limit Memory = Unit {0}

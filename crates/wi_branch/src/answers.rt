@@ -5,7 +5,7 @@ ghost use Rattle.wi_world.specs.Moves.{AreBounds};
 ghost use Rattle.wi_build.specs.Problems.{allowing, within};
 ghost use Rattle.wi_accept.specs.Trees.{IsTreeAccepted};
 ghost use Rattle.wi_decide.specs.Showing.{shown_by};
-ghost use Rattle.wi_branch.specs.Exactly.{IsExact, IsInexact, node_under};
+ghost use Rattle.wi_branch.specs.Exactly.{IsExact, IsExactRefused, node_under};
 ghost use Rattle.wi_branch.specs.private.Courses.{CanBeShown, IsDone, IsOpenedAt, IsStoppedAt, answer_with, cut_of, stopped_by};
 
 use crate::course::Course;
@@ -35,7 +35,7 @@ pub fn exact(
     requires { limit ≤ 10000 }
     ensures exact { IfOk result (λ found. IsExact (allowing problem.now k) limit found.0 found.1) }
     ensures accepted { IfOk result (λ found. IsTreeAccepted (allowing problem.now k) found.1) }
-    ensures refused { IfErr result (IsInexact (allowing problem.now k) limit) }
+    ensures refused { IfErr result (IsExactRefused (allowing problem.now k) limit) }
 {
     let whole = problem.bounds_allowing(k)?;
     let answered = exactly(alloc, &problem.within(&whole), limit);
@@ -52,7 +52,7 @@ fn exactly(
     requires { limit ≤ 10000 }
     ensures exact { IfOk result (λ found. IsExact problem.now limit found.0 found.1) }
     ensures accepted { IfOk result (λ found. IsTreeAccepted problem.now found.1) }
-    ensures refused { IfErr result (IsInexact problem.now limit) }
+    ensures refused { IfErr result (IsExactRefused problem.now limit) }
 {
     problem.keeps();
     let course = opened_all(alloc, problem, limit)?;
@@ -62,7 +62,7 @@ fn exactly(
 // Opens branches until none is left.
 fn opened_all(alloc: Global, problem: &Problem<'_>, limit: u32) -> Result<Course, ExactRefused>
     ensures done { IfOk result (IsDone problem.now limit) }
-    ensures refused { IfErr result (IsInexact problem.now limit) }
+    ensures refused { IfErr result (IsExactRefused problem.now limit) }
 {
     problem.keeps();
     let mut course = Course::new(alloc, problem.bounds().twin()?)?;

@@ -3,7 +3,7 @@
 ghost use Rattle.std.specs.Prelude.{◌≡◌, IfOk, IfErr, option_map};
 ghost use Rattle.wi_world.specs.Moving.{IsMovingRun};
 ghost use Rattle.wi_quantity.specs.Weighing.{components};
-ghost use Rattle.wi_decide.specs.Searches.{IsUnsearched};
+ghost use Rattle.wi_decide.specs.Searches.{IsSearchRefused};
 ghost use Rattle.wi_branch.specs.Walks.{IsNode, is_fitting};
 ghost use Rattle.wi_branch.specs.private.Courses.{IsJudged, IsToldWell, KeepsLeaf, node_of};
 
@@ -38,7 +38,7 @@ pub(crate) fn tell(
 ) -> Result<Told, SearchRefused>
     ensures node { IfOk result (λ told. IsNode problem.now (option_map components cut) (node_of told)) }
     ensures well { IfOk result (IsToldWell problem.now) }
-    ensures refused { IfErr result (IsUnsearched problem.now (option_map components cut)) }
+    ensures refused { IfErr result (IsSearchRefused problem.now (option_map components cut)) }
 {
     problem.keeps();
     let Searched { found, closed } = search(alloc, problem, cut)?;

@@ -14,7 +14,7 @@ use Rattle.wi_accept.specs.Trees.{IsDecidedExactly}
 use Rattle.wi_base.specs.declared.no_memory.NoMemory.{NoMemory}
 use Rattle.wi_branch.specs.declared.refused.ExactRefused.{ExactRefused}
 use Rattle.wi_branch.specs.declared.refused.ExactRefused.TheVariants as refused
-use Rattle.wi_branch.specs.Exactly.{IsInexact}
+use Rattle.wi_branch.specs.Exactly.{IsExactRefused}
 use Rattle.wi_settle.specs.declared.settled.Asked.{Asked}
 use Rattle.wi_settle.specs.declared.settled.Asked.TheVariants as asked_as
 use Rattle.wi_settle.specs.private.Asking.{IsAsked, asked_by}
@@ -40,6 +40,6 @@ pub asked_is : (problem : Problem) (answer : Answer) → IsDecidedExactly proble
 asked_is problem answer h = told problem answer.word (option_map components answer.weight) answer.run answer.verdict h
 
 -- that there is none
-pub open_asked : (r : Result Asked NoMemory) (problem : Problem) (cause : ExactRefused) → IfOk r (λ asked. asked ≡ asked_as.Open) → OnOk r (cause ≡ refused.Memory → ⊥) → IsInexact problem 10000 cause → IfOk r (IsAsked problem)
+pub open_asked : (r : Result Asked NoMemory) (problem : Problem) (cause : ExactRefused) → IfOk r (λ asked. asked ≡ asked_as.Open) → OnOk r (cause ≡ refused.Memory → ⊥) → IsExactRefused problem 10000 cause → IfOk r (IsAsked problem)
 open_asked (Ok asked) problem cause is decided h = subst (λ (x : Asked). IsAsked problem x) (sym is) (cause, decided, h)
 open_asked (Err error) problem cause is decided h = tt

@@ -12,7 +12,7 @@ use Rattle.wi_world.specs.Runs.{used_by}
 use Rattle.wi_build.specs.Problems.{Problem, asks, within}
 use Rattle.wi_branch.specs.declared.refused.ExactRefused.{ExactRefused}
 use Rattle.wi_branch.specs.declared.refused.ExactRefused.TheVariants as refused
-use Rattle.wi_branch.specs.Exactly.{IsInexact}
+use Rattle.wi_branch.specs.Exactly.{IsExactRefused}
 use Rattle.wi_branch.specs.Tolerance.{HasTrace}
 use Rattle.wi_outage.specs.Outages.{IsGroup}
 use Rattle.wi_outage.specs.Survival.{with_down}
@@ -28,7 +28,7 @@ during problem links = within problem (with_down problem.bounds links)
 abbrev pub IsFound : Problem → Found → Type 0
 IsFound problem Yes = HasTrace problem
 IsFound problem No = HasTrace problem → ⊥
-IsFound problem Open = (cause : ExactRefused) × (cause ≡ refused.Memory → ⊥) × IsInexact problem 10000 cause
+IsFound problem Open = (cause : ExactRefused) × (cause ≡ refused.Memory → ⊥) × IsExactRefused problem 10000 cause
 
 -- A matching trace under some failed links, and the links that it uses. The failed links are whole risk groups, all that are known to be
 -- down and none that is known to be up; they may be more than the bounds allow, since an outage may take some of them out.

@@ -14,7 +14,7 @@ use Rattle.wi_decide.specs.Showing.{IsSmallRun}
 use Rattle.wi_decide.specs.declared.searching.LeastRun.{LeastRun}
 use Rattle.wi_decide.specs.declared.refused.SearchRefused.{SearchRefused}
 use Rattle.wi_decide.specs.declared.refused.SearchRefused.TheVariants as search
-use Rattle.wi_decide.specs.Searches.{IsUnsearched}
+use Rattle.wi_decide.specs.Searches.{IsSearchRefused}
 use Rattle.wi_branch.specs.declared.opened.Opened.{Opened}
 use Rattle.wi_branch.specs.declared.opened.Opened.TheVariants as opened
 use Rattle.wi_branch.specs.declared.refused.ExactRefused.{ExactRefused}
@@ -100,8 +100,8 @@ pub record IsOpenedAt (problem : Problem) (branch : Bounds) (now after : Opening
 
 -- why a branch can't be opened, after these nodes
 abbrev pub IsStoppedAt : Problem → Option (List ℕ) → List Opened → ExactRefused → Type 0
-IsStoppedAt problem cut nodes (Overflow opened head target w) = (opened ≡ nodes) × IsUnsearched problem cut (search.Overflow head target w)
-IsStoppedAt problem cut nodes (TooLong opened n) = (opened ≡ nodes) × IsUnsearched problem cut (search.TooLong n)
+IsStoppedAt problem cut nodes (Overflow opened head target w) = (opened ≡ nodes) × IsSearchRefused problem cut (search.Overflow head target w)
+IsStoppedAt problem cut nodes (TooLong opened n) = (opened ≡ nodes) × IsSearchRefused problem cut (search.TooLong n)
 IsStoppedAt problem cut nodes (NodeLimit opened) = ⊥
 IsStoppedAt problem cut nodes Memory = Unit {0}
 

@@ -267,7 +267,8 @@ pub entry_read : (problem : Problem) (at : Arrival) (net : Net) (items : List (L
     → slice_get (entry problem.net at.link at.top) j ≡ Some members
 entry_read problem at net items j g members are same lt is eq = read_there items (entry problem.net at.link at.top) j g members (are ∙ ap (λ (n : Net). entry n at.link at.top) same) lt is eq
 
-drop_there : {X : Type 0} (xs : List X) (j : ℕ) (x : X) → slice_get xs j ≡ Some x → drop j xs ≡ x ∷ drop (suc j) xs
+-- what is left of a list from a place on
+pub drop_there : {X : Type 0} (xs : List X) (j : ℕ) (x : X) → slice_get xs j ≡ Some x → drop j xs ≡ x ∷ drop (suc j) xs
 drop_there [] j x e = cc
 drop_there (y ∷ xs) zero x e = let same : y ≡ x = cc in ap (λ z. z ∷ xs) same
 drop_there (y ∷ xs) (suc j) x e = drop_there xs j x e

@@ -10,6 +10,7 @@ pub mod Fit
 pub mod NeedsLemmas
 pub mod StateLemmas
 pub mod RowLemmas
+pub mod FirstLemmas
 pub mod HopLemmas
 pub mod HeadLemmas
 pub mod KindLemmas

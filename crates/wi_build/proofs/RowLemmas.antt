@@ -1,5 +1,5 @@
 -- Rules that code makes, and those of the definitions.
-use Rattle.std.proofs.Common.{◌≡◌, ℕ, zero, suc, ◌+◌, ◌<◌, Bool, true, false, not, List, [], ◌∷◌, ◌++◌, length, map, Result, Ok, Err, OnOk, refl, sym, ap, ◌∙◌, arith, append_assoc, append-nil, add-one, zero-add}
+use Rattle.std.proofs.Common.{◌≡◌, ℕ, zero, suc, ◌+◌, ◌<◌, Bool, true, false, List, [], ◌∷◌, ◌++◌, length, map, Result, Ok, Err, OnOk, refl, sym, ap, ◌∙◌, arith, append_assoc, append-nil, add-one, zero-add}
 use Rattle.std.proofs.lemmas.Bool.{lt-ltb}
 use Rattle.std.specs.List.{filter, flat_map, range_with_len}
 use Rattle.std.specs.Prelude.{if◌then◌else◌}
@@ -7,8 +7,6 @@ use Rattle.wi_weight.specs.declared.kinds.Pair.{Pair}
 use Rattle.wi_weight.specs.declared.kinds.Terms.{Terms}
 use Rattle.wi_weight.specs.declared.kinds.Effort.{Effort}
 use Rattle.wi_net.specs.declared.parts.LinkId.{LinkId}
-use Rattle.wi_net.specs.LinkSet.{has, links_from}
-use Rattle.wi_net.specs.Net.{links_where}
 use Rattle.wi_pds.specs.declared.rule.Rule.{Rule}
 use Rattle.wi_rules.specs.declared.spot.Spot.{Spot}
 use Rattle.wi_pds.specs.declared.rule.Word2.TheVariants.{Empty, One, Two}
@@ -92,7 +90,7 @@ more_listed f old now new i before step =
     ∙ ap (λ t. old ++ t) (sym (up_to_more f i))
 
 -- the numbers that pass a test, one by one
-filtered : {X Y : Type 0} (p : X → Bool) (f : X → List Y) (xs : List X) → flat_map (λ x. if p x then f x else []) xs ≡ flat_map f (filter p xs)
+pub filtered : {X Y : Type 0} (p : X → Bool) (f : X → List Y) (xs : List X) → flat_map (λ x. if p x then f x else []) xs ≡ flat_map f (filter p xs)
 filtered p f [] = refl
 filtered p f (x ∷ xs) = go (p x) refl (filtered p f xs)
   where
@@ -125,12 +123,12 @@ label_row s head q l w qs old new m e states put =
     each_row s head way.Build (record { word = Two (l + 1) head.symbol; weight = w; origin = Pushed (record { 0 = l }) }) (zeros s) qs (s.first_before q l) old new (build_rules s q head.symbol l) e states put (rw (m, add-one) refl)
 
 -- those that set out on a link
-pub first_link_row : (s : Encoding) (head : Head) (n : ℕ) (e : LinkId) (w : Pair Terms Effort) (qs : List ℕ) (old new : Listing) → has s.bounds.down e ≡ false → head.symbol ≡ suc n
+pub first_link_row : (s : Encoding) (head : Head) (n : ℕ) (e : LinkId) (w : Pair Terms Effort) (qs : List ℕ) (old new : Listing) → head.symbol ≡ suc n
     → w ≡ weight (s.first_share e ++ 1 ∷ []) → qs ≡ s.path.next 0 e.0
     → new ≡ old ++ map (λ q. rule_made s head (spot_on (way.OnLink e) q) (record { word = One head.symbol; weight = w; origin = SetOut e })) qs
-    → new ≡ old ++ rules_for s head (if not (has s.bounds.down e) then set_out_rules s n e else [])
-first_link_row s head n e w qs old new d g we states put =
-    each_row s head (way.OnLink e) (record { word = One head.symbol; weight = w; origin = SetOut e }) (s.first_share e) qs (s.path.next 0 e.0) old new (if not (has s.bounds.down e) then set_out_rules s n e else []) we states put (rw (d, g) refl)
+    → new ≡ old ++ rules_for s head (set_out_rules s n e)
+first_link_row s head n e w qs old new g we states put =
+    each_row s head (way.OnLink e) (record { word = One head.symbol; weight = w; origin = SetOut e }) (s.first_share e) qs (s.path.next 0 e.0) old new (set_out_rules s n e) we states put (rw g refl)
 
 -- those that read a label
 pub close_row : (s : Encoding) (head : Head) (q n : ℕ) (made : Made) (qs : List ℕ) (old new : Listing) → made ≡ plain_made Empty → s.terms ≡ 5 → head.symbol ≡ suc n → n < length s.net.classes → qs ≡ s.last.next q n
@@ -151,24 +149,8 @@ begun_all s =
 pub start_done : (s : Encoding) (head : Head) (old new : Listing) (i n : ℕ) → head.symbol ≡ 0 → n ≡ s.first.states → i ≡ n → new ≡ old ++ rules_for s head (up_to (begun s) i) → new ≡ old ++ rules_for s head (rules_of s Start head.symbol)
 start_done s head old new i n g states is put = put ∙ ap (λ t. old ++ rules_for s head t) (ap (up_to (begun s)) (is ∙ states) ∙ begun_all s ∙ ap (rules_of s Start) (sym g))
 
--- the rules that set out on the link of a number, if that isn't known to be down, and all of them
-abbrev pub setting_out : Encoding → ℕ → ℕ → List SpotRule
-setting_out s n e = if not (has s.bounds.down (record { 0 = e })) then set_out_rules s n (record { 0 = e }) else []
-
-setting_out_all : (s : Encoding) (n : ℕ) → up_to (setting_out s n) (length s.net.links) ≡ flat_map (set_out_rules s n) (links_where s.net (λ e. not (has s.bounds.down e)))
-setting_out_all s n =
-    let link : ℕ → LinkId = λ i. record { 0 = i } in
-    let some : LinkId → List SpotRule = λ e. if not (has s.bounds.down e) then set_out_rules s n e else [] in
-    sym (flat_mapped link some (range_with_len 0 (length s.net.links)))
-    ∙ filtered (λ e. not (has s.bounds.down e)) (set_out_rules s n) (links_from 0 (length s.net.links))
-
-pub links_done : (s : Encoding) (head : Head) (n : ℕ) (old new : Listing) (i m : ℕ) → m ≡ length s.net.links → i ≡ m → new ≡ old ++ rules_for s head (up_to (setting_out s n) i)
-    → new ≡ old ++ rules_for s head (flat_map (set_out_rules s n) (links_where s.net (λ e. not (has s.bounds.down e))))
-links_done s head n old new i m links is put = put ∙ ap (λ t. old ++ rules_for s head t) (ap (up_to (setting_out s n)) (is ∙ links) ∙ setting_out_all s n)
-
 pub all_listed : (f : ℕ → Listing) (old new : Listing) (i n : ℕ) → i ≡ n → new ≡ old ++ up_to f i → new ≡ old ++ flat_map f (range_with_len 0 n)
 all_listed f old new i n is put = put ∙ ap (λ k. old ++ up_to f k) is
 
-pub all_made : (problem asked : Problem) (xs ys : Listing) (i n : ℕ) → problem ≡ asked → n ≡ spot_count (layout_of (encoding_of problem)) → i ≡ n → ys ≡ up_to (spot_rules (encoding_of problem)) i → xs ≡ ys → xs ≡ all_rules (encoding_of asked)
-all_made problem asked xs ys i n same count is put e =
-    e ∙ put ∙ ap (up_to (spot_rules (encoding_of problem))) (is ∙ count) ∙ ap (λ (g : Problem). all_rules (encoding_of g)) same
+pub all_made : (problem : Problem) (xs ys : Listing) (i n : ℕ) → n ≡ spot_count (layout_of (encoding_of problem)) → i ≡ n → ys ≡ up_to (spot_rules (encoding_of problem)) i → xs ≡ ys → xs ≡ all_rules (encoding_of problem)
+all_made problem xs ys i n count is put e = e ∙ put ∙ ap (up_to (spot_rules (encoding_of problem))) (is ∙ count)

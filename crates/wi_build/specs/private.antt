@@ -4,3 +4,4 @@ pub mod Small
 pub mod Needs
 pub mod Rows
 pub mod Hops
+pub mod First

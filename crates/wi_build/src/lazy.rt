@@ -1,7 +1,7 @@
 //! A query may reach few of the states that there are, so the rules of a head are made when they are asked for, in one walk over
 //! what they are of, and aren't kept: whoever asks again has them made again.
 ghost use Rattle.std.specs.List.{list_all, flat_map, range_with_len};
-ghost use Rattle.std.specs.Prelude.{◌≡◌, suc, ◌∷◌, [], ◌++◌, ◌<◌, length, map, OnOk, ◌^◌, Some, true, slice_get, take, IfSome, not, if◌then◌else◌};
+ghost use Rattle.std.specs.Prelude.{◌≡◌, suc, ◌∷◌, [], ◌++◌, ◌<◌, length, map, OnOk, IfOk, ◌^◌, Some, true, slice_get, take, IfSome, not, if◌then◌else◌};
 ghost use Rattle.wi_build.specs.Encodings.{encoding_of};
 ghost use Rattle.wi_build.specs.Problems.{IsProblem};
 ghost use Rattle.wi_build.specs.private.Rows.{rule_made, head_rules, spot_on, rules_for};
@@ -20,6 +20,7 @@ ghost use Rattle.wi_rules.specs.Numbers.{Fits, layout_of, spot_of};
 ghost use Rattle.wi_rules.specs.Rules.{may_build, written, first_written, lost_by, plain, build_rules, set_out_rules};
 ghost use Rattle.wi_rules.specs.declared.spot.Spot.{Spot};
 
+use crate::first::first_links;
 use crate::head::{Arrival, Head, Made, Way, operation, plain};
 use crate::layout::Layout;
 use crate::needs::Needs;
@@ -43,6 +44,8 @@ use wi_rules::{Origin, Spot};
 pub struct LazySystem<'a> {
     problem: &'a Problem<'a>,
     layout: Layout,
+    // Where a packet may set out. Each label on top asks for that, and mostly it is few of the links.
+    first: Vec<LinkId>,
 }
 
 impl<'a> Model for LazySystem<'a> {
@@ -52,6 +55,7 @@ impl<'a> Model for LazySystem<'a> {
     ghost use Rattle.wi_build.specs.Problems.{Problem};
     ghost use Rattle.std.specs.Prelude.{◌≡◌};
     ghost use Rattle.wi_build.specs.Encodings.{encoding_of};
+    ghost use Rattle.wi_build.specs.private.First.{first_links};
     ghost use Rattle.wi_rules.specs.Numbers.{layout_of};
 
     ghost Value = { Problem };
@@ -60,19 +64,20 @@ impl<'a> Model for LazySystem<'a> {
 
     ghost view = { λ s. s.problem.now };
 
-    ghost invariant = { λ s. s.layout ≡ layout_of (encoding_of s.problem.now) };
+    ghost invariant = { λ s. (s.layout ≡ layout_of (encoding_of s.problem.now)) × (s.first.items ≡ first_links (encoding_of s.problem.now)) };
 }
 
 impl<'a> LazySystem<'a> {
-    /// The rules of a problem. It takes no memory.
-    pub fn of(problem: &'a Problem<'a>) -> LazySystem<'a>
-        ensures { result ≡ problem.now }
+    /// The rules of a problem. It keeps the links on which the path lets a packet set out.
+    pub fn of(alloc: Global, problem: &'a Problem<'a>) -> Result<LazySystem<'a>, NoMemory>
+        ensures { IfOk result (λ system. system ≡ problem.now) }
     {
         problem.keeps();
-        LazySystem {
+        Ok(LazySystem {
             problem,
             layout: Layout::of(problem.net(), problem.query()),
-        }
+            first: first_links(alloc, problem)?,
+        })
     }
 
     /// How its spots are numbered.
@@ -176,13 +181,6 @@ impl<'a> LazySystem<'a> {
         self.network().counts().labels
     }
 
-    /// How many links there are.
-    pub(crate) fn links(&self) -> u32
-        ensures { result ≡ length self.now.net.links }
-    {
-        self.network().counts().links
-    }
-
     /// The spot of a number, if there is one.
     pub(crate) fn spot_of(&self, number: u64) -> Option<Spot>
         ensures value { result ≡ spot_of (layout_of (encoding_of self.now)) number }
@@ -240,13 +238,6 @@ impl<'a> LazySystem<'a> {
         ensures { states_left holds result ≡ (encoding_of self.now).last.next state label.0 }
     {
         after(&self.query().last, state, label.0)
-    }
-
-    /// Whether a link is known to be down.
-    pub(crate) fn is_down(&self, link: LinkId) -> bool
-        ensures { result ≡ has self.now.bounds.down link }
-    {
-        self.limits().down.contains(link)
     }
 
     /// Whether a label may be pushed on a symbol where a header is made from the bottom up.
@@ -431,7 +422,7 @@ impl<'a> LazySystem<'a> {
         self.push_each(rules, head, states, Way::Build, made)
     }
 
-    /// Build in its first state: each link that isn't known to be down may be the first.
+    /// Build in its first state: each link that isn't known to be down, and by which the path goes on, may be the first.
     pub(crate) fn push_first_links(
         &self,
         rules: &mut Vec<Rule<Weight>>,
@@ -441,14 +432,14 @@ impl<'a> LazySystem<'a> {
         requires { head.symbol ≡ suc top.0 }
         ensures { OnOk result (rules.new.items ≡ rules.old.items ++ rules_for (encoding_of self.now) head (flat_map (set_out_rules (encoding_of self.now) top.0) (links_where self.now.net (λ e. not (has self.now.bounds.down e))))) }
     {
-        rules.reserve(self.links() as usize)?;
-        for link in 0..self.links() {
-            self.push_first_link(rules, head, top, LinkId(link))?;
+        rules.reserve(self.first.len())?;
+        for link in &self.first {
+            self.push_first_link(rules, head, top, *link)?;
         }
         Ok(())
     }
 
-    // The rules that set out on a link, if it isn't known to be down.
+    // The rules that set out on a link.
     fn push_first_link(
         &self,
         rules: &mut Vec<Rule<Weight>>,
@@ -458,12 +449,9 @@ impl<'a> LazySystem<'a> {
     ) -> Result<(), NoMemory>
         requires symbol { head.symbol ≡ suc top.0 }
         requires link { link.0 < length self.now.net.links }
-        ensures { OnOk result (rules.new.items ≡ rules.old.items ++ rules_for (encoding_of self.now) head (if not (has self.now.bounds.down link) then set_out_rules (encoding_of self.now) top.0 link else [])) }
+        ensures { OnOk result (rules.new.items ≡ rules.old.items ++ rules_for (encoding_of self.now) head (set_out_rules (encoding_of self.now) top.0 link)) }
     {
         self.keeps();
-        if self.is_down(link) {
-            return Ok(());
-        }
         let made = Made {
             word: Word2::One(head.symbol),
             weight: self.first_weight(link),
@@ -560,9 +548,9 @@ impl<'a> LazySystem<'a> {
     /// Puts the rules of a head at the end of a list.
     ///
     /// What it costs: one walk over what these rules are of, with the states that come after or before: all labels where a
-    /// header is made, all links where the packet sets out, and on a link the groups of its row, as far as what must have failed
-    /// may be down. What the groups before need is carried along. Where a packet may be dropped there, the row is gone over twice
-    /// more, once to its end, for what all its groups need.
+    /// header is made, the links on which the packet may set out, and on a link the groups of its row, as far as what must have
+    /// failed may be down. What the groups before need is carried along. Where a packet may be dropped there, the row is gone over
+    /// twice more, once to its end, for what all its groups need.
     pub(crate) fn push_head(
         &self,
         alloc: Global,

@@ -2,6 +2,7 @@
 //! them in a list.
 #![tactic(auto)]
 
+mod first;
 mod head;
 mod laws;
 mod layout;

@@ -29,18 +29,28 @@ fn push_spot(
     Ok(())
 }
 
-/// The rules of a problem, those of all heads in a list: by rising spot, then by rising symbol.
-pub fn build(alloc: Global, problem: &Problem<'_>) -> Result<RuleList<Weight>, NoMemory>
+// The rules of a system.
+fn list_of(alloc: Global, system: &LazySystem<'_>) -> Result<RuleList<Weight>, NoMemory>
     ensures start { IfOk result (λ list. list.start ≡ (0, 0)) }
-    ensures rules { IfOk result (λ list. list.rules ≡ all_rules (encoding_of problem.now)) }
+    ensures rules { IfOk result (λ list. list.rules ≡ all_rules (encoding_of system.now)) }
 {
-    let system = LazySystem::of(problem);
     let mut rules = Vec::new(alloc);
     for spot in 0..system.layout().spots() {
-        push_spot(alloc, &system, &mut rules, spot)?;
+        push_spot(alloc, system, &mut rules, spot)?;
     }
     Ok(RuleList {
         start: (0, 0),
         rules: Listed::of(rules),
     })
+}
+
+/// The rules of a problem, those of all heads in a list: by rising spot, then by rising symbol.
+pub fn build(alloc: Global, problem: &Problem<'_>) -> Result<RuleList<Weight>, NoMemory>
+    ensures start { IfOk result (λ list. list.start ≡ (0, 0)) }
+    ensures rules { IfOk result (λ list. list.rules ≡ all_rules (encoding_of problem.now)) }
+{
+    let system = LazySystem::of(alloc, problem)?;
+    let list = list_of(alloc, &system);
+    drop(system);
+    list
 }

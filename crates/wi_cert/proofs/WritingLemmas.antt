@@ -67,12 +67,17 @@ front_put c start a b h i j = rw (j, i, h) refl
 pub text_parts : (c : Certificate) → text c ≡ front_text c ++ closed_text c
 text_parts c = flat_map-append ended (title_line certificate_front c.shown.dropped ∷ shown_lines c.shown) (closed_lines c.closed ++ codes "end" ∷ [])
 
--- the whole text
-pub text_put : (c : Certificate) (b d e : List ℕ) → b ≡ front_text c → d ≡ b ++ flat_map ended (closed_lines c.closed) → e ≡ d ++ codes "end\n" → e ≡ text c
-text_put c b d e j k l = rw (l, k, j) (sym (text_parts c ∙ parts (front_text c) (closed_lines c.closed)))
+-- the lines from `heads` on
+pub rest_put : {E : Type 0} (c : Certificate) (out d e : List ℕ) (answer : Result (Unit {0}) E) → d ≡ out ++ flat_map ended (closed_lines c.closed) → OnOk answer (e ≡ d ++ codes "end\n") → OnOk answer (e ≡ out ++ closed_text c)
+rest_put c out d e (Ok done) k l = rw (l, k) (sym (parts out (closed_lines c.closed)))
   where
     parts : (f : List ℕ) (l : List (List ℕ)) → f ++ flat_map ended (l ++ codes "end" ∷ []) ≡ (f ++ flat_map ended l) ++ codes "end\n"
     parts f l = simp (flat_map-append, append_assoc, append-nil) refl
+rest_put c out d e (Err why) k l = tt
+
+-- the whole text
+pub text_put : (c : Certificate) (b e : List ℕ) → b ≡ front_text c → e ≡ b ++ closed_text c → e ≡ text c
+text_put c b e j k = rw (k, j) (sym (text_parts c))
 
 shown_parts : (a b d e f : List ℕ) (xs ys : List (List ℕ)) → flat_map ended (a ∷ b ∷ d ∷ e ∷ f ∷ (xs ++ ys)) ≡ ended a ++ (ended b ++ (ended d ++ (ended e ++ (ended f ++ (flat_map ended xs ++ flat_map ended ys)))))
 shown_parts a b d e f xs ys = simp (flat_map-append, append_assoc) refl

@@ -25,8 +25,7 @@ pub fn encode(alloc: Global, certificate: &Certificate) -> Result<Vec<u8>, NoMem
     ensures { IfOk result (λ bytes. IsText certificate.now bytes.items) }
 {
     let mut out = encode_front(alloc, certificate)?;
-    put_closed(&mut out, &certificate.closed)?;
-    put(&mut out, b"end\n")?;
+    put_rest(&mut out, certificate)?;
     Ok(out)
 }
 
@@ -41,12 +40,13 @@ pub fn encode_within(
     ensures short { IfOk result (λ _. length (closed_text certificate.now) ≤ limit) }
     ensures long { IsErrOf result EncodeRefused.TooLong → limit < length (closed_text certificate.now) }
 {
-    let front = encode_front(alloc, certificate)?;
-    let text = encode(alloc, certificate)?;
-    if text.len() - front.len() > limit {
+    let mut out = encode_front(alloc, certificate)?;
+    let front = out.len();
+    put_rest(&mut out, certificate)?;
+    if out.len() - front > limit {
         return Err(EncodeRefused::TooLong);
     }
-    Ok(text)
+    Ok(out)
 }
 
 // The lines of a certificate's text before `heads`, which show the answer.
@@ -63,6 +63,15 @@ fn encode_front(alloc: Global, certificate: &Certificate) -> Result<Vec<u8>, NoM
     )?;
     put_shown(&mut out, &certificate.shown)?;
     Ok(out)
+}
+
+// Writes the lines from `heads` on.
+fn put_rest(out: &mut Vec<u8>, certificate: &Certificate) -> Result<(), NoMemory>
+    ensures text { OnOk result (out.new.items ≡ out.old.items ++ closed_text certificate.now) }
+    ensures ranges { OnOk result (HasClosedRanges certificate.now.closed) }
+{
+    put_closed(out, &certificate.closed)?;
+    put(out, b"end\n")
 }
 
 // Writes the bytes at the end.

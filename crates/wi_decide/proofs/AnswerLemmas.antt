@@ -29,7 +29,7 @@ use Rattle.wi_decide.specs.Spelled.{AreRulesFor}
 use Rattle.wi_decide.specs.declared.refused.SearchRefused.{SearchRefused}
 use Rattle.wi_decide.specs.declared.refused.SearchRefused.TheVariants.{Overflow, TooLong, Memory}
 use Rattle.wi_decide.specs.private.Tables.{HasTable, IsNoTable, IsNotShown, IsTable}
-use Rattle.wi_decide.specs.Searches.{AllFitBelow, IsLeastBelow, IsTooLongBelow, IsUnsearched}
+use Rattle.wi_decide.specs.Searches.{AllFitBelow, IsLeastBelow, IsTooLongBelow, IsSearchRefused}
 use Rattle.wi_accept.proofs.OrderLemmas.{below_within, not_less, within_below}
 use Rattle.wi_accept.proofs.RuleLemmas.{answers_pop, pops_answer}
 use Rattle.wi_accept.proofs.WeightLemmas.{six_components, effort_at}
@@ -98,14 +98,14 @@ module _ (problem : Problem) (k : IsProblem problem) where
           record { run = m.0; w = components b; least = is_least m.0 m.1; effort = effort_is m.0 m.1; long = long; fits = all_fit }
 
       -- it is what is shown, or its effort is over the limit
-      pub not_shown : (refused : SearchRefused) → IsNotShown b.second.count refused → IsUnsearched problem (option_map components cut) refused
+      pub not_shown : (refused : SearchRefused) → IsNotShown b.second.count refused → IsSearchRefused problem (option_map components cut) refused
       not_shown (Overflow head target w) h = absurd h
       not_shown (TooLong n) h = subst (λ (m : ℕ). IsTooLongBelow problem (option_map components cut) m) (sym h.0) (too_long h.1)
       not_shown Memory h = tt
 
 -- without a table a summary doesn't fit
 pub no_table : (problem : Problem) (cut : Option (Pair Terms Effort)) (heads pairs : List (ℕ × ℕ)) (refused : SearchRefused) → AreLeastClosed (rules problem) (0, 0) heads pairs
-    → IsNoTable problem heads cut refused → IsUnsearched problem (option_map components cut) refused
+    → IsNoTable problem heads cut refused → IsSearchRefused problem (option_map components cut) refused
 no_table problem cut heads pairs (Overflow head target w) closed h = record { heads = heads; pairs = pairs; closed = closed; overflow = h }
 no_table problem cut heads pairs (TooLong n) closed h = absurd h
 no_table problem cut heads pairs Memory closed h = tt

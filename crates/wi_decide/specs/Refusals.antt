@@ -25,10 +25,10 @@ abbrev pub IsTooLong : Problem → ℕ → Type 0
 IsTooLong problem n = IsTooLongBelow problem None n
 
 -- an overflow is told before a run that is too long
-abbrev pub IsUndecided : Problem → DecideRefused → Type 0
-IsUndecided problem (Overflow w) = IsOverflowing problem (components w)
-IsUndecided problem (TooLong n) = IsTooLong problem n
-IsUndecided problem Memory = Unit {0}
+abbrev pub IsDecideRefused : Problem → DecideRefused → Type 0
+IsDecideRefused problem (Overflow w) = IsOverflowing problem (components w)
+IsDecideRefused problem (TooLong n) = IsTooLong problem n
+IsDecideRefused problem Memory = Unit {0}
 
 -- neither refusal is due
 pub record IsUnrefused (problem : Problem) (a : Answer) : Type 0 where

@@ -53,10 +53,10 @@ IsFound problem cut None = NoRunBelow problem.net (asks problem) (weighs problem
 IsFound problem cut (Some found) = IsLeastBelow problem cut (components found.weight) found.run × (effort_of problem.net found.run ≤ 4096)
 
 -- why it isn't known
-abbrev pub IsUnsearched : Problem → Option (List ℕ) → SearchRefused → Type 0
-IsUnsearched problem cut (Overflow head target w) = IsOverflowingBelow problem cut head target (components w)
-IsUnsearched problem cut (TooLong n) = IsTooLongBelow problem cut n
-IsUnsearched problem cut Memory = Unit {0}
+abbrev pub IsSearchRefused : Problem → Option (List ℕ) → SearchRefused → Type 0
+IsSearchRefused problem cut (Overflow head target w) = IsOverflowingBelow problem cut head target (components w)
+IsSearchRefused problem cut (TooLong n) = IsTooLongBelow problem cut n
+IsSearchRefused problem cut Memory = Unit {0}
 
 -- what bounds every run then: the weight of the run that was found, or the cut
 abbrev pub bound_with : Option (List ℕ) → Option LeastRun → Option (List ℕ)

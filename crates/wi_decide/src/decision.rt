@@ -6,7 +6,7 @@ ghost use Rattle.wi_decide.specs.Searches.{IsFound};
 ghost use Rattle.wi_accept.specs.Answers.{IsDecided};
 ghost use Rattle.wi_accept.specs.Causes.{IsAccepted};
 ghost use Rattle.wi_accept.specs.Makers.{IsMaker};
-ghost use Rattle.wi_decide.specs.Refusals.{IsUndecided, IsUnrefused};
+ghost use Rattle.wi_decide.specs.Refusals.{IsDecideRefused, IsUnrefused};
 
 use crate::certificate::shown_of;
 use crate::refused::DecideRefused;
@@ -24,7 +24,7 @@ pub fn decide(alloc: Global, problem: &Problem<'_>) -> Result<(Answer, Certifica
     ensures decided { IfOk result (λ found. IsDecided problem.now found.0) }
     ensures made { IfOk result (λ found. IsMaker problem.now found.0 found.1) }
     ensures accepted { IfOk result (λ found. IsAccepted problem.now found.1) }
-    ensures refused { IfErr result (IsUndecided problem.now) }
+    ensures refused { IfErr result (IsDecideRefused problem.now) }
     ensures unrefused { IfOk result (λ found. IsUnrefused problem.now found.0) }
 {
     problem.keeps();

@@ -12,7 +12,7 @@ ghost use Rattle.wi_witness.specs.GoalRuns.{IsNamedRun};
 ghost use Rattle.wi_build.specs.Problems.{Problem, IsAnswering};
 ghost use Rattle.wi_build.specs.Encodings.{encoding_of};
 ghost use Rattle.wi_build.specs.Systems.{scale, rules_by};
-ghost use Rattle.wi_decide.specs.Searches.{AllFitBelow, IsFound, IsUnsearched, IsWrittenDown, bound_with};
+ghost use Rattle.wi_decide.specs.Searches.{AllFitBelow, IsFound, IsSearchRefused, IsWrittenDown, bound_with};
 ghost use Rattle.wi_decide.specs.private.Tables.{IsTable, HasTable, IsNoTable, IsNotShown};
 
 use crate::certificate::closed_of;
@@ -61,10 +61,12 @@ pub fn search(
     ensures closed { IfOk result (λ s. IsWrittenDown problem.now (bound_with (option_map components cut) s.found) s.closed) }
     ensures fits { OnOk result (AllFitBelow problem.now (option_map components cut)) }
     ensures small { IfOk result (λ s. IfSome s.found (λ found. EachBelow (2 ^ 64) (components found.weight))) }
-    ensures refused { IfErr result (IsUnsearched problem.now (option_map components cut)) }
+    ensures refused { IfErr result (IsSearchRefused problem.now (option_map components cut)) }
 {
-    let system = LazySystem::of(problem);
-    search_by(alloc, &system, cut)
+    let system = LazySystem::of(alloc, problem)?;
+    let searched = search_by(alloc, &system, cut);
+    drop(system);
+    searched
 }
 
 // What is found for the problem of a system.
@@ -77,7 +79,7 @@ fn search_by(
     ensures closed { IfOk result (λ s. IsWrittenDown system.now (bound_with (option_map components cut) s.found) s.closed) }
     ensures fits { OnOk result (AllFitBelow system.now (option_map components cut)) }
     ensures small { IfOk result (λ s. IfSome s.found (λ found. EachBelow (2 ^ 64) (components found.weight))) }
-    ensures refused { IfErr result (IsUnsearched system.now (option_map components cut)) }
+    ensures refused { IfErr result (IsSearchRefused system.now (option_map components cut)) }
 {
     system.keeps();
     let heads = reach(alloc, system)?;
@@ -136,7 +138,7 @@ fn found_of(
     requires { (cut : Option (Pair Terms Effort)) × HasTable system.now cut table.now }
     ensures weight { IfOk result (λ found. option_map (λ f. f.weight) found ≡ table.now.best) }
     ensures found { IfOk result (λ found. (cut : Option (Pair Terms Effort)) → HasTable system.now cut table.now → IsFound system.now (option_map components cut) found) }
-    ensures refused { IfErr result (λ refused. (cut : Option (Pair Terms Effort)) → HasTable system.now cut table.now → IsUnsearched system.now (option_map components cut) refused) }
+    ensures refused { IfErr result (λ refused. (cut : Option (Pair Terms Effort)) → HasTable system.now cut table.now → IsSearchRefused system.now (option_map components cut) refused) }
 {
     system.keeps();
     let Some(weight) = table.best() else {

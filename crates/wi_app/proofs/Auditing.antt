@@ -1,5 +1,5 @@
 -- Policies that are asked one after the other.
-use Rattle.std.proofs.Common.{◌≡◌, ℕ, ◌<◌, true, List, length, Option, Some, inl, inr, refl, sym, subst, ◌∙◌, arith}
+use Rattle.std.proofs.Common.{◌≡◌, ℕ, ◌<◌, true, List, length, Some, inl, inr, refl, sym, subst, ◌∙◌, arith}
 use Rattle.wi_base.specs.declared.shelf.CallKind.TheVariants.{Fetch}
 use Rattle.wi_base.specs.Shelf.{ShelfSeen, IsLonger}
 use Rattle.wi_base.specs.Sink.{SinkSeen}
@@ -26,7 +26,7 @@ use Rattle.wi_outcome.specs.declared.refusal.Refusal.{Refusal}
 use Rattle.wi_outcome.specs.declared.refusal.Refusal.TheVariants.{CannotRead, Given, LongPolicies, Memory, Policies}
 use Rattle.wi_files.specs.Policies.{ArePolicies, FromPoliciesFile, FromPoliciesOver, HoldsPolicies, IsBadGiven}
 use Rattle.wi_files.specs.Shelves.{IsCalm}
-use Rattle.wi_files.proofs.Causes.{longer}
+use Rattle.wi_files.proofs.Causes.{longer, one_held}
 use Rattle.wi_files.proofs.Giving.{given_fine, one_given}
 use Rattle.wi_app.specs.Audited.{AreTested, EndsAudited, IsBrokenOff}
 use Rattle.wi_app.specs.Run.{DoesBy}
@@ -66,9 +66,6 @@ given_wants : (net : Net) (text : List ℕ) (given : Bounds) (refusal : Refusal)
 given_wants net text given (Given said) is cause = absurd (cause.due (given_fine net text given cause.fault is cause.first))
 given_wants net text given Memory is cause = refl
 given_wants net text given refusal is cause = elim cause [ ]
-
-pub one_held : (file : Option (List ℕ)) (a b : List ℕ) → file ≡ Some a → file ≡ Some b → a ≡ b
-one_held file a b first second = let both : Some a ≡ Some b = sym first ∙ second in cc
 
 file_wants : (old new : ShelfSeen) (net : Net) (given : Bounds) (name : List ℕ) (policies : List Policy) (refusal : Refusal) → old.told ≡ true → HoldsPolicies old name net given policies → IsCalm old new
     → FromPoliciesFile old new net given name refusal → status_of refusal ≡ 11

@@ -1,10 +1,3 @@
-pub mod Answers
-pub mod Ending
-pub mod Asking
-pub mod Checking
-pub mod Exactly
-pub mod Tolerating
-pub mod Protecting
 pub mod Auditing
 pub mod Outcomes
 pub mod Written

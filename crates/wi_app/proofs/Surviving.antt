@@ -21,11 +21,12 @@ use Rattle.wi_words.specs.declared.Content.{Content}
 use Rattle.wi_words.specs.Commands.{Asking, Ask, Verify, Exact, Wanted, command_of}
 use Rattle.wi_outcome.specs.Edges.{Prints}
 use Rattle.wi_outcome.specs.declared.refusal.Refusal.TheVariants.{CannotPrint, Memory}
-use Rattle.wi_app.specs.Decided.{IsReported, status_for}
-use Rattle.wi_app.specs.Exact.{IsReportedExactly}
-use Rattle.wi_app.specs.Run.{AreAnswered, Does, ForAsking, IsAnswered}
+use Rattle.wi_ask.specs.Decided.{IsReported, status_for}
+use Rattle.wi_ask.specs.Exact.{IsReportedExactly}
+use Rattle.wi_ask.specs.Asked.{ForAsking}
+use Rattle.wi_app.specs.Run.{AreAnswered, Does, IsAnswered}
 use Rattle.wi_app.specs.Surviving.{IsSurvived, IsSurvivedMoving}
-use Rattle.wi_app.specs.Wanted.{IsGiven}
+use Rattle.wi_ask.specs.Wanted.{IsGiven}
 use Rattle.wi_app.proofs.Written.{unanswered_high, why_high}
 
 -- ---- a status of 1 is a no

@@ -52,10 +52,10 @@ use Rattle.wi_outcome.specs.declared.refusal.Refusal.TheVariants.{BadStack, Netw
 use Rattle.wi_files.specs.Certificates.{IsCertificateFile, IsTreeStored}
 use Rattle.wi_files.specs.Networks.{HoldsNetwork}
 use Rattle.wi_files.specs.Shelves.{IsCalm, OthersStand}
-use Rattle.wi_app.specs.Asked.{ForAsked}
-use Rattle.wi_app.specs.Certificates.{IsBelieved, IsBelievedFile, IsStored}
-use Rattle.wi_app.specs.Decided.{IsReported}
-use Rattle.wi_app.specs.Exact.{IsBelievedTreeFile, IsReportedExactly, IsTreeBelieved}
+use Rattle.wi_ask.specs.Asked.{ForAsked}
+use Rattle.wi_ask.specs.Certificates.{IsBelieved, IsBelievedFile, IsStored}
+use Rattle.wi_ask.specs.Decided.{IsReported}
+use Rattle.wi_ask.specs.Exact.{IsBelievedTreeFile, IsReportedExactly, IsTreeBelieved}
 use Rattle.wi_app.specs.Run.{AreAnswered, CanBeAnswered, Completes, Does, IsAnswered, IsCutShort, IsRefused, IsStatus, TellsFor}
 
 -- ---- the text isn't too long to be read

@@ -1,12 +1,4 @@
-pub mod Asked
-pub mod Certificates
-pub mod Decided
-pub mod Exact
-pub mod Tolerance
-pub mod Wanted
-pub mod Drawn
 pub mod Audited
-pub mod Generated
 pub mod Run
 pub mod Surviving
 pub mod private

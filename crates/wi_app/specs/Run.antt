@@ -6,31 +6,27 @@ use Rattle.wi_base.specs.declared.sink.PutRefused.{PutRefused}
 use Rattle.wi_net.specs.Net.{Net}
 use Rattle.wi_query.specs.declared.query.Query.{Query}
 use Rattle.wi_quantity.specs.declared.vector.Part.{Part}
-use Rattle.wi_build.specs.Problems.{Problem, problem_of}
-use Rattle.wi_words.specs.Commands.{Asking, Auditing, Command, Ask, Play, Gen, Protect, Stack, Audit, Bypass, Draw, command_of}
+use Rattle.wi_build.specs.Problems.{problem_of}
+use Rattle.wi_words.specs.Commands.{Auditing, Command, Ask, Play, Gen, Protect, Stack, Audit, Bypass, Draw, command_of}
 use Rattle.wi_outcome.specs.Edges.{Prints, SaysWhy, Untouched, unprinted}
 use Rattle.wi_outcome.specs.declared.refusal.Refusal.{Refusal}
 use Rattle.wi_outcome.specs.declared.refusal.Refusal.TheVariants.{Memory, Usage}
 use Rattle.wi_files.specs.Asked.{IsAsked}
-use Rattle.wi_files.specs.Bypassing.{FromBypassing, HasNoDraft, IsBypassed}
+use Rattle.wi_make.specs.Bypassing.{FromBypassing, HasNoDraft, IsBypassed}
 use Rattle.wi_files.specs.Networks.{FromNetwork, HoldsNetwork}
 use Rattle.wi_files.specs.Policies.{FromPolicies}
-use Rattle.wi_files.specs.OnWire.{FromHex, IsShownHex, ShowsNoStack}
-use Rattle.wi_files.specs.Protection.{FromProtecting, HasNoProtection, IsProtected}
-use Rattle.wi_files.specs.Scripts.{FromPlaying, IsPlay, IsPlayed}
+use Rattle.wi_make.specs.OnWire.{FromHex, IsShownHex, ShowsNoStack}
+use Rattle.wi_make.specs.Protection.{FromProtecting, HasNoProtection, IsProtected}
+use Rattle.wi_make.specs.Scripts.{FromPlaying, IsPlay, IsPlayed}
 use Rattle.wi_files.specs.Shelves.{IsCalm, IsLeft}
-use Rattle.wi_app.specs.Asked.{ForAsked, FromAsked}
+use Rattle.wi_ask.specs.Asked.{ForAsked, ForAsking, FromAsking}
 use Rattle.wi_app.specs.Audited.{AreTold, EndsAudited, ForPolicies, IsBrokenOff}
-use Rattle.wi_app.specs.Decided.{EndsUndecided}
-use Rattle.wi_app.specs.Drawn.{IsDrawn}
-use Rattle.wi_app.specs.Generated.{ForRing, FromRing, IsSummary}
-use Rattle.wi_app.specs.Wanted.{CanBeGiven, FromWanted, IsGiven, IsStatusFor, IsStoredFor}
+use Rattle.wi_ask.specs.Decided.{EndsByDecision}
+use Rattle.wi_make.specs.Drawn.{IsDrawn}
+use Rattle.wi_ask.specs.Generated.{ForRing, FromRing, IsSummary}
+use Rattle.wi_ask.specs.Wanted.{CanBeGiven, FromWanted, IsGiven, IsStatusFor, IsStoredFor}
 
 -- ---- answers
--- texts ask something of the network whose file is held under a name, and this is so of the problem that they ask
-abbrev pub ForAsking : ShelfSeen → Asking → (Problem → Type 0) → Type 0
-ForAsking shelf asking P = (net : Net) × (shelf.told ≡ true → HoldsNetwork (shelf.file asking.network) net) × ForAsked net asking.query asking.weights P
-
 -- an answer to a command: where the shelf tells, over the files that it holds under the names, and with what it then holds
 abbrev pub IsAnswered : ShelfSeen → ShelfSeen → Command → ℕ → List ℕ → Type 0
 IsAnswered old new (Ask asking wanted) status text = ForAsking old asking (λ problem. IsGiven wanted old new problem status text)
@@ -56,9 +52,7 @@ IsStoredBy _ under = ⊥
 -- the network file is the cause; or, that being a network's, what is asked of it, or another file; or what is asked of a ring; or the
 -- text that is to be bytes
 abbrev pub FromCommand : ShelfSeen → ShelfSeen → Command → Refusal → Type 0
-FromCommand old new (Ask asking wanted) refusal =
-    FromNetwork old new asking.network refusal
-    ⊎ ((net : Net) × (old.told ≡ true → HoldsNetwork (old.file asking.network) net) × FromAsked (FromWanted wanted old new) old new net asking.query asking.weights refusal)
+FromCommand old new (Ask asking wanted) refusal = FromAsking (FromWanted wanted old new) old new asking refusal
 FromCommand old new (Play name script k) refusal = FromPlaying old new name script k refusal
 FromCommand old new (Gen seed size) refusal = IsCalm old new × FromRing seed size refusal
 FromCommand old new (Protect name) refusal = FromProtecting old new name refusal
@@ -130,7 +124,7 @@ CanBeAnswered shelf (Draw name) = (net : Net) × HoldsNetwork (shelf.file name) 
 abbrev pub IsStatus : ShelfSeen → Command → ℕ → Type 0
 IsStatus shelf (Ask asking wanted) status = (net : Net) × HoldsNetwork (shelf.file asking.network) net × ForAsked net asking.query asking.weights (λ problem. IsStatusFor wanted problem status)
 IsStatus shelf (Play name script k) status = status ≡ 0
-IsStatus shelf (Gen seed size) status = (status ≡ 0) ⊎ ForRing seed size (λ problem. EndsUndecided problem status)
+IsStatus shelf (Gen seed size) status = (status ≡ 0) ⊎ ForRing seed size (λ problem. EndsByDecision problem status)
 IsStatus shelf (Protect name) status = (status ≡ 0) ⊎ ((status ≡ 15) × ((bytes : List ℕ) × (shelf.file name ≡ Some bytes) × HasNoProtection bytes))
 IsStatus shelf (Bypass name) status = (status ≡ 0) ⊎ (status ≡ 1) ⊎ ((status ≡ 15) × ((bytes : List ℕ) × (shelf.file name ≡ Some bytes) × HasNoDraft bytes))
 IsStatus shelf (Stack hex) status = (status ≡ 0) ⊎ ((status ≡ 16) × ShowsNoStack hex)

@@ -6,12 +6,10 @@ ghost use Rattle.wi_words.specs.Shown.{printing_shown};
 ghost use Rattle.wi_files.specs.Shelves.{IsCalm, IsLeft, StandBut};
 ghost use Rattle.wi_app.specs.Run.{DoesBy, FromCommand, IsAnswered, IsStoredBy};
 
-use crate::ask::ask;
-use crate::draw::draw;
-use crate::ring::summary_of_ring;
 use std::alloc::Global;
+use wi_ask::{ask, summary_of_ring};
 use wi_base::{Shelf, Sink};
-use wi_files::{bypass, play, protect, stack};
+use wi_make::{bypass, draw, play, protect, stack};
 use wi_outcome::{Printed, Refusal, print, say};
 use wi_words::Printing;
 

@@ -5,7 +5,8 @@ ghost use Rattle.wi_base.specs.Sink.{SinkSeen};
 ghost use Rattle.wi_words.specs.Commands.{Asking, Ask, Verify, Check, Exact, CheckExact, command_of};
 ghost use Rattle.wi_words.specs.declared.Content.{Content};
 ghost use Rattle.wi_files.specs.Shelves.{IsCalm, OthersStand};
-ghost use Rattle.wi_app.specs.Run.{Completes, Does, ForAsking};
+ghost use Rattle.wi_ask.specs.Asked.{ForAsking};
+ghost use Rattle.wi_app.specs.Run.{Completes, Does};
 ghost use Rattle.wi_app.specs.Surviving.{IsSurvived, IsSurvivedMoving};
 
 /// Where `verify` answers and its certificate isn't stored in the place of the network, `check` of that file with the same texts

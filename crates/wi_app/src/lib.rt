@@ -3,17 +3,8 @@
 
 mod answer;
 mod app;
-mod ask;
 mod audit;
-mod check;
-mod check_exact;
-mod decided;
-mod draw;
-mod exact;
 mod laws;
-mod ring;
-mod tolerate;
-mod verify;
 
 pub use app::run;
 pub use laws::{

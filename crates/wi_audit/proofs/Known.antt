@@ -21,7 +21,7 @@ use Rattle.wi_accept.specs.Trees.{IsDecidedExactly}
 use Rattle.wi_base.specs.declared.no_memory.NoMemory.{NoMemory}
 use Rattle.wi_branch.specs.declared.refused.ExactRefused.{ExactRefused}
 use Rattle.wi_branch.specs.declared.refused.ExactRefused.TheVariants as refused
-use Rattle.wi_branch.specs.Exactly.{IsInexact}
+use Rattle.wi_branch.specs.Exactly.{IsExactRefused}
 use Rattle.wi_report.specs.Reports.{IsKnownRun}
 use Rattle.wi_audit.specs.declared.outcome.Outcome.{Outcome}
 use Rattle.wi_audit.specs.declared.outcome.Outcome.TheVariants.{Open}
@@ -57,7 +57,7 @@ exact_known problem a h = run_known problem.net (asks problem) (weighs problem) 
 
 -- ---- where there is none
 
-pub open_outcome : (r : Result Outcome NoMemory) (problem : Problem) (cause : ExactRefused) → IfOk r (λ o. o ≡ Open cause) → OnOk r (cause ≡ refused.Memory → ⊥) → IsInexact problem 10000 cause → IfOk r (λ o. IsOutcome problem o)
+pub open_outcome : (r : Result Outcome NoMemory) (problem : Problem) (cause : ExactRefused) → IfOk r (λ o. o ≡ Open cause) → OnOk r (cause ≡ refused.Memory → ⊥) → IsExactRefused problem 10000 cause → IfOk r (λ o. IsOutcome problem o)
 open_outcome (Err e) problem cause is decided none = tt
 open_outcome (Ok o) problem cause is decided none = rw is (decided, none)
 

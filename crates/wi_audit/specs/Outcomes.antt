@@ -9,7 +9,7 @@ use Rattle.wi_query.specs.declared.query.Query.{Query}
 use Rattle.wi_cert.specs.declared.tree.TreeCertificate.{TreeCertificate}
 use Rattle.wi_build.specs.Problems.{Problem, IsProblem, problem_of}
 use Rattle.wi_branch.specs.declared.refused.ExactRefused.TheVariants as refused
-use Rattle.wi_branch.specs.Exactly.{IsExact, IsInexact}
+use Rattle.wi_branch.specs.Exactly.{IsExact, IsExactRefused}
 use Rattle.wi_policy.specs.declared.policy.Policy.{Policy}
 use Rattle.wi_policy.specs.Policies.{IsAsked}
 use Rattle.wi_audit.specs.declared.outcome.Outcome.{Outcome}
@@ -20,7 +20,7 @@ use Rattle.wi_audit.specs.declared.outcome.Fulfilment.TheVariants as fulfilment
 -- the exact answer to a problem, by a tree of so many nodes, at most 10,000; or why there is none
 abbrev pub IsOutcome : Problem → Outcome → Type 0
 IsOutcome problem (Answered answer nodes) = (tree : TreeCertificate) × IsExact problem 10000 answer tree × (nodes ≡ length tree.nodes)
-IsOutcome problem (Open cause) = (cause ≡ refused.Memory → ⊥) × IsInexact problem 10000 cause
+IsOutcome problem (Open cause) = (cause ≡ refused.Memory → ⊥) × IsExactRefused problem 10000 cause
 
 -- two words are one
 abbrev pub same_word : Word → Word → Bool

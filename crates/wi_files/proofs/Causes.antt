@@ -1,5 +1,5 @@
 -- What is a cause of a refusal.
-use Rattle.std.proofs.Common.{◌≡◌, ℕ, ◌<◌, Bool, true, false, List, [], ◌∷◌, ◌++◌, length, length-append, Option, Some, None, Result, Ok, Err, ap, refl, subst, sym, arith}
+use Rattle.std.proofs.Common.{◌≡◌, ℕ, ◌<◌, Bool, true, false, List, [], ◌∷◌, ◌++◌, length, length-append, Option, Some, None, Result, Ok, Err, ap, refl, subst, sym, ◌∙◌, arith}
 use Rattle.std.specs.Prelude.{nat_le, IfErr, MatchOption}
 use Rattle.std.specs.Result.{IsErrAnd}
 use Rattle.std.proofs.lemmas.Bool.{leb-true}
@@ -39,3 +39,7 @@ err_as P (Err x) e is holds = subst P (sym is) holds
 -- a call more that failed is seen
 pub longer : {X : Type 0} (xs : List X) (x : X) → xs ++ x ∷ [] ≡ xs → ⊥
 longer xs x e = let count : length (xs ++ x ∷ []) ≡ length xs = ap length e in let more = length-append xs (x ∷ []) in absurd (omega (arith, count, more))
+
+-- a file has one content
+pub one_held : (file : Option (List ℕ)) (a b : List ℕ) → file ≡ Some a → file ≡ Some b → a ≡ b
+one_held file a b first second = let both : Some a ≡ Some b = sym first ∙ second in cc

@@ -20,11 +20,11 @@ IsKept None shelf c = Unit {0}
 IsKept (Some name) shelf c = (bytes : List ℕ) × IsText c bytes × (length (closed_text c) ≤ 268000000) × (shelf.told ≡ true → shelf.file name ≡ Some bytes)
 
 -- it is too long, or isn't and the call that was to store it failed
-abbrev pub IsNotKept : ShelfSeen → ShelfSeen → Option (List ℕ) → Certificate → Refusal → Type 0
-IsNotKept old new file c NotWritten = IsCalm old new × IsNamed file × (268000000 < length (closed_text c))
-IsNotKept old new file c (CannotWrite named said) = (file ≡ Some named.now) × (length (closed_text c) ≤ 268000000) × StoreFailed said named.now old new
-IsNotKept old new file c Memory = IsCalm old new
-IsNotKept old new file c refusal = ⊥
+abbrev pub FromKeeping : ShelfSeen → ShelfSeen → Option (List ℕ) → Certificate → Refusal → Type 0
+FromKeeping old new file c NotWritten = IsCalm old new × IsNamed file × (268000000 < length (closed_text c))
+FromKeeping old new file c (CannotWrite named said) = (file ≡ Some named.now) × (length (closed_text c) ≤ 268000000) × StoreFailed said named.now old new
+FromKeeping old new file c Memory = IsCalm old new
+FromKeeping old new file c refusal = ⊥
 
 -- ---- a tree stored
 -- the tree's text stands under the name, if there is one
@@ -37,11 +37,11 @@ abbrev pub IsLarge : TreeCertificate → Type 0
 IsLarge tree = 268435456 < length (tree_text tree)
 
 -- the tree is too large, or isn't and the call that was to store it failed
-abbrev pub IsTreeNotKept : ShelfSeen → ShelfSeen → Option (List ℕ) → TreeCertificate → Refusal → Type 0
-IsTreeNotKept old new file t TreeNotWritten = IsCalm old new × IsNamed file × IsLarge t
-IsTreeNotKept old new file t (CannotWrite named said) = (file ≡ Some named.now) × (IsLarge t → ⊥) × StoreFailed said named.now old new
-IsTreeNotKept old new file t Memory = IsCalm old new
-IsTreeNotKept old new file t refusal = ⊥
+abbrev pub FromKeepingTree : ShelfSeen → ShelfSeen → Option (List ℕ) → TreeCertificate → Refusal → Type 0
+FromKeepingTree old new file t TreeNotWritten = IsCalm old new × IsNamed file × IsLarge t
+FromKeepingTree old new file t (CannotWrite named said) = (file ≡ Some named.now) × (IsLarge t → ⊥) × StoreFailed said named.now old new
+FromKeepingTree old new file t Memory = IsCalm old new
+FromKeepingTree old new file t refusal = ⊥
 
 -- ---- two trees stored
 -- the text of the second tree stands under the second name, if there are names; where there is no second tree, what stood there
@@ -61,14 +61,14 @@ IsOneLarge first (Some second) = IsLarge first ⊎ IsLarge second
 
 -- the trees are to be stored under the name, if there is one, and can't be: neither is where one is too large, and where neither is
 -- too large and the second can't be, the first is
-abbrev pub AreUnstored : ShelfSeen → ShelfSeen → Option (List ℕ) → TreeCertificate → Option TreeCertificate → Refusal → Type 0
-AreUnstored old new file first second TreeNotWritten = IsCalm old new × IsNamed file × IsOneLarge first second
-AreUnstored old new file first second (CannotWrite named said) = (file ≡ Some named.now) × (IsOneLarge first second → ⊥) × StoreFailed said named.now old new
-AreUnstored old new file first second (CannotWriteBelow named said) =
+abbrev pub FromKeepingTrees : ShelfSeen → ShelfSeen → Option (List ℕ) → TreeCertificate → Option TreeCertificate → Refusal → Type 0
+FromKeepingTrees old new file first second TreeNotWritten = IsCalm old new × IsNamed file × IsOneLarge first second
+FromKeepingTrees old new file first second (CannotWrite named said) = (file ≡ Some named.now) × (IsOneLarge first second → ⊥) × StoreFailed said named.now old new
+FromKeepingTrees old new file first second (CannotWriteBelow named said) =
     (file ≡ Some named.now) × (IsOneLarge first second → ⊥) × IsTreeStored file new first × StoreFailed said (below_name named.now) old new
-AreUnstored old new file first second (NoMemoryBelow named) = (file ≡ Some named.now) × (IsOneLarge first second → ⊥) × IsTreeStored file new first × IsCalm old new
-AreUnstored old new file first second Memory = IsCalm old new
-AreUnstored old new file first second refusal = ⊥
+FromKeepingTrees old new file first second (NoMemoryBelow named) = (file ≡ Some named.now) × (IsOneLarge first second → ⊥) × IsTreeStored file new first × IsCalm old new
+FromKeepingTrees old new file first second Memory = IsCalm old new
+FromKeepingTrees old new file first second refusal = ⊥
 
 -- ---- read
 -- bytes are the file's, if the shelf tells it, and they aren't too many

@@ -1,9 +1,5 @@
 pub mod Shelves
 pub mod Networks
-pub mod Scripts
-pub mod Protection
-pub mod Bypassing
-pub mod OnWire
 pub mod Asked
 pub mod Policies
 pub mod Certificates

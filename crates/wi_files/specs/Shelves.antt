@@ -4,7 +4,7 @@ use Rattle.wi_base.specs.declared.shelf.CallKind.TheVariants.{Fetch, Store}
 use Rattle.wi_base.specs.Shelf.{ShelfSeen}
 use Rattle.wi_outcome.specs.Texts.{cannot_read_text, cannot_write_text}
 use Rattle.wi_outcome.specs.declared.refusal.Refusal.{Refusal}
-use Rattle.wi_outcome.specs.declared.refusal.Refusal.TheVariants.{CannotWrite, CannotWriteBelow, NoMemoryBelow}
+use Rattle.wi_outcome.specs.declared.refusal.Refusal.TheVariants.{CannotRead, CannotWrite, CannotWriteBelow, Memory, NoMemoryBelow}
 
 -- every file stands, but for those of such names
 abbrev pub StandBut : (List ℕ → Type 0) → ShelfSeen → ShelfSeen → Type 0
@@ -33,6 +33,12 @@ IsCalm old new = new.failed ≡ old.failed
 -- the call that was to fetch this file failed, and no other, and this is said of it
 abbrev pub FetchFailed : List ℕ → List ℕ → ShelfSeen → ShelfSeen → Type 0
 FetchFailed said name old new = (said ≡ cannot_read_text name) × (new.failed ≡ old.failed ++ (Fetch, name) ∷ [])
+
+-- the call that was to fetch this file failed, or found no memory
+abbrev pub IsUnread : ShelfSeen → ShelfSeen → List ℕ → Refusal → Type 0
+IsUnread old new name (CannotRead said) = FetchFailed said name old new
+IsUnread old new name Memory = IsCalm old new
+IsUnread old new name refusal = ⊥
 
 -- the call that was to store under this name failed, and no other, and this is said of it
 abbrev pub StoreFailed : List ℕ → List ℕ → ShelfSeen → ShelfSeen → Type 0

@@ -5,7 +5,7 @@ ghost use Rattle.wi_cert.specs.Reading.{fed, unread};
 ghost use Rattle.wi_cert.specs.Sheets.{certificates};
 ghost use Rattle.wi_cert.specs.Text.{IsBadLine, IsText, IsWritable};
 ghost use Rattle.wi_base.specs.Shelf.{IsPart};
-ghost use Rattle.wi_files.specs.Certificates.{FromLines, IsCertificateFile, IsKept, IsNotKept};
+ghost use Rattle.wi_files.specs.Certificates.{FromLines, IsCertificateFile, IsKept, FromKeeping};
 ghost use Rattle.wi_files.specs.Shelves.{AllStand, IsCalm, IsLeft, OthersStand};
 ghost use Rattle.wi_files.specs.private.Stages.{FromParts};
 
@@ -37,7 +37,7 @@ pub fn store_certificate<'a, S: Shelf>(
     ensures left { IfErr result (λ refusal. IsLeft refusal (S.seen shelf.old) (S.seen shelf.new)) }
     ensures calm { OnOk result (IsCalm (S.seen shelf.old) (S.seen shelf.new)) }
     ensures kept { OnOk result (IsKept (Some name.now) (S.seen shelf.new) certificate.now) }
-    ensures refused { IfErr result (λ refusal. IsNotKept (S.seen shelf.old) (S.seen shelf.new) (Some name.now) certificate.now refusal) }
+    ensures refused { IfErr result (λ refusal. FromKeeping (S.seen shelf.old) (S.seen shelf.new) (Some name.now) certificate.now refusal) }
 {
     let text = match encode_within(alloc, certificate, WRITTEN_LIMIT) {
         Ok(text) => text,

@@ -2,15 +2,10 @@
 //! to the shelf, so that it needn't read a longer file to its end. A network's bytes are in memory until it is read.
 ghost use Rattle.std.specs.Prelude.{◌≡◌, true, ◌≤◌, ℕ, List, Ok, Some, IfOk, IfErr, IfSome, MatchOption, vec_len, length};
 ghost use Rattle.wi_base.specs.Shelf.{IsLonger};
-ghost use Rattle.wi_net.specs.declared.bounds.Bounds.{Bounds};
 ghost use Rattle.wi_netjson.specs.File.{network_of};
 ghost use Rattle.wi_netjson.specs.Reading.{Fails};
-ghost use Rattle.wi_net.specs.Net.{Net};
 ghost use Rattle.wi_files.specs.Networks.{FromNetwork, HoldsNetwork};
-ghost use Rattle.wi_files.specs.Policies.{FromPoliciesFile};
-ghost use Rattle.wi_files.specs.Scripts.{FromScript};
-ghost use Rattle.wi_files.specs.Shelves.{AllStand, IsCalm};
-ghost use Rattle.wi_files.specs.private.Stages.{IsUnread};
+ghost use Rattle.wi_files.specs.Shelves.{AllStand, IsCalm, IsUnread};
 
 use std::alloc::Global;
 use wi_base::{FetchRefused, Shelf};
@@ -22,7 +17,7 @@ use wi_outcome::{Refusal, cannot_read};
 pub const NETWORK_LIMIT: u32 = 67_108_864;
 
 /// The most bytes of a script, and of a file of policies.
-const LINES_LIMIT: u32 = 1_048_576;
+pub const LINES_LIMIT: u32 = 1_048_576;
 
 /// The network that a file means.
 pub fn network<'a, S: Shelf>(
@@ -61,46 +56,8 @@ pub fn network_bytes<'a, S: Shelf>(
     }
 }
 
-/// The bytes of a script, for a network.
-pub fn script_bytes<'a, S: Shelf>(
-    alloc: Global,
-    name: &'a str,
-    shelf: &mut S,
-) -> Result<Vec<u8>, Refusal<'a>>
-    ensures told { (S.seen shelf.new).told ≡ (S.seen shelf.old).told }
-    ensures files { AllStand (S.seen shelf.old) (S.seen shelf.new) }
-    ensures calm { IfOk result (λ _. IsCalm (S.seen shelf.old) (S.seen shelf.new)) }
-    ensures short { IfOk result (λ bytes. length bytes.items ≤ 1048576) }
-    ensures found { (S.seen shelf.old).told ≡ true → IfOk result (λ bytes. (S.seen shelf.old).file name.now ≡ Some bytes.items) }
-    ensures refused { (net : Net) (k : ℕ) → IfErr result (λ refusal. FromScript (S.seen shelf.old) (S.seen shelf.new) net name.now k refusal) }
-{
-    match bytes_within(alloc, name, LINES_LIMIT, shelf)? {
-        Some(bytes) => Ok(bytes),
-        None => Err(Refusal::LongScript),
-    }
-}
-
-/// The bytes of a file of policies, for a network and what is given.
-pub fn policies_bytes<'a, S: Shelf>(
-    alloc: Global,
-    name: &'a str,
-    shelf: &mut S,
-) -> Result<Vec<u8>, Refusal<'a>>
-    ensures told { (S.seen shelf.new).told ≡ (S.seen shelf.old).told }
-    ensures files { AllStand (S.seen shelf.old) (S.seen shelf.new) }
-    ensures calm { IfOk result (λ _. IsCalm (S.seen shelf.old) (S.seen shelf.new)) }
-    ensures short { IfOk result (λ bytes. length bytes.items ≤ 1048576) }
-    ensures found { (S.seen shelf.old).told ≡ true → IfOk result (λ bytes. (S.seen shelf.old).file name.now ≡ Some bytes.items) }
-    ensures refused { (net : Net) (given : Bounds) → IfErr result (λ refusal. FromPoliciesFile (S.seen shelf.old) (S.seen shelf.new) net given name.now refusal) }
-{
-    match bytes_within(alloc, name, LINES_LIMIT, shelf)? {
-        Some(bytes) => Ok(bytes),
-        None => Err(Refusal::LongPolicies),
-    }
-}
-
-// The bytes of a file, or none where there are more than so many.
-fn bytes_within<'a, S: Shelf>(
+/// The bytes of a file, or none where there are more than so many.
+pub fn bytes_within<'a, S: Shelf>(
     alloc: Global,
     name: &'a str,
     limit: u32,

@@ -1,13 +1,15 @@
 //! What is given is read before the file of policies is fetched, so that its faults come first. A fault becomes its text while the
 //! network is there, since it may name a link.
-ghost use Rattle.std.specs.Prelude.{◌≡◌, ◌≤◌, ◌<◌, length, IfOk, IfErr};
+ghost use Rattle.std.specs.Prelude.{◌≡◌, ◌≤◌, ◌<◌, true, Some, length, IfOk, IfErr};
+ghost use Rattle.wi_net.specs.declared.bounds.Bounds.{Bounds};
+ghost use Rattle.wi_net.specs.Net.{Net};
 ghost use Rattle.wi_query.specs.Given.{IsGiven};
 ghost use Rattle.wi_policy.specs.Policies.{HasPolicies};
 ghost use Rattle.wi_files.specs.Policies.{ArePolicies, FromPolicies, FromPoliciesFile, FromPoliciesOver, HoldsPolicies, IsBadGiven};
 ghost use Rattle.wi_files.specs.Shelves.{AllStand, IsCalm};
 ghost use Rattle.wi_files.specs.private.Stages.{FromPolicyBytes};
 
-use crate::fetch::{network, policies_bytes};
+use crate::fetch::{LINES_LIMIT, bytes_within, network};
 use std::alloc::Global;
 use wi_base::{Listed, Shelf};
 use wi_net::{Bounds, Network};
@@ -102,6 +104,25 @@ fn policies_in<'a, S: Shelf>(
 {
     let bytes = policies_bytes(alloc, name, shelf)?;
     listed(alloc, net, given, bytes.as_slice())
+}
+
+// The bytes of a file of policies, for a network and what is given.
+fn policies_bytes<'a, S: Shelf>(
+    alloc: Global,
+    name: &'a str,
+    shelf: &mut S,
+) -> Result<Vec<u8>, Refusal<'a>>
+    ensures told { (S.seen shelf.new).told ≡ (S.seen shelf.old).told }
+    ensures files { AllStand (S.seen shelf.old) (S.seen shelf.new) }
+    ensures calm { IfOk result (λ _. IsCalm (S.seen shelf.old) (S.seen shelf.new)) }
+    ensures short { IfOk result (λ bytes. length bytes.items ≤ 1048576) }
+    ensures found { (S.seen shelf.old).told ≡ true → IfOk result (λ bytes. (S.seen shelf.old).file name.now ≡ Some bytes.items) }
+    ensures refused { (net : Net) (given : Bounds) → IfErr result (λ refusal. FromPoliciesFile (S.seen shelf.old) (S.seen shelf.new) net given name.now refusal) }
+{
+    match bytes_within(alloc, name, LINES_LIMIT, shelf)? {
+        Some(bytes) => Ok(bytes),
+        None => Err(Refusal::LongPolicies),
+    }
 }
 
 // The policies of the bytes of a file.

@@ -4,9 +4,9 @@ ghost use Rattle.std.specs.Prelude.{◌≡◌, ℕ, List, Some, IfOk, IfErr, OnO
 ghost use Rattle.wi_cert.specs.Reading.{fed, unread};
 ghost use Rattle.wi_cert.specs.Text.{IsBadLine};
 ghost use Rattle.wi_cert.specs.Trees.{IsTreeText, IsTreeWritable, trees};
-ghost use Rattle.wi_files.specs.Certificates.{FromLines, IsCertificateFile, IsTreeNotKept, IsTreeStored};
+ghost use Rattle.wi_files.specs.Certificates.{FromLines, IsCertificateFile, FromKeepingTree, IsTreeStored};
 ghost use Rattle.wi_files.specs.Shelves.{AllStand, IsCalm, IsLeft, OthersStand};
-ghost use Rattle.wi_files.specs.private.Stages.{FromParts, IsNotMade, IsTreeToStore};
+ghost use Rattle.wi_files.specs.private.Stages.{FromParts, FromMaking, IsTreeToStore};
 
 use crate::certificate_file::{READ_LIMIT, next_part};
 use crate::store::store;
@@ -19,7 +19,7 @@ use wi_outcome::Refusal;
 pub fn tree_bytes<'a>(alloc: Global, tree: &TreeCertificate) -> Result<Vec<u8>, Refusal<'a>>
     requires { IsTreeWritable tree.now }
     ensures text { IfOk result (λ bytes. IsTreeToStore tree.now bytes.items) }
-    ensures refused { IfErr result (IsNotMade tree.now) }
+    ensures refused { IfErr result (FromMaking tree.now) }
 {
     match encode_tree_within(alloc, tree, READ_LIMIT as usize) {
         Ok(bytes) => Ok(bytes),
@@ -41,7 +41,7 @@ pub fn store_tree<'a, S: Shelf>(
     ensures left { IfErr result (λ refusal. IsLeft refusal (S.seen shelf.old) (S.seen shelf.new)) }
     ensures calm { OnOk result (IsCalm (S.seen shelf.old) (S.seen shelf.new)) }
     ensures kept { OnOk result (IsTreeStored (Some name.now) (S.seen shelf.new) tree.now) }
-    ensures refused { IfErr result (λ refusal. IsTreeNotKept (S.seen shelf.old) (S.seen shelf.new) (Some name.now) tree.now refusal) }
+    ensures refused { IfErr result (λ refusal. FromKeepingTree (S.seen shelf.old) (S.seen shelf.new) (Some name.now) tree.now refusal) }
 {
     let bytes = tree_bytes(alloc, tree)?;
     let stored = store(alloc, name, bytes.as_slice(), shelf);

@@ -2,9 +2,9 @@
 //! at once.
 ghost use Rattle.std.specs.Prelude.{◌≡◌, true, Some, option_map, IfErr, IfOk, IfSome, OnOk, string_bytes};
 ghost use Rattle.wi_cert.specs.Trees.{IsTreeWritable};
-ghost use Rattle.wi_files.specs.Certificates.{AreTreesStored, AreUnstored};
+ghost use Rattle.wi_files.specs.Certificates.{AreTreesStored, FromKeepingTrees};
 ghost use Rattle.wi_files.specs.Shelves.{IsCalm, IsLeft, IsOfTwo, StandBut, below_name};
-ghost use Rattle.wi_files.specs.private.Stages.{AreUnstoredBytes};
+ghost use Rattle.wi_files.specs.private.Stages.{FromStoringBoth};
 
 use crate::store::store;
 use crate::tree_file::{store_tree, tree_bytes};
@@ -28,7 +28,7 @@ pub fn store_trees<'a, S: Shelf>(
     ensures left { IfErr result (λ refusal. IsLeft refusal (S.seen shelf.old) (S.seen shelf.new)) }
     ensures calm { OnOk result (IsCalm (S.seen shelf.old) (S.seen shelf.new)) }
     ensures stored { OnOk result (AreTreesStored (Some name.now) (S.seen shelf.old) (S.seen shelf.new) first.now (option_map (λ tree. tree.now) second.entry)) }
-    ensures refused { IfErr result (AreUnstored (S.seen shelf.old) (S.seen shelf.new) (Some name.now) first.now (option_map (λ tree. tree.now) second.entry)) }
+    ensures refused { IfErr result (FromKeepingTrees (S.seen shelf.old) (S.seen shelf.new) (Some name.now) first.now (option_map (λ tree. tree.now) second.entry)) }
 {
     match second {
         Some(second) => store_both(alloc, first, second, name, shelf),
@@ -51,7 +51,7 @@ fn store_both<'a, S: Shelf>(
     ensures left { IfErr result (λ refusal. IsLeft refusal (S.seen shelf.old) (S.seen shelf.new)) }
     ensures calm { OnOk result (IsCalm (S.seen shelf.old) (S.seen shelf.new)) }
     ensures stored { OnOk result (AreTreesStored (Some name.now) (S.seen shelf.old) (S.seen shelf.new) first.now (Some second.now)) }
-    ensures refused { IfErr result (AreUnstored (S.seen shelf.old) (S.seen shelf.new) (Some name.now) first.now (Some second.now)) }
+    ensures refused { IfErr result (FromKeepingTrees (S.seen shelf.old) (S.seen shelf.new) (Some name.now) first.now (Some second.now)) }
 {
     let first = tree_bytes(alloc, first)?;
     match tree_bytes(alloc, second) {
@@ -81,7 +81,7 @@ fn store_bytes<'a, S: Shelf>(
     ensures calm { OnOk result (IsCalm (S.seen shelf.old) (S.seen shelf.new)) }
     ensures first { (S.seen shelf.new).told ≡ true → OnOk result ((S.seen shelf.new).file name.now ≡ Some first.now) }
     ensures second { (S.seen shelf.new).told ≡ true → OnOk result ((S.seen shelf.new).file (below_name name.now) ≡ Some second.now) }
-    ensures refused { IfErr result (AreUnstoredBytes (S.seen shelf.old) (S.seen shelf.new) name.now first.now) }
+    ensures refused { IfErr result (FromStoringBoth (S.seen shelf.old) (S.seen shelf.new) name.now first.now) }
 {
     let below = below_name(alloc, name)?;
     let stored = store_in_turn(alloc, first, second, name, below.as_str(), shelf);
@@ -112,7 +112,7 @@ fn store_in_turn<'a, S: Shelf>(
     ensures calm { OnOk result (IsCalm (S.seen shelf.old) (S.seen shelf.new)) }
     ensures first { (S.seen shelf.new).told ≡ true → OnOk result ((S.seen shelf.new).file name.now ≡ Some first.now) }
     ensures second { (S.seen shelf.new).told ≡ true → OnOk result ((S.seen shelf.new).file (below_name name.now) ≡ Some second.now) }
-    ensures refused { IfErr result (AreUnstoredBytes (S.seen shelf.old) (S.seen shelf.new) name.now first.now) }
+    ensures refused { IfErr result (FromStoringBoth (S.seen shelf.old) (S.seen shelf.new) name.now first.now) }
 {
     let unwritten = cannot_write(alloc, below)?;
     store(alloc, name, first, shelf)?;

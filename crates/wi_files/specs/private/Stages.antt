@@ -1,93 +1,15 @@
 -- The causes and the outcomes of the steps within a reading or a storing.
-use Rattle.std.specs.Prelude.{◌≡◌, ℕ, ◌<◌, ◌≤◌, true, List, ◌++◌, length, codes, Some, Ok}
+use Rattle.std.specs.Prelude.{◌≡◌, ℕ, ◌≤◌, true, List, length, Some}
 use Rattle.wi_base.specs.Shelf.{ShelfSeen, IsLonger}
 use Rattle.wi_net.specs.declared.bounds.Bounds.{Bounds}
-use Rattle.wi_net.specs.declared.parts.LinkId.{LinkId}
 use Rattle.wi_net.specs.Net.{Net}
-use Rattle.wi_netjson.specs.File.{network_of}
-use Rattle.wi_netjson.specs.Reading.{Fails}
-use Rattle.wi_netjson.specs.Written.{text_of}
 use Rattle.wi_cert.specs.declared.tree.TreeCertificate.{TreeCertificate}
 use Rattle.wi_cert.specs.Trees.{IsTreeText}
-use Rattle.wi_plan.specs.declared.plan.Bypass.{Bypass}
-use Rattle.wi_plan.specs.declared.plan.Plan.{Plan}
-use Rattle.wi_plan.specs.Plans.{IsPlan}
-use Rattle.wi_bypass.specs.Bypasses.{AreFound, wanting, with_found}
 use Rattle.wi_outcome.specs.declared.refusal.Refusal.{Refusal}
-use Rattle.wi_outcome.specs.declared.refusal.Refusal.TheVariants.{BadStack, CannotRead, CannotWrite, CannotWriteBelow, LargeCertificate, LargeNetwork, Memory, Network, NoMemoryBelow, Policies as BadPolicies, Script as BadScript, TreeNotWritten}
-use Rattle.wi_files.specs.Bypassing.{FromDraft, left_unprotected, plan_status, printed_plan}
+use Rattle.wi_outcome.specs.declared.refusal.Refusal.TheVariants.{CannotRead, CannotWrite, CannotWriteBelow, LargeCertificate, Memory, NoMemoryBelow, Policies as BadPolicies, TreeNotWritten}
 use Rattle.wi_files.specs.Certificates.{IsLarge}
-use Rattle.wi_files.specs.OnWire.{IsRefusedStack}
 use Rattle.wi_files.specs.Policies.{HavePoliciesFault}
-use Rattle.wi_files.specs.Protection.{FromPlan, IsPlanned}
-use Rattle.wi_files.specs.Scripts.{IsBadScript}
 use Rattle.wi_files.specs.Shelves.{FetchFailed, IsCalm, StoreFailed, below_name}
-
--- ---- fetching
--- the call that was to fetch a file failed, or found no memory
-abbrev pub IsUnread : ShelfSeen → ShelfSeen → List ℕ → Refusal → Type 0
-IsUnread old new name (CannotRead said) = FetchFailed said name old new
-IsUnread old new name Memory = IsCalm old new
-IsUnread old new name refusal = ⊥
-
--- ---- play
--- the bytes of the script are the cause
-abbrev pub FromBytes : Net → ℕ → List ℕ → Refusal → Type 0
-FromBytes net k bytes (BadScript refused) = IsBadScript net k bytes refused
-FromBytes net k bytes Memory = Unit {0}
-FromBytes net k bytes refusal = ⊥
-
--- ---- protect
--- bytes are no network's, or their plan is the cause
-abbrev pub FromPlanFile : List ℕ → Refusal → Type 0
-FromPlanFile bytes (Network fault) = Fails fault (network_of bytes)
-FromPlanFile bytes refusal = FromPlan bytes refusal
-
--- the text of a network as a file, and a line feed, with which it is the network's still
-pub record IsWritten (net : Net) (text : List ℕ) : Type 0 where
-  pub short : length (text_of net) ≤ 67108864
-  pub text_is : text ≡ text_of net ++ codes "\n"
-  pub again : length text ≤ 67108864 → network_of text ≡ Ok net
-
--- it is too long
-abbrev pub FromWriting : Net → Refusal → Type 0
-FromWriting net LargeNetwork = 67108864 < length (text_of net)
-FromWriting net Memory = Unit {0}
-FromWriting net refusal = ⊥
-
--- ---- bypass
--- bytes are no network's, or their plan is the cause
-abbrev pub FromDraftFile : List ℕ → Refusal → Type 0
-FromDraftFile bytes (Network fault) = Fails fault (network_of bytes)
-FromDraftFile bytes refusal = FromDraft bytes refusal
-
--- a plan with what was found for it, and the inner links that have no detour then
-pub record IsFoundFor (net : Net) (plan whole : Plan) (lacking : List LinkId) : Type 0 where
-  pub found : List Bypass
-  pub are : AreFound net (wanting plan) found
-  pub whole_is : whole ≡ with_found plan found
-  pub plan_is : IsPlan net whole
-  pub lacking_is : lacking ≡ left_unprotected net whole
-
--- a plan is printed, and with what status; as a file it is that plan
-pub record IsPlanWritten (net : Net) (plan : Plan) (text : List ℕ) (status : ℕ) : Type 0 where
-  pub text_is : text ≡ printed_plan net plan
-  pub short : length text ≤ 67108864
-  pub again : IsPlanned text net plan
-  pub status_is : status ≡ plan_status (left_unprotected net plan)
-
--- it is too long
-abbrev pub FromPlanWriting : Net → Plan → Refusal → Type 0
-FromPlanWriting net plan LargeNetwork = 67108864 < length (printed_plan net plan)
-FromPlanWriting net plan Memory = Unit {0}
-FromPlanWriting net plan refusal = ⊥
-
--- ---- stack
--- bytes are the cause, which begin with no stack
-abbrev pub FromStack : List ℕ → Refusal → Type 0
-FromStack bytes (BadStack refused) = IsRefusedStack bytes refused
-FromStack bytes Memory = Unit {0}
-FromStack bytes refusal = ⊥
 
 -- ---- policies
 -- bytes are the cause, which have no policies
@@ -98,27 +20,27 @@ FromPolicyBytes net given bytes refusal = ⊥
 
 -- ---- storing
 -- the call that was to store under a name failed, or found no memory
-abbrev pub IsUnstored : ShelfSeen → ShelfSeen → List ℕ → Refusal → Type 0
-IsUnstored old new name (CannotWrite named said) = (Some name ≡ Some named.now) × StoreFailed said named.now old new
-IsUnstored old new name Memory = IsCalm old new
-IsUnstored old new name refusal = ⊥
+abbrev pub FromStoring : ShelfSeen → ShelfSeen → List ℕ → Refusal → Type 0
+FromStoring old new name (CannotWrite named said) = (Some name ≡ Some named.now) × StoreFailed said named.now old new
+FromStoring old new name Memory = IsCalm old new
+FromStoring old new name refusal = ⊥
 
 -- the same of two names, of which the first then has these bytes where the second fails
-abbrev pub AreUnstoredBytes : ShelfSeen → ShelfSeen → List ℕ → List ℕ → Refusal → Type 0
-AreUnstoredBytes old new name bytes (CannotWriteBelow named said) =
+abbrev pub FromStoringBoth : ShelfSeen → ShelfSeen → List ℕ → List ℕ → Refusal → Type 0
+FromStoringBoth old new name bytes (CannotWriteBelow named said) =
     (Some name ≡ Some named.now) × (new.told ≡ true → new.file name ≡ Some bytes) × StoreFailed said (below_name named.now) old new
-AreUnstoredBytes old new name bytes (NoMemoryBelow named) = (Some name ≡ Some named.now) × (new.told ≡ true → new.file name ≡ Some bytes) × IsCalm old new
-AreUnstoredBytes old new name bytes refusal = IsUnstored old new name refusal
+FromStoringBoth old new name bytes (NoMemoryBelow named) = (Some name ≡ Some named.now) × (new.told ≡ true → new.file name ≡ Some bytes) × IsCalm old new
+FromStoringBoth old new name bytes refusal = FromStoring old new name refusal
 
 -- bytes are the text of a tree that isn't too large to be written
 abbrev pub IsTreeToStore : TreeCertificate → List ℕ → Type 0
 IsTreeToStore t bytes = IsTreeText t bytes × (length bytes ≤ 268435456)
 
 -- it is too large
-abbrev pub IsNotMade : TreeCertificate → Refusal → Type 0
-IsNotMade t TreeNotWritten = IsLarge t
-IsNotMade t Memory = Unit {0}
-IsNotMade t refusal = ⊥
+abbrev pub FromMaking : TreeCertificate → Refusal → Type 0
+FromMaking t TreeNotWritten = IsLarge t
+FromMaking t Memory = Unit {0}
+FromMaking t refusal = ⊥
 
 -- ---- reading in parts
 -- a part couldn't be fetched, or there are too many bytes

@@ -1,8 +1,8 @@
-use Rattle.wi_files.specs.OnWire.{IsShownHex}
-use Rattle.wi_files.specs.Protection.{IsProtected}
-use Rattle.wi_files.specs.Scripts.{IsPlayed}
-use Rattle.wi_app.specs.Drawn.{IsDrawn}
-use Rattle.wi_app.specs.Generated.{IsSummary}
+use Rattle.wi_make.specs.OnWire.{IsShownHex}
+use Rattle.wi_make.specs.Protection.{IsProtected}
+use Rattle.wi_make.specs.Scripts.{IsPlayed}
+use Rattle.wi_make.specs.Drawn.{IsDrawn}
+use Rattle.wi_ask.specs.Generated.{IsSummary}
 use Rattle.wi_app.proofs.Outcomes.{with_status_0}
 use Rattle.wi_app.proofs.answer.answer_to.Goals as goal
 

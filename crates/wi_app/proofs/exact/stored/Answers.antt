@@ -1,5 +1,0 @@
-use Rattle.wi_files.proofs.Causes.{err_as}
-use Rattle.wi_app.proofs.exact.stored.Goals as goal
-
-pub returns-in_err-store_tree-clause-refused : goal.returns-in_err-store_tree-clause-refused
-returns-in_err-store_tree-clause-refused g c = err_as _ _ _ c.from_residual-in_err-store_tree.ensures.1 (rw c.in-Some.is c.in_err-store_tree.ensures.refused)

@@ -1,5 +1,0 @@
-use Rattle.std.proofs.Common.{rules}
-use Rattle.wi_app.proofs.tolerate.tolerance_status.Goals as goal
-
-pub returns-in-NoneUpTo : goal.returns-in-NoneUpTo
-returns-in-NoneUpTo c = search rules

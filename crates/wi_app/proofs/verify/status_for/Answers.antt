@@ -1,5 +1,0 @@
-use Rattle.std.proofs.Common.{rules}
-use Rattle.wi_app.proofs.verify.status_for.Goals as goal
-
-pub returns-in-Inconclusive : goal.returns-in-Inconclusive
-returns-in-Inconclusive c = search rules

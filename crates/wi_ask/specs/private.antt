@@ -1,0 +1,2 @@
+-- What only private contracts and proofs use: no public contract reaches it.
+pub mod Stages

@@ -1,5 +1,0 @@
-use Rattle.std.proofs.Common.{rules}
-use Rattle.wi_files.proofs.hex_text.is_written.Goals as goal
-
-pub returns : goal.returns
-returns c = search rules

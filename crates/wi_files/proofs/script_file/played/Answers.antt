@@ -1,5 +1,0 @@
-use Rattle.std.proofs.Common.{rules}
-use Rattle.wi_files.proofs.script_file.played.Goals as goal
-
-pub returns-in-Ok-states_of-clause-played : goal.returns-in-Ok-states_of-clause-played
-returns-in-Ok-states_of-clause-played c = search rules

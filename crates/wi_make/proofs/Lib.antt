@@ -1,0 +1,4 @@
+pub mod Playing
+mod HexLemmas
+mod Bypassing
+pub mod Protecting

@@ -148,7 +148,7 @@ fn listed_is(
     list: &RuleList<Weight>,
     heads: &[HeadCase],
 ) -> Result<(), Fail> {
-    let system = LazySystem::of(problem);
+    let system = LazySystem::of(alloc, problem)?;
     let outcome = rules_at_heads_are(rt, alloc, &system, system.layout(), list, heads);
     drop(system);
     outcome

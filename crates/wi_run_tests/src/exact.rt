@@ -1,6 +1,7 @@
 //! Exact answers, the trees that `exact` stores, and what `check-exact` judges.
 use crate::called::{Case, begins, is_said, is_said_between, ran, shelf_with, weighed};
 use crate::doubles::doubles;
+use crate::returns::returns;
 use crate::samples::{n1, n2, n3, n6};
 use std::alloc::Global;
 use std::process::Abort;
@@ -157,6 +158,38 @@ fn exact_answers_are_shown_by_trees(rt: HostRuntime) -> Result<(), Fail> {
     cases_are(&rt, rt.alloc(), n2(), ON_N2)?;
     cases_are(&rt, rt.alloc(), n3(), ON_N3)?;
     cases_are(&rt, rt.alloc(), n6(), ON_N6)
+}
+
+// How many places there are where a packet may come back, and whether it comes back at one. That it doesn't is shown of each place by
+// itself, where its link is down and where it is up: so each place doubles the nodes.
+const BACK_AT_ONE: &[(usize, Case)] = &[
+    (
+        2,
+        (
+            "<ip1> [x.e#a0] .* [c0#a0, c1#a1] .* [.#y] <ip1> 2",
+            None,
+            "1<answer: no\nnodes: 7\n><>",
+        ),
+    ),
+    (
+        8,
+        (
+            "<ip1> [x.e#a0] .* [c0#a0, c1#a1, c2#a2, c3#a3, c4#a4, c5#a5, c6#a6, c7#a7] .* [.#y] <ip1> 8",
+            None,
+            "1<answer: no\nnodes: 511\n><>",
+        ),
+    ),
+];
+
+#[test]
+fn nodes_double_with_each_place(rt: HostRuntime) -> Result<(), Fail> {
+    for (places, case) in BACK_AT_ONE {
+        let text = returns(rt.alloc(), *places)?;
+        let outcome = cases_are(&rt, rt.alloc(), text.as_str(), &[*case]);
+        drop(text);
+        outcome?;
+    }
+    Ok(())
 }
 
 // What goes back from c to a counts on one failure, and takes the link that failed; what goes on to b counts on two.

@@ -34,6 +34,8 @@ mod plays;
 #[cfg(test)]
 mod protect;
 #[cfg(test)]
+mod returns;
+#[cfg(test)]
 mod ring;
 #[cfg(test)]
 mod rings;

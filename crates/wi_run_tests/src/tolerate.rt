@@ -1,6 +1,7 @@
 //! How many failures it takes, and the two trees that `tolerate` stores.
 use crate::called::{is_said, ran, ran_over, shelf_with};
 use crate::doubles::doubles;
+use crate::returns::returns;
 use crate::samples::{n1, n2, n3, n6};
 use std::alloc::Global;
 use std::process::Abort;
@@ -240,6 +241,34 @@ const TREES_ON_N2: &[Trees] = &[
     ),
 ];
 
+// A way past three places by the link that is used where the first has failed.
+const TREES_ON_FOUR_PLACES: &[Trees] = &[(
+    "65535",
+    "<ip1> [x.e#a0] [a0.f#a1] [a1.f#a2] [a2.f#a3] .* [.#y] <ip1> 0",
+    (
+        "<ip1> [x.e#a0] [a0.f#a1] [a1.f#a2] [a2.f#a3] .* [.#y] <ip1> 3",
+        ACCEPTED_YES,
+    ),
+    (
+        "<ip1> [x.e#a0] [a0.f#a1] [a1.f#a2] [a2.f#a3] .* [.#y] <ip1> 2",
+        ACCEPTED_NO,
+    ),
+)];
+
+// A packet comes back at none of eight places. With eight failures that takes 511 nodes, so the numbers below are tried one by one.
+const TREES_ON_EIGHT_PLACES: &[Trees] = &[(
+    "8",
+    "<ip1> [x.e#a0] .* [c0#a0, c1#a1, c2#a2, c3#a3, c4#a4, c5#a5, c6#a6, c7#a7] .* [.#y] <ip1> 0",
+    (
+        "<ip1> [x.e#a0] .* [c0#a0, c1#a1, c2#a2, c3#a3, c4#a4, c5#a5, c6#a6, c7#a7] .* [.#y] <ip1> 8",
+        ACCEPTED_NO,
+    ),
+    (
+        "<ip1> [x.e#a0] .* [c0#a0, c1#a1, c2#a2, c3#a3, c4#a4, c5#a5, c6#a6, c7#a7] .* [.#y] <ip1> 7",
+        NO_SECOND,
+    ),
+)];
+
 fn file_is(
     rt: &impl Abort,
     alloc: Global,
@@ -281,6 +310,19 @@ fn trees_are(rt: &impl Abort, alloc: Global, network: &str, cases: &[Trees]) -> 
 fn trees_are_accepted_at_their_numbers(rt: HostRuntime) -> Result<(), Fail> {
     trees_are(&rt, rt.alloc(), n1(), TREES_ON_N1)?;
     trees_are(&rt, rt.alloc(), n2(), TREES_ON_N2)
+}
+
+fn places_are(rt: &impl Abort, alloc: Global, places: usize, cases: &[Trees]) -> Result<(), Fail> {
+    let text = returns(alloc, places)?;
+    let outcome = trees_are(rt, alloc, text.as_str(), cases);
+    drop(text);
+    outcome
+}
+
+#[test]
+fn numbers_are_halved_or_tried_one_by_one(rt: HostRuntime) -> Result<(), Fail> {
+    places_are(&rt, rt.alloc(), 4, TREES_ON_FOUR_PLACES)?;
+    places_are(&rt, rt.alloc(), 8, TREES_ON_EIGHT_PLACES)
 }
 
 // Which calls on the shelf and on standard output fail, what `tolerate` ends with then, and whether `c` and `c.below` are there.

@@ -13,8 +13,9 @@ use wi_pds::{Heads, System};
 /// Only heads that are in the answer are asked for their rules.
 ///
 /// What it costs: each of these heads is asked once; each of their rules is looked at once; and for each symbol, each pop of it
-/// and each other symbol in its place meets each pair below it once. Each meeting is a look-up in a hashed set. The heads and
-/// the pairs are sorted once, at the end. It keeps a head twice and a pair three times while it runs, and once in the answer.
+/// and each other symbol in its place meets each pair below it once. Each meeting is a look-up in a hashed set, of pairs in
+/// words of 64 bits. The heads and the pairs are sorted once, at the end. While it runs it keeps a head twice, and a pair twice and
+/// as a bit; and each once in the answer.
 pub fn reach<W: Copy, S: System<W>>(alloc: Global, sys: &S) -> Result<Heads, NoMemory>
     requires { (p g : ℕ) → IsReached (S.rules sys.now) (S.start_head sys.now) p g → S.may_ask sys.now p g }
     ensures { IfOk result (λ found. AreLeastClosed (S.rules sys.now) (S.start_head sys.now) found.heads found.pairs) }

@@ -15,7 +15,7 @@ use wi_pds::{Rule, System, Word2};
 #[derive(Drop)]
 pub(crate) struct Search {
     /// States, each with a symbol on top.
-    pub(crate) heads: Worklist<(u64, u32)>,
+    pub(crate) heads: Worklist<u64, u32>,
     /// Symbols, each with one that may stand right below it.
     pub(crate) pairs: Relation<u32>,
     /// Symbols, each with a state that a rule goes to that takes the symbol away.

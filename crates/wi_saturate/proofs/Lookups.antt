@@ -10,6 +10,7 @@ use Rattle.std.specs.declared.result.Result.TheVariants.{Ok, Err}
 use Rattle.std.proofs.Common.{sym, ap, ◌∙◌, subst, inl, inr, arith, append_assoc, add-one, zero-add, add-zero, append-nil}
 use Rattle.std.proofs.lemmas.Bool.{cases_lt, cases_eq, false≢true}
 use Rattle.std.proofs.lemmas.Option.{slice_get_within, slice_get-get_or, get_or_from_slice_get}
+use Rattle.std.proofs.lemmas.List.{length-append}
 use Rattle.std.proofs.lemmas.Map.Keys.{Less-from_sorted}
 use Rattle.wi_pds.specs.declared.rule.Word2.{Word2}
 use Rattle.wi_pds.specs.declared.rule.Word2.TheVariants.{Empty, One, Two}
@@ -19,8 +20,9 @@ use Rattle.wi_pds.proofs.PairOrder.{pair_exact, pair_tied, search_finds}
 use Rattle.wi_saturate.specs.declared.rules.Ruled.{Ruled}
 use Rattle.wi_saturate.specs.declared.index.Index.{Index}
 use Rattle.wi_saturate.specs.LeastTables.{AreReady}
-use Rattle.wi_saturate.specs.private.Indexes.{ruled_from, ruled, BeginsAt, AreBegins, IsIndex}
-use Rattle.wi_saturate.proofs.Elements.{same_some, get_from_contains, contains_from_get, some_there}
+use Rattle.wi_saturate.specs.private.Chains.{ChainsView}
+use Rattle.wi_saturate.specs.private.Indexes.{ruled_from, ruled, IsPlace, BeginsAt, AreBegins, IsIndex}
+use Rattle.wi_saturate.proofs.Elements.{same_some, get_from_contains, contains_from_get, get_push, some_there}
 
 -- an element of two lists, one behind the other, is of one of them
 get_append : {X : Type 0} (xs ys : List X) (k : ℕ) (x : X) → slice_get (xs ++ ys) k ≡ Some x → (slice_get xs k ≡ Some x) ⊎ ((n : ℕ) × (slice_get ys n ≡ Some x))
@@ -162,10 +164,34 @@ pub place_found : (xs ys : List (ℕ × ℕ)) (x : ℕ × ℕ) (r : Result ℕ �
 place_found xs ys x (Ok i) same rise within at = subst (λ z. slice_get z i ≡ Some x) same (slice_get-get_or ys i x within ∙ ap (λ z. Some z) (pair_exact _ _ (at x)))
 place_found xs ys x (Err i) same rise within at = λ has. false≢true ((search_finds xs ys x (Err i) false same rise within at refl).1 has)
 
-pub begins_within : (heads : List (ℕ × ℕ)) (to : ℕ) (word : Word2) (place : ℕ) → BeginsAt heads to word place → place < length heads + 1
-begins_within heads to Empty place h = let same : place ≡ length heads = h in omega arith
-begins_within heads to (One u) place h = elim h [ inl at ↦ let less = slice_get_within heads place _ at in omega (arith, less) | inr past ↦ let same : place ≡ length heads = past.0 in omega arith ]
-begins_within heads to (Two u v) place h = elim h [ inl at ↦ let less = slice_get_within heads place _ at in omega (arith, less) | inr past ↦ let same : place ≡ length heads = past.0 in omega arith ]
+place_within_all : (heads : List (ℕ × ℕ)) (before p g place : ℕ) → before ≤ length heads → IsPlace heads before p g place → place < length heads + length heads + 1
+place_within_all heads before p g place less h = elim h [
+  | inl is ↦ let within = slice_get_within heads is.0 _ is.1 in omega (arith, less, within, is.2)
+  | inr past ↦ let same : place ≡ length heads + length heads = past.0 in omega arith
+]
+
+pub begins_within : (heads : List (ℕ × ℕ)) (to : ℕ) (word : Word2) (place : ℕ) → BeginsAt heads to word place → place < length heads + length heads + 1
+begins_within heads to Empty place h = let same : place ≡ length heads + length heads = h in omega arith
+begins_within heads to (One u) place h = place_within_all heads 0 to u place (omega arith) h
+begins_within heads to (Two u v) place h = place_within_all heads (length heads) to u place (omega arith) h
+
+-- one more rule, at its place
+pub begins_more : {W : Type 0} (heads : List (ℕ × ℕ)) (flat : List (Ruled W)) (begins : ChainsView) (f : Ruled W) (place : ℕ) → AreBegins heads flat begins → BeginsAt heads f.rule.to f.rule.word place
+    → AreBegins heads (flat ++ f ∷ []) (record { count = begins.count; places = begins.places ++ place ∷ [] })
+begins_more heads flat begins f place are is = record {
+  room = are.room;
+  count = length-append begins.places (place ∷ []) ∙ ap (λ n. n + 1) are.count ∙ sym (length-append flat (f ∷ []));
+  each = λ k at g ruled there. elim (get_push flat f k g ruled) [
+    | inl before ↦ elim (get_push begins.places place k at there) [
+      | inl earlier ↦ are.each k at g before.1 earlier.1
+      | inr last ↦ absurd (omega (arith, before.0, last.0, are.count))
+    ]
+    | inr last ↦ elim (get_push begins.places place k at there) [
+      | inl earlier ↦ absurd (omega (arith, earlier.0, last.0, are.count))
+      | inr end ↦ subst (λ (h : Ruled _). BeginsAt heads h.rule.to h.rule.word at) last.1 (subst (λ n. BeginsAt heads f.rule.to f.rule.word n) end.1 is)
+    ]
+  ];
+}
 
 -- the index is right where its rules and begins are
 pub indexes : {W : Type 0} (c : W → List ℕ) (rules : ℕ → ℕ → List (Rule W)) (index : Index W) → AreReady c rules index.rules.heads → IsStrictlySortedBy pair_cmp index.rules.heads

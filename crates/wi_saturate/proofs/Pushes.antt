@@ -1,7 +1,7 @@
 -- Heaps that get candidates of rules and rows.
 use Rattle.std.proofs.lemmas.Bool.{false≢true}
 use Rattle.std.proofs.lemmas.List.Sorted.{Contains-permutation, IsPermutation-sym}
-use Rattle.std.specs.Prelude.{IsPermutation, ◌≡◌, Bool, false, ℕ, zero, suc, ◌+◌, ◌<◌, ◌^◌, ◌⊎◌, List, ◌∷◌, Some, length, slice_get, get_or, refl}
+use Rattle.std.specs.Prelude.{IsPermutation, ◌≡◌, Bool, false, ℕ, zero, suc, ◌+◌, ◌<◌, ◌≤◌, ◌^◌, ◌⊎◌, List, ◌∷◌, Some, length, slice_get, get_or, refl}
 use Rattle.std.specs.List.{Contains}
 use Rattle.std.proofs.Common.{sym, ap, ◌∙◌, subst, inl, inr, arith}
 use Rattle.std.proofs.lemmas.Option.{slice_get_within, slice_get_read}
@@ -203,17 +203,39 @@ module _ {W : Type 0} (c : W → List ℕ) (flat : List (Ruled W)) (rows : List 
       (each_below_more (2 ^ 64 + 2 ^ 64) (2 ^ 120) (omega arith) _
       (each_below_plus (2 ^ 64) (2 ^ 64) (c f.rule.weight) (c (get_or rows i d).weight) (small k f (read_there flat k f g at is)) (fit i (get_or rows i d) (got_there rows i d r row))))
 
-same_head : {W : Type 0} (heads : List (ℕ × ℕ)) (to u place : ℕ) (r : Row W) → slice_get heads place ≡ Some (r.p, r.g) → IsPlace heads to u place → (r.p ≡ to) × (r.g ≡ u)
-same_head heads to u place r at h = elim h [
-  | inl is ↦ let same : (r.p, r.g) ≡ (to, u) = same_some (sym at ∙ is) in (ap (λ z. z.0) same, ap (λ z. z.1) same)
-  | inr past ↦ let low : place < length heads = slice_get_within heads place _ at in let high : place ≡ length heads = past.0 in absurd (omega arith)
-]
+module _ {W : Type 0} (heads : List (ℕ × ℕ)) (to place : ℕ) (r : Row W) (at : slice_get heads place ≡ Some (r.p, r.g)) where
+  low : place < length heads
+  low = slice_get_within heads place _ at
 
--- a rule at the place of a row's head is for that row
-pub first_at : {W : Type 0} (heads : List (ℕ × ℕ)) (to : ℕ) (word : Word2) (place : ℕ) (r : Row W) → slice_get heads place ≡ Some (r.p, r.g) → BeginsAt heads to word place → IsFirst to word r
-first_at heads to Empty place r at h = tt
-first_at heads to (One u) place r at h = same_head heads to u place r at h
-first_at heads to (Two u v) place r at h = same_head heads to u place r at h
+  same_head : (before u there : ℕ) → before ≤ length heads → there ≡ place + before → IsPlace heads before to u there → (r.p ≡ to) × (r.g ≡ u)
+  same_head before u there less behind h = elim h [
+    | inl is ↦
+        let here : place ≡ is.0 = omega (arith, behind, is.2) in
+        let same : (r.p, r.g) ≡ (to, u) = same_some (sym at ∙ ap (λ n. slice_get heads n) here ∙ is.1) in
+        (ap (λ z. z.0) same, ap (λ z. z.1) same)
+    | inr past ↦ absurd (omega (arith, low, less, behind, past.0))
+  ]
+
+  -- a place for rules that write two symbols is none for rules that write one
+  apart_from_two : {A : Type 0} → (u : ℕ) → IsPlace heads (length heads) to u place → A
+  apart_from_two u h = elim h [ inl is ↦ absurd (omega (arith, low, is.2)) | inr past ↦ absurd (omega (arith, low, past.0)) ]
+
+  apart_from_one : {A : Type 0} → (u : ℕ) → IsPlace heads 0 to u (place + length heads) → A
+  apart_from_one u h = elim h [
+    | inl is ↦ let less = slice_get_within heads is.0 _ is.1 in absurd (omega (arith, less, is.2))
+    | inr past ↦ absurd (omega (arith, low, past.0))
+  ]
+
+  -- a rule at the place of a row's head is for that row
+  pub first_at : (word : Word2) → BeginsAt heads to word place → IsFirst to word r
+  first_at Empty h = tt
+  first_at (One u) h = same_head 0 u place (omega arith) (omega arith) h
+  first_at (Two u v) h = apart_from_two u h
+
+  pub first_behind : (word : Word2) → BeginsAt heads to word (place + length heads) → IsFirst to word r
+  first_behind Empty h = tt
+  first_behind (One u) h = apart_from_one u h
+  first_behind (Two u v) h = same_head (length heads) u (place + length heads) (omega arith) refl h
 
 -- the last row's place is that of a head
 pub place_within : {W : Type 0} (c : W → List ℕ) (turn : Turn W) → IsTurn c turn → turn.place < length (heads_of turn)
@@ -221,7 +243,10 @@ place_within c turn is = let r = some_there (rows_of turn) turn.last is.within i
 
 -- the last row can go into the rules that begin at its head's place
 pub first_of : {W : Type 0} (c : W → List ℕ) (turn : Turn W) → IsTurn c turn → (k : ℕ) → slice_get turn.index.now.begins.places k ≡ Some turn.place → IsFirstOf turn k
-first_of c turn is k begins f r at row = first_at (heads_of turn) f.rule.to f.rule.word turn.place r (is.head r row) (is.index.begins.each k turn.place f at begins)
+first_of c turn is k begins f r at row = first_at (heads_of turn) f.rule.to turn.place r (is.head r row) f.rule.word (is.index.begins.each k turn.place f at begins)
+
+pub first_of_two : {W : Type 0} (c : W → List ℕ) (turn : Turn W) → IsTurn c turn → (k : ℕ) → slice_get turn.index.now.begins.places k ≡ Some (turn.place + length (heads_of turn)) → IsFirstOf turn k
+first_of_two c turn is k begins f r at row = first_behind (heads_of turn) f.rule.to turn.place r (is.head r row) f.rule.word (is.index.begins.each k (turn.place + length (heads_of turn)) f at begins)
 
 pub one_first : {W : Type 0} (flat : List (Ruled W)) (rows : List (Row W)) (k i u : ℕ) (f : Ruled W) → k < length flat → i < length rows → f ≡ get_or flat k f
     → ((f : Ruled W) (r : Row W) → slice_get flat k ≡ Some f → slice_get rows i ≡ Some r → IsFirst f.rule.to f.rule.word r) → f.rule.word ≡ One u → IsOne flat rows k i
@@ -242,9 +267,11 @@ module _ {W : Type 0} (c : W → List ℕ) (index : Index W) (indexed : IsIndexe
   abbrev all_heads : List (ℕ × ℕ)
   all_heads = index.rules.heads
 
-  at_place : (k to u place : ℕ) → slice_get all_heads place ≡ Some (to, u) → (is : ℕ) → slice_get index.begins.places k ≡ Some is → IsPlace all_heads to u is → slice_get index.begins.places k ≡ Some place
-  at_place k to u place at is begins h = elim h [
-    | inl here ↦ subst (λ n. slice_get index.begins.places k ≡ Some n) (once all_heads indexed.rise is place to u here at) begins
+  at_place : (k before to u place there : ℕ) → there ≡ place + before → slice_get all_heads place ≡ Some (to, u) → (is : ℕ) → slice_get index.begins.places k ≡ Some is → IsPlace all_heads before to u is → slice_get index.begins.places k ≡ Some there
+  at_place k before to u place there behind at is begins h = elim h [
+    | inl here ↦
+        let same : here.0 ≡ place = once all_heads indexed.rise here.0 place to u here.1 at in
+        begins ∙ ap (λ n. Some n) (omega (arith, same, behind, here.2))
     | inr past ↦ absurd (past.1 (contains_from_get all_heads place (to, u) at))
   ]
 
@@ -254,16 +281,16 @@ module _ {W : Type 0} (c : W → List ℕ) (index : Index W) (indexed : IsIndexe
       let place = some_there index.begins.places k (omega (arith, indexed.begins.count)) in
       (place.0, place.1, indexed.begins.each k place.0 f at place.1)
 
-  -- a rule whose first symbol is that of a listed head stands at that head's place
+  -- a rule whose first symbol is that of a listed head stands at the place for it
   pub one_begins : (k u place : ℕ) (f : Ruled W) → slice_get index.rules.items k ≡ Some f → f.rule.word ≡ One u → slice_get all_heads place ≡ Some (f.rule.to, u) → slice_get index.begins.places k ≡ Some place
   one_begins k u place f at word head =
       let is = begin_place k f at in
-      at_place k f.rule.to u place head is.0 is.1 (subst (λ w. BeginsAt all_heads f.rule.to w is.0) word is.2)
+      at_place k 0 f.rule.to u place place (omega arith) head is.0 is.1 (subst (λ w. BeginsAt all_heads f.rule.to w is.0) word is.2)
 
-  pub two_begins : (k u v place : ℕ) (f : Ruled W) → slice_get index.rules.items k ≡ Some f → f.rule.word ≡ Two u v → slice_get all_heads place ≡ Some (f.rule.to, u) → slice_get index.begins.places k ≡ Some place
+  pub two_begins : (k u v place : ℕ) (f : Ruled W) → slice_get index.rules.items k ≡ Some f → f.rule.word ≡ Two u v → slice_get all_heads place ≡ Some (f.rule.to, u) → slice_get index.begins.places k ≡ Some (place + length all_heads)
   two_begins k u v place f at word head =
       let is = begin_place k f at in
-      at_place k f.rule.to u place head is.0 is.1 (subst (λ w. BeginsAt all_heads f.rule.to w is.0) word is.2)
+      at_place k (length all_heads) f.rule.to u place (place + length all_heads) refl head is.0 is.1 (subst (λ w. BeginsAt all_heads f.rule.to w is.0) word is.2)
 
 -- the head of a row is the one that a rule leads to
 pub head_of : {W : Type 0} (heads : List (ℕ × ℕ)) (place to u : ℕ) (r : Row W) → slice_get heads place ≡ Some (r.p, r.g) → r.p ≡ to → r.g ≡ u → slice_get heads place ≡ Some (to, u)

@@ -1,11 +1,13 @@
-//! The rules that may use a row are those that lead to its head, so these lie in one chain, and no others are looked at. It
-//! takes all rules of listed heads in one list, and a look-up of a head, by halves, for each rule that is added.
-ghost use Rattle.std.specs.Prelude.{◌≡◌, ◌+◌, ◌<◌, ◌^◌, ◌++◌, ◌∷◌, ℕ, OnOk, IfOk, MatchOption, Some, slice_get, length, []};
+//! The rules that may use a row are those that lead to its head. Those that write one symbol lie in one chain, and those that
+//! write two in another, since a row goes into them at different times; and no others are looked at. It takes all rules of listed
+//! heads in one list, and a look-up of a head, by halves, for each rule that is added.
+ghost use Rattle.std.specs.Prelude.{◌≡◌, ◌+◌, ◌<◌, ◌≤◌, ◌^◌, ◌++◌, ◌∷◌, ℕ, OnOk, IfOk, MatchOption, Some, slice_get, length, []};
 ghost use Rattle.std.specs.List.{All, Contains};
 ghost use Rattle.std.specs.List.Sorted.{IsStrictlySortedBy};
 ghost use Rattle.wi_pds.specs.Pairs.{pair_cmp};
 ghost use Rattle.wi_pds.specs.Rules.{IsOf};
 ghost use Rattle.wi_saturate.specs.LeastTables.{AreReady};
+ghost use Rattle.wi_saturate.specs.private.Chains.{IsEnd};
 ghost use Rattle.wi_saturate.specs.private.Indexes.{ruled_from, BeginsAt, IsPlace, AreBegins, IsIndex};
 
 use crate::chains::Chains;
@@ -15,34 +17,38 @@ use wi_base::NoMemory;
 use wi_pds::{Heads, Rule, System, Word2};
 use wi_weight::Domain;
 
-// The rules of all heads, each at the place of the head that it leads to: its state with the first symbol that it writes.
-// A rule that leads to no listed head, as one that writes no symbol, is at the place past the last head.
+// The rules of all heads, each at the place of the head that it leads to: its state with the first symbol that it writes. Behind
+// the places of all heads for rules that write one symbol come those for rules that write two, and then one for the rules that
+// lead to no listed head, as those that write no symbol.
 #[derive(Drop)]
 pub(crate) struct Index<'a, W> {
     pub(crate) rules: Rules<'a, W>,
     pub(crate) begins: Chains,
 }
 
-// The place of the head, or the place past the last one.
-fn place_or_past<W: Domain>(rules: &Rules<'_, W>, p: u64, g: u32) -> usize
-    requires { IsStrictlySortedBy pair_cmp rules.now.heads }
-    ensures { IsPlace rules.now.heads p g result }
+// The place of the head behind so many others, or the last place of all.
+fn place_or_past<W: Domain>(rules: &Rules<'_, W>, before: usize, p: u64, g: u32) -> usize
+    requires rise { IsStrictlySortedBy pair_cmp rules.now.heads }
+    requires before { before ≤ length rules.now.heads }
+    ensures { IsPlace rules.now.heads before p g result }
 {
+    let count = rules.heads().len();
     match rules.place_of(p, g) {
-        Some(place) => place,
-        None => rules.heads().len(),
+        Some(place) => place + before,
+        None => count + count,
     }
 }
 
-// The place of the head that the rule leads to.
+// The place of the rule, by the head that it leads to.
 fn begins_at<W: Domain>(rules: &Rules<'_, W>, rule: &Rule<W>) -> usize
     requires { IsStrictlySortedBy pair_cmp rules.now.heads }
     ensures { BeginsAt rules.now.heads rule.now.to rule.now.word result }
 {
+    let count = rules.heads().len();
     match rule.word {
-        Word2::Empty => rules.heads().len(),
-        Word2::One(u) => place_or_past(rules, rule.to, u),
-        Word2::Two(u, _) => place_or_past(rules, rule.to, u),
+        Word2::Empty => count + count,
+        Word2::One(u) => place_or_past(rules, 0, rule.to, u),
+        Word2::Two(u, _) => place_or_past(rules, count, rule.to, u),
     }
 }
 
@@ -61,7 +67,7 @@ impl<'a, W: Domain> Index<'a, W> {
         let listed = heads.heads.as_slice();
         let mut index = Index {
             rules: Rules::new(alloc, listed),
-            begins: Chains::new(alloc, listed.len() + 1)?,
+            begins: Chains::new(alloc, listed.len() + listed.len() + 1)?,
         };
         for head in 0..listed.len() {
             let (p, g) = listed[head];
@@ -69,6 +75,24 @@ impl<'a, W: Domain> Index<'a, W> {
             index.add_head(head, &rules)?;
         }
         Ok(index)
+    }
+
+    // One more than the last rule that writes one symbol and leads to the head at the place, or 0.
+    pub(crate) fn ones_end(&self, place: usize) -> usize
+        requires begins { AreBegins self.now.rules.heads self.now.rules.items self.now.begins }
+        requires listed { place < length self.now.rules.heads }
+        ensures { IsEnd self.now.begins.places place (length self.now.begins.places) result }
+    {
+        self.begins.end(place)
+    }
+
+    // One more than the last rule that writes two symbols and leads to the head at the place, or 0.
+    pub(crate) fn twos_end(&self, place: usize) -> usize
+        requires begins { AreBegins self.now.rules.heads self.now.rules.items self.now.begins }
+        requires listed { place < length self.now.rules.heads }
+        ensures { IsEnd self.now.begins.places (place + length self.now.rules.heads) (length self.now.begins.places) result }
+    {
+        self.begins.end(place + self.rules.heads().len())
     }
 
     // Adds the rules of the head at a place.

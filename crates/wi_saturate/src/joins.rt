@@ -117,7 +117,7 @@ pub(crate) fn push_ones<W: Domain, M: Ledger>(
     ensures tries { OnOk result ((r : Row W) → slice_get (rows_of turn.now) turn.now.last ≡ Some r →
         tries.new ≤ tries.old + sum_by (λ f. one_ways r f.rule.to f.rule.word) (rules_of turn.now)) }
 {
-    let mut end = turn.index.begins.end(turn.place);
+    let mut end = turn.index.ones_end(turn.place);
     while 0 < end {
         let rule = end - 1;
         push_if_one(frontier, turn, rule, tries)?;

@@ -121,7 +121,7 @@ impl Waits {
             IsMore (heads_of turn.now) self.old.places.places self.new.places.places (λ F. sum_by (λ f. begun F r f.rule.to f.rule.word) (rules_of turn.now))) }
         ensures last { OnOk result ((k : ℕ) → WaitsFor W.scale W.components turn.now halves.new k) }
     {
-        let mut end = turn.index.begins.end(turn.place);
+        let mut end = turn.index.twos_end(turn.place);
         while 0 < end {
             let rule = end - 1;
             self.add_rule(turn, rule, halves)?;

@@ -21,19 +21,20 @@ abbrev pub ruled : {W : Type 0} → (ℕ → ℕ → List (Rule W)) → ℕ → 
 ruled rules head [] = []
 ruled rules head (h ∷ hs) = ruled_from head 0 (rules h.0 h.1) ++ ruled rules (suc head) hs
 
--- the place of the head, or the place past the last where it isn't listed
-abbrev pub IsPlace : List (ℕ × ℕ) → ℕ → ℕ → ℕ → Type 0
-IsPlace heads p g place = (slice_get heads place ≡ Some (p, g)) ⊎ ((place ≡ length heads) × (Contains heads (p, g) → ⊥))
+-- the place of the head behind so many others, or the last place of all where it isn't listed
+abbrev pub IsPlace : List (ℕ × ℕ) → ℕ → ℕ → ℕ → ℕ → Type 0
+IsPlace heads before p g place =
+    ((at : ℕ) × (slice_get heads at ≡ Some (p, g)) × (place ≡ at + before)) ⊎ ((place ≡ length heads + length heads) × (Contains heads (p, g) → ⊥))
 
--- the place of the head that a rule leads to, which goes to a state and writes a word
+-- the place of a rule that goes to a state and writes a word: by the head that it leads to, and by how many symbols it writes
 abbrev pub BeginsAt : List (ℕ × ℕ) → ℕ → Word2 → ℕ → Type 0
-BeginsAt heads to Empty place = place ≡ length heads
-BeginsAt heads to (One u) place = IsPlace heads to u place
-BeginsAt heads to (Two u v) place = IsPlace heads to u place
+BeginsAt heads to Empty place = place ≡ length heads + length heads
+BeginsAt heads to (One u) place = IsPlace heads 0 to u place
+BeginsAt heads to (Two u v) place = IsPlace heads (length heads) to u place
 
--- the places are those of the heads that the rules lead to
+-- the places are those of the rules
 pub record AreBegins {W : Type 0} (heads : List (ℕ × ℕ)) (flat : List (Ruled W)) (begins : ChainsView) : Type 0 where
-  pub room : begins.count ≡ length heads + 1
+  pub room : begins.count ≡ length heads + length heads + 1
   pub count : length begins.places ≡ length flat
   pub each : (k place : ℕ) (f : Ruled W) → slice_get flat k ≡ Some f → slice_get begins.places k ≡ Some place → BeginsAt heads f.rule.to f.rule.word place
 

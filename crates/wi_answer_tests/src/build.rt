@@ -1,7 +1,6 @@
 //! Systems by example.
 ghost use Rattle.wi_query.specs.Meaning.{IsQueryOf};
 
-use crate::common::query_of;
 use std::alloc::Global;
 use std::process::Abort;
 use std::test::Fail;
@@ -11,6 +10,7 @@ use wi_net::{LinkId, Network};
 use wi_pds::{Rule, RuleList, System, Word2};
 use wi_quantity::{Weight, read_weights};
 use wi_query::Query;
+use wi_questions::query_of;
 use wi_rules::{Origin, Spot};
 use wi_samples::{N1, N1_FIBER, N1_NEAR, N2, N2_FIBER, N3, N4, N5, Sample, network};
 use wi_world::{End, Step};

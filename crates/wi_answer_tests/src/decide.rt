@@ -1,7 +1,7 @@
 //! Answers by example.
 ghost use Rattle.wi_query.specs.Meaning.{IsQueryOf};
 
-use crate::common::{query_of, steps_are, vector_of};
+use crate::common::steps_are;
 use std::alloc::Global;
 use std::process::Abort;
 use std::test::Fail;
@@ -11,6 +11,7 @@ use wi_labels::{Class, Header, Label};
 use wi_net::{FailSet, LinkId, Network};
 use wi_quantity::{Vector, Weight};
 use wi_query::Query;
+use wi_questions::{query_of, vector_of};
 use wi_samples::{N1, N1_FIBER, N1_NEAR, N2, N2_FIBER, N3, N4, N5, Sample, doubling, network};
 use wi_trace::Answer;
 use wi_weight::{Effort, Pair, Terms};

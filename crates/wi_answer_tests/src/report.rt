@@ -3,7 +3,6 @@ ghost use Rattle.std.specs.Prelude.{IfOk, IfSome};
 ghost use Rattle.wi_query.specs.Meaning.{IsQueryOf};
 ghost use Rattle.wi_report.specs.Reports.{IsKnownRun};
 
-use crate::common::{query_of, vector_of};
 use std::alloc::Global;
 use std::process::Abort;
 use std::test::Fail;
@@ -14,6 +13,7 @@ use wi_net::{FailSet, LinkId, Network};
 use wi_netjson::{LinkPart, NetFault, Place};
 use wi_quantity::{Vector, Weight, WeightFault};
 use wi_query::{Query, QueryFault};
+use wi_questions::{query_of, vector_of};
 use wi_report::{
     network_fault_text, overflow_text, query_fault_text, report, script_fault_text, states,
     too_long_text, weight_fault_text,

@@ -1,7 +1,7 @@
 //! Searches by example: below a cut, and within bounds that aren't the query's own.
 ghost use Rattle.wi_query.specs.Meaning.{IsQueryOf};
 
-use crate::common::{query_of, steps_are};
+use crate::common::steps_are;
 use std::alloc::Global;
 use std::process::Abort;
 use std::test::Fail;
@@ -10,6 +10,7 @@ use wi_decide::{LeastRun, search};
 use wi_net::{Bounds, Network};
 use wi_quantity::{Vector, Weight};
 use wi_query::Query;
+use wi_questions::query_of;
 use wi_samples::{N1, network};
 use wi_weight::{Effort, Pair, Terms};
 

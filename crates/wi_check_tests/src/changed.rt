@@ -2,7 +2,7 @@
 ghost use Rattle.wi_query.specs.Meaning.{IsQueryOf};
 ghost use Rattle.wi_cert.specs.Text.{IsWritable};
 
-use crate::asked::{Change, certificate_of, query_of, text_of, vector_of};
+use crate::asked::{Change, certificate_of, text_of};
 use std::alloc::Global;
 use std::process::Abort;
 use std::test::Fail;
@@ -11,6 +11,7 @@ use wi_cert::{Certificate, CheckRefused, ClosedRefused, Part, Weight};
 use wi_check::{Accepted, check};
 use wi_net::Network;
 use wi_query::Query;
+use wi_questions::{query_of, vector_of};
 use wi_samples::{N1, N3, Sample, network};
 use wi_weight::{Effort, Pair, Terms};
 use wi_world::Word;
@@ -256,6 +257,85 @@ const SWAPPED_CASES: &[Case] = &[
     ),
 ];
 
+// The lines for `<30 30? s10 ip1> ([a#c] [c#a]|[a#c] [c#a]) <31 30? s10 ip1> 0`: spots 2 to 6 build the first header, 7 to 11 read
+// the last one, 23 and 25 are on the link from a to c, 39 and 41 on the one back. So 30 is swapped at two spots, and 30 or s10 is
+// below it.
+const SWAPPED_TWICE: &[&str] = &[
+    "mpls-whatif-certificate 1",
+    "terms 0",
+    "answer yes",
+    "weight 11",
+    "first 2 0 2 3",
+    "steps 1",
+    "1 1",
+    "heads 18",
+    "0 0",
+    "2 1",
+    "3 1",
+    "3 3",
+    "4 3",
+    "5 4",
+    "6 0",
+    "7 2",
+    "8 1",
+    "8 3",
+    "9 1",
+    "9 3",
+    "10 4",
+    "11 0",
+    "23 1",
+    "25 1",
+    "39 2",
+    "41 2",
+    "pairs 6",
+    "1 1",
+    "1 3",
+    "2 1",
+    "2 3",
+    "3 4",
+    "4 0",
+    "rows 16",
+    "2 1 8 4",
+    "3 1 9 6",
+    "3 3 10 6",
+    "4 3 10 8",
+    "5 4 11 8",
+    "6 0 1 10",
+    "7 2 8 1",
+    "8 1 9 1",
+    "8 3 10 1",
+    "9 3 10 1",
+    "10 4 11 1",
+    "11 0 1 1",
+    "23 1 8 3",
+    "25 1 8 3",
+    "39 2 8 2",
+    "41 2 8 2",
+    "end",
+];
+
+const SWAPPED_TWICE_CASES: &[Case] = &[
+    (&[], Expected::Accepted(Word::Yes)),
+    // What may stand below 30, which the step onto the link keeps.
+    (
+        &[(27, &["pairs 5"]), (28, &[])],
+        Expected::PairMissing(1, 1),
+    ),
+    (
+        &[(27, &["pairs 5"]), (29, &[])],
+        Expected::PairMissing(1, 3),
+    ),
+    // The first of two that both swaps hand on, and the last one.
+    (
+        &[(27, &["pairs 5"]), (30, &[])],
+        Expected::PairMissing(2, 1),
+    ),
+    (
+        &[(27, &["pairs 5"]), (31, &[])],
+        Expected::PairMissing(2, 3),
+    ),
+];
+
 // The run of `<ip1> [x#a] [a#c] [c#a] [a#b] .* <ip1> 5` that uses a link which must have failed, and nothing that bounds other runs.
 const BACK: &[&str] = &[
     "mpls-whatif-certificate 1",
@@ -374,6 +454,18 @@ fn a_changed_certificate_is_refused_for_its_first_cause(rt: HostRuntime) -> Resu
         sheet_holds(&rt, rt.alloc(), sheet)?;
     }
     Ok(())
+}
+
+const TWICE: &Sheet = &(
+    &N3,
+    "<30 30? s10 ip1> ([a#c] [c#a]|[a#c] [c#a]) <31 30? s10 ip1> 0",
+    SWAPPED_TWICE,
+    SWAPPED_TWICE_CASES,
+);
+
+#[test]
+fn a_pair_is_missing_by_whichever_rule(rt: HostRuntime) -> Result<(), Fail> {
+    sheet_holds(&rt, rt.alloc(), TWICE)
 }
 
 // The certificate as it is, for other weights, and for queries that differ in the last header and in what is known to be down.

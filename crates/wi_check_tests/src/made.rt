@@ -3,7 +3,7 @@ ghost use Rattle.std.specs.Prelude.{IfOk};
 ghost use Rattle.wi_query.specs.Meaning.{IsQueryOf};
 ghost use Rattle.wi_cert.specs.Text.{IsWritable};
 
-use crate::asked::{query_of, text_of, vector_of};
+use crate::asked::text_of;
 use crate::changed::{QUERY, YES};
 use std::alloc::Global;
 use std::process::Abort;
@@ -15,6 +15,7 @@ use wi_decide::decide;
 use wi_net::Network;
 use wi_quantity::Vector;
 use wi_query::Query;
+use wi_questions::{query_of, vector_of};
 use wi_samples::{N1, N2, N3, N4, N5, Sample, doubling, network};
 use wi_world::Word;
 

@@ -1,7 +1,4 @@
 //! Exact answers by example.
-ghost use Rattle.std.specs.Prelude.{IfOk};
-ghost use Rattle.wi_query.specs.Meaning.{IsQueryOf};
-
 use std::alloc::Global;
 use std::process::Abort;
 use std::test::Fail;
@@ -10,7 +7,8 @@ use wi_build::Problem;
 use wi_cert::Node as TreeNode;
 use wi_net::{FailSet, LinkId, Network};
 use wi_quantity::Vector;
-use wi_query::{Query, read_query};
+use wi_query::Query;
+use wi_questions::query_of;
 use wi_samples::{N1, N1_FIBER, N2, N3, Sample, network};
 use wi_trace::Answer;
 use wi_world::{Verdict, Word};
@@ -38,16 +36,6 @@ struct Case<'a> {
     limit: u32,
     outcome: Outcome<'a>,
     nodes: &'a [Node],
-}
-
-/// The query that a text is.
-pub fn query_of(alloc: Global, net: &Network, text: &str) -> Result<Query, Fail>
-    ensures { IfOk result (IsQueryOf net.now) }
-{
-    match read_query(alloc, net, text) {
-        Ok(query) => Ok(query),
-        Err(_) => Err(Fail::new("no query")),
-    }
 }
 
 /// A set has these links, in rising order.

@@ -4,7 +4,6 @@ ghost use Rattle.std.specs.List.{All};
 ghost use Rattle.wi_outage.specs.Survival.{with_down};
 ghost use Rattle.wi_world.specs.Moves.{AreBounds};
 
-use crate::exact::query_of;
 use std::alloc::Global;
 use std::process::Abort;
 use std::test::Fail;
@@ -14,6 +13,7 @@ use wi_labels::{Class, Label, Op};
 use wi_net::{FailSet, Network};
 use wi_outage::{Outage, group_outages, outages_keep_bounds, router_outages};
 use wi_quantity::Vector;
+use wi_questions::query_of;
 use wi_samples::{N1, N2, N3, Sample, network};
 use wi_settle::{Found, Settled, ask_during, settle, settled_for};
 

@@ -1,6 +1,6 @@
 //! How many failures it takes, by example.
 
-use crate::exact::{query_of, set_is};
+use crate::exact::set_is;
 use std::alloc::Global;
 use std::process::Abort;
 use std::test::Fail;
@@ -10,6 +10,7 @@ use wi_cert::{Claim, TreeCertificate};
 use wi_net::Network;
 use wi_quantity::Vector;
 use wi_query::Query;
+use wi_questions::query_of;
 use wi_samples::{N1, N1_FIBER, N2, N3, Sample, network};
 use wi_trace::Answer;
 use wi_world::Verdict;

@@ -1,9 +1,9 @@
 //! Keys come in crowds: what may stand below one symbol is handed on to others, and a state that is reached by a pop comes up with
 //! all that may stand below. So whether a key was found is a bit, and neighbours with one first part have their bits in one word,
 //! which is hashed: a key takes little more than its bit where many are found, and as much as a hashed one where few are.
-ghost use Rattle.std.specs.Prelude.{◌≡◌, ℕ, ◌<◌, not, true, false, if◌then◌else◌, IfOk, OnOk, OnErr};
+ghost use Rattle.std.specs.Prelude.{◌≡◌, ℕ, ◌<◌, ◌||◌, not, true, false, IfOk, OnOk, OnErr};
 ghost use Rattle.wi_reduce.specs.private.Worklists.{eq_by_parts};
-ghost use Rattle.wi_reduce.specs.private.Bits.{has_bit};
+ghost use Rattle.wi_reduce.specs.private.Bits.{has_bit, word_at};
 
 use std::alloc::Global;
 use std::collections::HashMap;
@@ -81,16 +81,23 @@ impl<A: Number + Hash + Drop, B: Number + Hash + Drop> Bits<A, B> {
         }
     }
 
+    // The word at a place; where there is none, no bit is set.
+    fn word(&self, place: (A, B)) -> u64
+        ensures { result ≡ word_at A.eq B.eq self.now.words place }
+    {
+        self.words.get(&place).copied().unwrap_or(0)
+    }
+
     /// Adds a pair: whether it is new.
     pub(crate) fn add(&mut self, pair: (A, B)) -> Result<bool, NoMemory>
         ensures told { IfOk result (λ new. new ≡ not (has_bit A.eq B.eq B.part B.rest self.old.words pair)) }
-        ensures added { OnOk result ((q : A × B) → has_bit A.eq B.eq B.part B.rest self.new.words q ≡ (if eq_by_parts A.eq B.eq pair q then true else has_bit A.eq B.eq B.part B.rest self.old.words q)) }
+        ensures added { OnOk result ((q : A × B) → has_bit A.eq B.eq B.part B.rest self.new.words q ≡ (eq_by_parts A.eq B.eq pair q || has_bit A.eq B.eq B.part B.rest self.old.words q)) }
         ensures same { IfOk result (λ new. new ≡ false → (q : A × B) → has_bit A.eq B.eq B.part B.rest self.new.words q ≡ has_bit A.eq B.eq B.part B.rest self.old.words q) }
         ensures err { OnErr result ((q : A × B) → has_bit A.eq B.eq B.part B.rest self.new.words q ≡ has_bit A.eq B.eq B.part B.rest self.old.words q) }
     {
         let (part, rest) = pair.1.cut();
         let place = (pair.0, part);
-        let word = self.words.get(&place).copied().unwrap_or(0);
+        let word = self.word(place);
         if (word >> rest) & 1 == 1 {
             return Ok(false);
         }

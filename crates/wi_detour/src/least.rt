@@ -12,13 +12,11 @@ ghost use Rattle.wi_detour.specs.private.Tables.{scale, components, HasTable};
 use crate::around::{Length, Ways};
 use crate::graph::Graph;
 use std::alloc::Global;
-use std::marker::Brand;
-use std::sync::ledger::{Blank, Ledger};
 use wi_base::{Listed, NoMemory};
 use wi_net::{LinkId, Network};
 use wi_pds::{Heads, RuleId};
 use wi_reduce::reach;
-use wi_saturate::{LeastRefused, Steps, Table, least};
+use wi_saturate::{LeastRefused, Table, least};
 use wi_witness::{UnfoldRefused, unfold};
 
 /// A least detour of a link, if it has one: a bypass of it (RFC 4090) outside its risk group, of the least sum of distances, and of
@@ -39,7 +37,7 @@ pub fn detour(
 {
     let ways = Ways::around(net, graph, link);
     let heads = reach(alloc, &ways)?;
-    let table = table_of::<Brand, Brand>(alloc, &ways, &heads, Blank::new(1), Blank::new(1));
+    let table = table_of(alloc, &ways, &heads);
     drop(heads);
     let table = table?;
     let found = via_of(alloc, &ways, &table);
@@ -47,30 +45,16 @@ pub fn detour(
     found
 }
 
-// The least summaries of heads, up to the end. How many rows are settled and how many candidates are tried is not looked at.
-fn table_of<L: Ledger, M: Ledger>(
-    alloc: Global,
-    ways: &Ways<'_>,
-    heads: &Heads,
-    blank: Blank,
-    other: Blank,
-) -> Result<Table<Length>, NoMemory>
-    requires name { blank.name ≡ L.name }
-    requires parts { blank.parts ≡ L.parts }
-    requires some { 0 < blank.parts }
-    requires other_name { other.name ≡ M.name }
-    requires other_parts { other.parts ≡ M.parts }
-    requires other_some { 0 < other.parts }
-    requires closed { AreClosed (rules_around ways.now) (0, 0) heads.now.heads heads.now.pairs }
+// The least summaries of heads, up to the end.
+fn table_of(alloc: Global, ways: &Ways<'_>, heads: &Heads) -> Result<Table<Length>, NoMemory>
+    requires { AreClosed (rules_around ways.now) (0, 0) heads.now.heads heads.now.pairs }
     ensures { IfOk result (HasTable ways.now) }
 {
     ways.keeps();
-    let mut steps = Steps::<L>::open(blank);
-    let mut tries = Steps::<M>::open(other);
-    match least(alloc, ways, heads, (0, 0, 1), None, &mut steps, &mut tries) {
+    match least(alloc, ways, heads, (0, 0, 1), None) {
         Ok(table) => Ok(table),
         Err(LeastRefused::Memory) => Err(NoMemory::Memory),
-        Err(LeastRefused::Overflow { .. }) => unreachable!(),
+        Err(LeastRefused::Overflow(_)) => unreachable!(),
     }
 }
 

@@ -30,8 +30,8 @@ mod waits;
 
 pub use heap::{Candidate, Heap};
 pub use laws::rows_below_a_weight_are_closed;
-pub use refused::LeastRefused;
+pub use refused::{LeastRefused, Overflow};
 pub use row::Row;
-pub use saturation::least;
+pub use saturation::{least, least_counted};
 pub use steps::Steps;
 pub use table::Table;

@@ -1,7 +1,7 @@
 //! A sum weighs no less than its parts, so nothing that is made later is lighter than what was settled, and each row is least.
 //! So the search may end at the goal's row, at the cut, or at the first weight that doesn't fit. It keeps all rules of listed
 //! heads, all rows, what waits and the candidates that weren't taken.
-ghost use Rattle.std.specs.Prelude.{◌≡◌, ℕ, [], ◌+◌, ◌≤◌, true, false, IsSomeAnd, IfOk, IfErr, option_map, length};
+ghost use Rattle.std.specs.Prelude.{◌≡◌, ℕ, [], ◌+◌, ◌<◌, ◌≤◌, true, false, IsSomeAnd, IfOk, IfErr, option_map, length};
 ghost use Rattle.std.specs.List.{Contains};
 ghost use Rattle.wi_weight.specs.Weights.{AtMost};
 ghost use Rattle.wi_pds.specs.Closed.{AreClosed, Within};
@@ -14,7 +14,7 @@ ghost use Rattle.wi_saturate.specs.private.Questions.{IsAsked};
 ghost use Rattle.wi_saturate.specs.Refusals.{IsRefusal};
 
 use crate::index::Index;
-use crate::refused::LeastRefused;
+use crate::refused::{LeastRefused, Overflow};
 use crate::row::Row;
 use crate::search::Search;
 use crate::steps::Steps;
@@ -22,7 +22,8 @@ use crate::table::Table;
 use crate::turn::Turn;
 use std::alloc::Global;
 use std::cmp::Ordering;
-use std::sync::ledger::Ledger;
+use std::marker::Brand;
+use std::sync::ledger::{Blank, Ledger};
 use wi_pds::{Heads, System};
 use wi_weight::Domain;
 
@@ -82,11 +83,11 @@ fn settle<W: Domain, S: System<W>, L: Ledger, M: Ledger>(
             return Ok(Table { rows, best: None });
         }
         if !next.weight.fits() {
-            return Err(LeastRefused::Overflow {
+            return Err(LeastRefused::Overflow(Overflow {
                 head: (next.p, next.g),
                 target: next.q,
                 weight: next.weight,
-            });
+            }));
         }
         rows.push(next)?;
         steps.tick();
@@ -132,9 +133,9 @@ fn table_of<W: Domain, S: System<W>, L: Ledger, M: Ledger>(
 /// the goal's row as the last. Rows that weigh as much as the goal may stand before it. The goal is a state, a symbol and a
 /// state.
 ///
-/// Each turn settles a lightest row that a rule and settled rows make, and adds one to `steps`; which of several lightest rows
-/// comes first is not said. What a rule makes of rows is found once, when the last of these rows is settled. It is put on a heap,
-/// and adds one to `tries`, if it is lighter than each that went there for its summary; the lightest of the heap is settled next.
+/// Each turn settles a lightest row that a rule and settled rows make; which of several lightest rows comes first is not said. What a
+/// rule makes of rows is found once, when the last of these rows is settled. It is put on a heap, if it is lighter than each that
+/// went there for its summary; the lightest of the heap is settled next.
 /// The system is asked for the rules of each head once.
 ///
 /// What it costs: each listed head is asked for its rules once, before the first turn. Each candidate is looked up once by its
@@ -145,8 +146,55 @@ fn table_of<W: Domain, S: System<W>, L: Ledger, M: Ledger>(
 /// with its weight for each rule that waits.
 ///
 /// `Overflow` tells the lightest summary that doesn't fit and would have been settled. It may come where the goal's own
-/// weight would fit. Where the call is refused, `steps` and `tries` may have risen.
-pub fn least<W: Domain, S: System<W>, L: Ledger, M: Ledger>(
+/// weight would fit.
+pub fn least<W: Domain, S: System<W>>(
+    alloc: Global,
+    sys: &S,
+    heads: &Heads,
+    goal: (u64, u32, u64),
+    cut: Option<W>,
+) -> Result<Table<W>, LeastRefused<W>>
+    requires closed { AreClosed (S.rules sys.now) (S.start_head sys.now) heads.now.heads heads.now.pairs }
+    requires ready { AreReady W.components (S.rules sys.now) heads.now.heads }
+    requires start { S.start_head sys.now ≡ (goal.0, goal.1) }
+    requires asked { (p g : ℕ) → Contains heads.now.heads (p, g) → S.may_ask sys.now p g }
+    ensures table { IfOk result (λ t. IsLeastTable W.scale W.components (S.rules sys.now) heads.now.heads goal (option_map W.components cut) t.rows (option_map W.components t.best)) }
+    ensures refusal { IfErr result (IsRefusal W.scale W.components (S.rules sys.now) heads.now.heads goal (option_map W.components cut)) }
+{
+    uncounted::<W, S, Brand, Brand>(alloc, sys, heads, goal, cut, Blank::new(1), Blank::new(1))
+}
+
+// The same, by ledgers that nobody reads.
+fn uncounted<W: Domain, S: System<W>, L: Ledger, M: Ledger>(
+    alloc: Global,
+    sys: &S,
+    heads: &Heads,
+    goal: (u64, u32, u64),
+    cut: Option<W>,
+    blank: Blank,
+    other: Blank,
+) -> Result<Table<W>, LeastRefused<W>>
+    requires name { blank.name ≡ L.name }
+    requires parts { blank.parts ≡ L.parts }
+    requires some { 0 < blank.parts }
+    requires other_name { other.name ≡ M.name }
+    requires other_parts { other.parts ≡ M.parts }
+    requires other_some { 0 < other.parts }
+    requires closed { AreClosed (S.rules sys.now) (S.start_head sys.now) heads.now.heads heads.now.pairs }
+    requires ready { AreReady W.components (S.rules sys.now) heads.now.heads }
+    requires start { S.start_head sys.now ≡ (goal.0, goal.1) }
+    requires asked { (p g : ℕ) → Contains heads.now.heads (p, g) → S.may_ask sys.now p g }
+    ensures table { IfOk result (λ t. IsLeastTable W.scale W.components (S.rules sys.now) heads.now.heads goal (option_map W.components cut) t.rows (option_map W.components t.best)) }
+    ensures refusal { IfErr result (IsRefusal W.scale W.components (S.rules sys.now) heads.now.heads goal (option_map W.components cut)) }
+{
+    let mut steps = Steps::<L>::open(blank);
+    let mut tries = Steps::<M>::open(other);
+    least_counted(alloc, sys, heads, goal, cut, &mut steps, &mut tries)
+}
+
+/// The same, counted: each turn adds one to `steps`, and each candidate that is put on the heap one to `tries`. Where the call is
+/// refused, both may have risen.
+pub fn least_counted<W: Domain, S: System<W>, L: Ledger, M: Ledger>(
     alloc: Global,
     sys: &S,
     heads: &Heads,

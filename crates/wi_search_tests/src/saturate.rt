@@ -16,7 +16,7 @@ use std::sync::ledger::{Blank, Ledger};
 use std::test::Fail;
 use wi_base::NoMemory;
 use wi_pds::{Heads, Rule, RuleId, RuleList, System, Word2};
-use wi_saturate::{Candidate, Heap, LeastRefused, Row, Steps, Table, least};
+use wi_saturate::{Candidate, Heap, LeastRefused, Overflow, Row, Steps, Table, least_counted};
 use wi_weight::{Domain, Effort, Reach};
 
 // 2^62, 2^64 and 2^64 + 3
@@ -183,7 +183,8 @@ fn candidates_of<L: Ledger, M: Ledger>(
 {
     let mut steps = Steps::<L>::open(blank);
     let mut tries = Steps::<M>::open(other);
-    let Ok(table) = least(alloc, list, heads, (0, 0, 1), None, &mut steps, &mut tries) else {
+    let Ok(table) = least_counted(alloc, list, heads, (0, 0, 1), None, &mut steps, &mut tries)
+    else {
         return None;
     };
     let counted = count_candidates(alloc, list, heads.heads.as_slice(), table.rows());
@@ -339,11 +340,11 @@ fn doubled(alloc: Global, cut: Option<Effort>) -> Result<Table<Effort>, LeastRef
 
 #[test]
 fn the_lightest_that_does_not_fit_is_told(rt: HostRuntime) -> Result<(), Fail> {
-    let told = LeastRefused::Overflow {
+    let told = LeastRefused::Overflow(Overflow {
         head: (0, 2),
         target: 0,
         weight: Effort { count: DOUBLED },
-    };
+    });
     assert_eq!(rt; doubled(rt.alloc(), None).err(), Some(told));
     Ok(())
 }

@@ -8,7 +8,7 @@ use std::alloc::Global;
 use std::marker::Brand;
 use std::sync::ledger::{Blank, Ledger};
 use wi_pds::{Heads, System};
-use wi_saturate::{LeastRefused, Steps, Table, least};
+use wi_saturate::{LeastRefused, Steps, Table, least_counted};
 use wi_weight::Domain;
 
 // A call of this is a proof that the counter stands at the count.
@@ -45,7 +45,7 @@ fn counted_table<W: Domain, S: System<W>, L: Ledger, M: Ledger>(
 {
     let mut steps = Steps::<L>::open(blank);
     let mut tries = Steps::<M>::open(other);
-    let table = least(alloc, sys, heads, goal, cut, &mut steps, &mut tries)?;
+    let table = least_counted(alloc, sys, heads, goal, cut, &mut steps, &mut tries)?;
     stands_at(&steps, table.rows().len());
     stands_at_least(&tries, table.rows().len());
     Ok(table)

@@ -4,7 +4,7 @@ use Rattle.wi_pds.specs.Closed.{AreClosed}
 use Rattle.wi_saturate.specs.LeastTables.{AreReady, IsLeastTable}
 use Rattle.wi_saturate.specs.Refusals.{IsRefusal}
 use Rattle.wi_saturate.specs.Tries.{candidates}
-use Rattle.wi_saturate.proofs.saturation.least.Goals as goal
+use Rattle.wi_saturate.proofs.saturation.least_counted.Goals as goal
 
 pub table_of-table-requires : goal.table_of-table-requires
 table_of-table-requires g c =

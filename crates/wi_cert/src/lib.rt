@@ -32,7 +32,7 @@ pub use laws::{
 };
 pub use row::{Numbers, Row};
 pub use shown::{Claim, Dropped, Shown};
-pub use tree::{Node, TreeCertificate};
+pub use tree::{NODE_LIMIT, Node, TreeCertificate};
 pub use tree_feeder::{TreeFeeder, decode_tree};
 pub use tree_writer::{encode_tree, encode_tree_within};
 pub use writer::{encode, encode_within};

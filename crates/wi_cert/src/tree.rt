@@ -4,6 +4,9 @@ use crate::closed::{Closed, ClosedPlace};
 use crate::shown::{Shown, ShownPlace};
 use wi_base::Listed;
 
+/// No tree has so many nodes: the number of its nodes is odd, and at most this.
+pub const NODE_LIMIT: u32 = 10_000;
+
 /// A node of a tree of branches.
 #[derive(Drop)]
 pub enum Node {

@@ -14,7 +14,7 @@ use crate::draft::{closed_rank, dropped_count, shown_rank};
 use crate::line::{count_after, is_line};
 use crate::shown::{Dropped, ShownDraft, ShownPlace};
 use crate::take_lines::TakeLines;
-use crate::tree::{Node, TreeCertificate, TreePlace};
+use crate::tree::{NODE_LIMIT, Node, TreeCertificate, TreePlace};
 use std::alloc::Global;
 use std::marker::Model;
 use wi_base::{Listed, NoMemory};
@@ -256,7 +256,7 @@ fn take_node_count(line: &[u8], numbers: &mut Vec<u64>) -> Result<Option<TreePla
     let Some(count) = count_after(b"nodes ", line, numbers)? else {
         return Ok(None);
     };
-    if can_make(count, 1) && count < 10_000 {
+    if can_make(count, 1) && count < NODE_LIMIT as u64 {
         Ok(Some(TreePlace::Node(count, 1)))
     } else {
         Ok(None)

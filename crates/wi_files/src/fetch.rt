@@ -1,5 +1,5 @@
-//! A file over its limit could be read, so that is a fault of the file and no failed call. The limits stand here and are given
-//! to the shelf, so that it needn't read a longer file to its end. A network's bytes are in memory until it is read.
+//! A file over its limit could be read, so that is a fault of the file and no failed call. The limit is given to the shelf, so
+//! that it needn't read a longer file to its end. A network's bytes are in memory until it is read.
 ghost use Rattle.std.specs.Prelude.{◌≡◌, true, ◌≤◌, ℕ, List, Ok, Some, IfOk, IfErr, IfSome, MatchOption, vec_len, length};
 ghost use Rattle.wi_base.specs.Shelf.{IsLonger};
 ghost use Rattle.wi_netjson.specs.File.{network_of};
@@ -10,11 +10,8 @@ ghost use Rattle.wi_files.specs.Shelves.{AllStand, IsCalm, IsUnread};
 use std::alloc::Global;
 use wi_base::{FetchRefused, Shelf};
 use wi_net::Network;
-use wi_netjson::{NetFault, Place, read_network};
+use wi_netjson::{NETWORK_LIMIT, NetFault, Place, read_network};
 use wi_outcome::{Refusal, cannot_read};
-
-/// The most bytes of a network file.
-pub const NETWORK_LIMIT: u32 = 67_108_864;
 
 /// The most bytes of a script, and of a file of policies.
 pub const LINES_LIMIT: u32 = 1_048_576;

@@ -10,7 +10,7 @@ mod tree_file;
 mod trees_file;
 
 pub use certificate_file::{fetch_certificate, store_certificate};
-pub use fetch::{LINES_LIMIT, NETWORK_LIMIT, bytes_within, network, network_bytes};
+pub use fetch::{LINES_LIMIT, bytes_within, network, network_bytes};
 pub use policies_file::{Policies, fetch_policies};
 pub use texts::{Asked, read_texts};
 pub use tree_file::{fetch_tree, store_tree};

@@ -12,9 +12,9 @@ ghost use Rattle.wi_make.specs.private.Stages.{FromDraftFile, FromPlanWriting, I
 use std::alloc::Global;
 use wi_base::{Listed, NoMemory, Shelf};
 use wi_bypass::{Found, a_plan_without_unprotected_links_survives, bypasses, with_found};
-use wi_files::{NETWORK_LIMIT, network_bytes};
+use wi_files::network_bytes;
 use wi_net::{LinkId, Network};
-use wi_netjson::{a_line_feed_changes_nothing, read_network};
+use wi_netjson::{NETWORK_LIMIT, a_line_feed_changes_nothing, read_network};
 use wi_outcome::{Printed, Refusal};
 use wi_plan::Plan;
 use wi_planjson::{PlanRefused, a_line_feed_changes_no_plan, read_draft, write_plan};

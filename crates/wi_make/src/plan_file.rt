@@ -8,9 +8,9 @@ ghost use Rattle.wi_make.specs.private.Stages.{FromPlanFile, FromWriting, IsWrit
 
 use std::alloc::Global;
 use wi_base::Shelf;
-use wi_files::{NETWORK_LIMIT, network_bytes};
+use wi_files::network_bytes;
 use wi_net::Network;
-use wi_netjson::{a_line_feed_changes_nothing, read_network, write_network};
+use wi_netjson::{NETWORK_LIMIT, a_line_feed_changes_nothing, read_network, write_network};
 use wi_outcome::{Printed, Refusal};
 use wi_plan::Plan;
 use wi_planjson::{PlanRefused, read_plan};

@@ -16,6 +16,9 @@ use serde_json::Value;
 use std::alloc::Global;
 use wi_net::{Network, NetworkBuilder};
 
+/// The most bytes of a network file.
+pub const NETWORK_LIMIT: u32 = 67_108_864;
+
 /// The network that bytes mean, or their first fault. Routers, links, labels and tables are numbered as in the file.
 #[tactic(auto, unfolding(crate::specs::File::network_of))]
 pub fn read_network(alloc: Global, bytes: &[u8]) -> Result<Network, NetFault>
@@ -30,10 +33,10 @@ pub fn read_network(alloc: Global, bytes: &[u8]) -> Result<Network, NetFault>
 fn few_bytes(bytes: &[u8]) -> Result<(), NetFault>
     ensures { Gives (λ u. u) result (few_bytes bytes.now) }
 {
-    if bytes.len() <= 67108864 {
+    if bytes.len() <= NETWORK_LIMIT as usize {
         Ok(())
     } else {
-        Err(NetFault::OverLimit(Place::File, 67108864))
+        Err(NetFault::OverLimit(Place::File, NETWORK_LIMIT))
     }
 }
 

@@ -14,6 +14,6 @@ mod tables;
 mod written;
 
 pub use fault::{LinkPart, MemberPart, NetFault, Place, TablePart};
-pub use file::read_network;
+pub use file::{NETWORK_LIMIT, read_network};
 pub use laws::a_line_feed_changes_nothing;
 pub use written::{network_members, write_network};

@@ -5,4 +5,4 @@ mod printed;
 mod refusal;
 
 pub use printed::{Printed, print, say_unprinted};
-pub use refusal::{NODE_LIMIT, Refusal, cannot_read, cannot_write, say, status_of};
+pub use refusal::{Refusal, cannot_read, cannot_write, say, status_of};

@@ -7,7 +7,7 @@ ghost use Rattle.wi_outcome.specs.Texts.{cannot_read_text, cannot_write_text, st
 
 use std::alloc::Global;
 use wi_base::{NoMemory, PutRefused, Sink};
-use wi_cert::CheckRefused;
+use wi_cert::{CheckRefused, NODE_LIMIT};
 use wi_netjson::NetFault;
 use wi_planjson::PlanRefused;
 use wi_protect::ProtectRefused;
@@ -20,9 +20,6 @@ use wi_report::{
 use wi_script::ScriptRefused;
 use wi_text::Text;
 use wi_wire::StackRefused;
-
-/// The most nodes of the tree of an exact answer.
-pub const NODE_LIMIT: u32 = 10_000;
 
 // What is said where the words are no command.
 const USAGE: &[u8] =

@@ -1,5 +1,5 @@
 -- Exact answers: what they show can be shown, and from the parts of both commands to the whole.
-use Rattle.std.proofs.Common.{◌≡◌, ℕ, List, length, Option, Some, None, Result, Ok, Err, inl, inr, refl, sym, ◌∙◌}
+use Rattle.std.proofs.Common.{◌≡◌, ℕ, List, length, Option, Some, None, Result, Ok, Err, inl, inr, refl, ap, sym, ◌∙◌}
 use Rattle.std.specs.Prelude.{option_map, IfErr, IfOk, IfSome, OnOk}
 use Rattle.wi_base.specs.declared.shelf.CallKind.TheVariants.{Store}
 use Rattle.wi_base.specs.Shelf.{ShelfSeen}
@@ -19,6 +19,7 @@ use Rattle.wi_trees.specs.Trees.{HoldsExactly}
 use Rattle.wi_accept.specs.Answers.{word_of}
 use Rattle.wi_accept.specs.Trees.{IsDecidedExactly}
 use Rattle.wi_branch.specs.declared.refused.ExactRefused.TheVariants as none
+use Rattle.wi_branch.specs.Exactly.{IsAnsweredExactly}
 use Rattle.wi_report.specs.Reports.{IsKnownRun, accepted_text, exact_report_of}
 use Rattle.std.proofs.lemmas.Bool.{and_parts}
 use Rattle.wi_world.specs.Moves.{follows, is_start, is_usable, may_end}
@@ -62,13 +63,35 @@ exact_answer_ends problem file shelf status text r = exact_word_ends problem r.a
 
 -- where there is none, the status is that of its cause
 pub unsplit_due : (problem : Problem) (refusal : Refusal) → FromSplitting problem refusal → Ends (EndsBySplitting problem) refusal
-unsplit_due problem (Overflow w terms) cause = (refl, inr (none.Overflow cause.1.0 cause.1.1 cause.1.2 w, cause.1.3, refl))
-unsplit_due problem (TooLong effort) cause = (refl, inr (none.TooLong cause.0 effort, cause.1, refl))
-unsplit_due problem ManyNodes cause = (refl, inr (none.NodeLimit cause.0, cause.1, refl))
+unsplit_due problem (Overflow w terms) cause = (refl, inr (none.Overflow (record { head = cause.1.0; target = cause.1.1; weight = w }), cause.1.2, refl))
+unsplit_due problem (TooLong effort) cause = (refl, inr (none.TooLong effort, cause, refl))
+unsplit_due problem ManyNodes cause = (refl, inr (none.NodeLimit, cause, refl))
 unsplit_due problem Memory cause = (refl, inl refl)
 unsplit_due problem refusal cause = elim cause [ ]
 
 -- ---- exact
+
+-- the report on an exact answer whose tree isn't made, whatever files there are
+pub answered_reported : (printed : Printed) (problem : Problem) (answer : Answer) (count : ℕ) → IsProblem problem → IsAnsweredExactly problem 10000 answer count → printed.status ≡ status_for answer.word
+    → printed.text ≡ exact_report_of problem.net problem.bounds (length problem.vector) answer count → (shelf : ShelfSeen) → IsReportedExactly problem None shelf printed.status printed.text
+answered_reported printed problem answer count k is status text shelf = record {
+  answer = answer;
+  tree = is.tree;
+  is = record { problem_is = k; exact = is.exact; accepted = is.accepted };
+  stored = tt;
+  status_is = status;
+  text_is = text ∙ ap (λ n. exact_report_of problem.net problem.bounds (length problem.vector) answer n) is.counted;
+}
+
+pub reported_at : (r : Result Printed Refusal) (problem : Problem) (shelf : ShelfSeen) → IfOk r (λ printed. (any : ShelfSeen) → IsReportedExactly problem None any printed.status printed.text)
+    → IfOk r (λ printed. IsReportedExactly problem None shelf printed.status printed.text)
+reported_at (Ok printed) problem shelf h = h shelf
+reported_at (Err refusal) problem shelf h = tt
+
+pub unanswered : (r : Result Printed Refusal) (shelf : ShelfSeen) (problem : Problem) (file : Option (List ℕ)) → IfErr r (FromSplitting problem)
+    → IfErr r (λ refusal. FromAnswer FromSplitting (FromTreeStore file) shelf shelf problem refusal)
+unanswered (Ok printed) shelf problem file h = tt
+unanswered (Err refusal) shelf problem file h = inl (h, refl)
 
 -- the report on an exact answer, with its tree
 pub shown_reported : (r : Result Printed Refusal) (problem : Problem) (file : Option (List ℕ)) (shelf : ShelfSeen) (answer : Answer) (t : TreeCertificate) → IsShownExactly problem answer t

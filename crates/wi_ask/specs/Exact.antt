@@ -11,7 +11,6 @@ use Rattle.wi_accept.specs.Answers.{answer_of}
 use Rattle.wi_accept.specs.Trees.{IsDecidedExactly, IsTreeAccepted, IsTreeRefusal}
 use Rattle.wi_branch.specs.declared.refused.ExactRefused.{ExactRefused}
 use Rattle.wi_branch.specs.declared.refused.ExactRefused.TheVariants as none
-use Rattle.wi_branch.specs.declared.opened.Opened.{Opened}
 use Rattle.wi_branch.specs.Exactly.{IsExact, IsExactRefused}
 use Rattle.wi_report.specs.Reports.{exact_report_of}
 use Rattle.wi_outcome.specs.declared.refusal.Refusal.{Refusal}
@@ -39,17 +38,17 @@ pub record IsReportedExactly (problem : Problem) (file : Option (List ℕ)) (she
 -- at the branch that is next a summary's weight doesn't fit, or else the least run is too long; or it would be one node too many
 abbrev pub FromSplitting : Problem → Refusal → Type 0
 FromSplitting problem (Overflow w terms) =
-    (terms ≡ length problem.vector) × ((opened : List Opened) × (head : ℕ × ℕ) × (target : ℕ) × IsExactRefused problem 10000 (none.Overflow opened head target w))
-FromSplitting problem (TooLong effort) = (opened : List Opened) × IsExactRefused problem 10000 (none.TooLong opened effort)
-FromSplitting problem ManyNodes = (opened : List Opened) × IsExactRefused problem 10000 (none.NodeLimit opened)
+    (terms ≡ length problem.vector) × ((head : ℕ × ℕ) × (target : ℕ) × IsExactRefused problem 10000 (none.Overflow (record { head = head; target = target; weight = w })))
+FromSplitting problem (TooLong effort) = IsExactRefused problem 10000 (none.TooLong effort)
+FromSplitting problem ManyNodes = IsExactRefused problem 10000 none.NodeLimit
 FromSplitting problem Memory = Unit {0}
 FromSplitting problem refusal = ⊥
 
 -- the status with which it then ends
 abbrev pub status_without : ExactRefused → ℕ
-status_without (none.Overflow opened head target w) = 6
-status_without (none.TooLong opened effort) = 7
-status_without (none.NodeLimit opened) = 13
+status_without (none.Overflow o) = 6
+status_without (none.TooLong effort) = 7
+status_without none.NodeLimit = 13
 status_without none.Memory = 11
 
 abbrev pub EndsBySplitting : Problem → ℕ → Type 0

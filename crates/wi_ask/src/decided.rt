@@ -6,7 +6,7 @@ ghost use Rattle.wi_ask.specs.Decided.{FromDecision};
 use std::alloc::Global;
 use wi_build::Problem;
 use wi_cert::Certificate;
-use wi_decide::{DecideRefused, decide};
+use wi_decide::{SearchRefused, decide};
 use wi_outcome::Refusal;
 use wi_trace::Answer;
 
@@ -21,8 +21,10 @@ pub fn decided<'a>(
     problem.keeps();
     match decide(alloc, problem) {
         Ok(found) => Ok(found),
-        Err(DecideRefused::Overflow(weight)) => Err(Refusal::Overflow(weight, problem.terms())),
-        Err(DecideRefused::TooLong(effort)) => Err(Refusal::TooLong(effort)),
-        Err(DecideRefused::Memory) => Err(Refusal::Memory),
+        Err(SearchRefused::Overflow(overflow)) => {
+            Err(Refusal::Overflow(overflow.weight, problem.terms()))
+        }
+        Err(SearchRefused::TooLong(effort)) => Err(Refusal::TooLong(effort)),
+        Err(SearchRefused::Memory) => Err(Refusal::Memory),
     }
 }

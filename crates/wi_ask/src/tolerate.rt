@@ -12,8 +12,9 @@ use std::alloc::Global;
 use wi_base::{NoMemory, Shelf};
 use wi_branch::{Tolerance, TolerateRefused, tolerate as tolerance_of};
 use wi_build::Problem;
+use wi_cert::NODE_LIMIT;
 use wi_files::store_trees;
-use wi_outcome::{NODE_LIMIT, Printed, Refusal};
+use wi_outcome::{Printed, Refusal};
 use wi_report::{none_up_to_text, tolerance_report};
 use wi_text::Text;
 

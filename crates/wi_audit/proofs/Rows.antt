@@ -24,10 +24,10 @@ comments = refl
 no_comment : commented true [] ≡ []
 no_comment = refl
 
-too_many_nodes : commented true (cause_text (NodeLimit [])) ≡ codes "# exact: over the limit 10000 nodes\n"
+too_many_nodes : commented true (cause_text NodeLimit) ≡ codes "# exact: over the limit 10000 nodes\n"
 unfolding digits
 too_many_nodes = refl
 
-too_long : commented true (cause_text (TooLong [] 5000)) ≡ codes "# too long: effort 5000, limit 4096\n"
+too_long : commented true (cause_text (TooLong 5000)) ≡ codes "# too long: effort 5000, limit 4096\n"
 unfolding digits
 too_long = refl

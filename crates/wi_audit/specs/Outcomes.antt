@@ -1,15 +1,14 @@
 -- What becomes of a policy that is asked, and whether that is what it expects.
-use Rattle.std.specs.Prelude.{◌≡◌, Bool, true, false, if◌then◌else◌, List, [], length, string_bytes}
+use Rattle.std.specs.Prelude.{◌≡◌, Bool, true, false, if◌then◌else◌, List, [], string_bytes}
 use Rattle.std.specs.List.{list_any}
 use Rattle.wi_net.specs.declared.bounds.Bounds.{Bounds}
 use Rattle.wi_net.specs.Net.{Net}
 use Rattle.wi_world.specs.declared.answer.Word.{Word}
 use Rattle.wi_world.specs.declared.answer.Word.TheVariants.{Yes, No, Inconclusive}
 use Rattle.wi_query.specs.declared.query.Query.{Query}
-use Rattle.wi_cert.specs.declared.tree.TreeCertificate.{TreeCertificate}
 use Rattle.wi_build.specs.Problems.{Problem, IsProblem, problem_of}
 use Rattle.wi_branch.specs.declared.refused.ExactRefused.TheVariants as refused
-use Rattle.wi_branch.specs.Exactly.{IsExact, IsExactRefused}
+use Rattle.wi_branch.specs.Exactly.{IsAnsweredExactly, IsExactRefused}
 use Rattle.wi_policy.specs.declared.policy.Policy.{Policy}
 use Rattle.wi_policy.specs.Policies.{IsAsked}
 use Rattle.wi_audit.specs.declared.outcome.Outcome.{Outcome}
@@ -19,7 +18,7 @@ use Rattle.wi_audit.specs.declared.outcome.Fulfilment.TheVariants as fulfilment
 
 -- the exact answer to a problem, by a tree of so many nodes, at most 10,000; or why there is none
 abbrev pub IsOutcome : Problem → Outcome → Type 0
-IsOutcome problem (Answered answer nodes) = (tree : TreeCertificate) × IsExact problem 10000 answer tree × (nodes ≡ length tree.nodes)
+IsOutcome problem (Answered answer nodes) = IsAnsweredExactly problem 10000 answer nodes
 IsOutcome problem (Open cause) = (cause ≡ refused.Memory → ⊥) × IsExactRefused problem 10000 cause
 
 -- two words are one

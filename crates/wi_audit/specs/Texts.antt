@@ -40,9 +40,9 @@ commented begins (b ∷ text) = (if begins then codes "# " else []) ++ b ∷ com
 
 -- why there is no exact answer: of a weight the effort alone is asked
 abbrev pub cause_text : ExactRefused → List ℕ
-cause_text (refused.Overflow opened head target w) = overflow_text 0 w
-cause_text (refused.TooLong opened effort) = too_long_text effort
-cause_text (refused.NodeLimit opened) = nodes_over_limit_text 10000
+cause_text (refused.Overflow o) = overflow_text 0 o.weight
+cause_text (refused.TooLong effort) = too_long_text effort
+cause_text refused.NodeLimit = nodes_over_limit_text 10000
 cause_text refused.Memory = []
 
 -- the report on an outcome

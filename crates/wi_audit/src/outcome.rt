@@ -1,5 +1,4 @@
-//! An outcome has no tree, which may have 10,000 nodes with all rows of each leaf: of one policy no more is kept than its lines
-//! tell.
+//! An outcome has no tree: of one policy no more is kept than its lines tell.
 ghost use Rattle.std.specs.Prelude.{◌≡◌, ◌≢◌, IfOk, OnOk};
 ghost use Rattle.wi_audit.specs.Outcomes.{IsOutcome, fulfilment_of};
 ghost use Rattle.wi_branch.specs.declared.refused.ExactRefused.{ExactRefused};
@@ -8,9 +7,9 @@ ghost use Rattle.wi_audit.specs.private.Shows.{IsShowable};
 
 use std::alloc::Global;
 use wi_base::NoMemory;
-use wi_branch::{ExactRefused, exact};
+use wi_branch::{ExactRefused, exact_answer};
 use wi_build::Problem;
-use wi_outcome::NODE_LIMIT;
+use wi_cert::NODE_LIMIT;
 use wi_trace::Answer;
 use wi_world::Word;
 
@@ -33,17 +32,13 @@ pub enum Fulfilment {
     Undecided,
 }
 
-/// The outcome of a problem: its exact answer by a tree of at most 10,000 nodes, or why there is none. The tree is let go.
+/// The outcome of a problem: its exact answer by a tree of at most 10,000 nodes, or why there is none.
 pub(crate) fn outcome_of(alloc: Global, problem: &Problem<'_>) -> Result<Outcome, NoMemory>
     ensures outcome { IfOk result (λ outcome. IsOutcome problem.now outcome) }
     ensures known { IfOk result (λ outcome. IsShowable problem.now.net outcome) }
 {
-    match exact(alloc, problem, problem.bounds().k, NODE_LIMIT) {
-        Ok((answer, tree)) => {
-            let nodes = tree.nodes.as_slice().len();
-            drop(tree);
-            Ok(Outcome::Answered(answer, nodes))
-        }
+    match exact_answer(alloc, problem, problem.bounds().k, NODE_LIMIT) {
+        Ok((answer, nodes)) => Ok(Outcome::Answered(answer, nodes as usize)),
         Err(cause) => open_for(cause),
     }
 }

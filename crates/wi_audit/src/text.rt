@@ -11,7 +11,7 @@ use std::alloc::Global;
 use wi_base::{NoMemory, write_decimal};
 use wi_branch::ExactRefused;
 use wi_build::Problem;
-use wi_outcome::NODE_LIMIT;
+use wi_cert::NODE_LIMIT;
 use wi_policy::Policy;
 use wi_report::{exact_report, nodes_over_limit_text, overflow_text, too_long_text};
 use wi_text::Text;
@@ -206,9 +206,9 @@ fn cause_text(alloc: Global, cause: &ExactRefused) -> Result<Text, NoMemory>
     ensures { IfOk result (λ text. text ≡ cause_text cause.now) }
 {
     match cause {
-        ExactRefused::Overflow { weight, .. } => overflow_text(alloc, weight, 0),
-        ExactRefused::TooLong { effort, .. } => too_long_text(alloc, *effort),
-        ExactRefused::NodeLimit { .. } => nodes_over_limit_text(alloc, NODE_LIMIT),
+        ExactRefused::Overflow(overflow) => overflow_text(alloc, &overflow.weight, 0),
+        ExactRefused::TooLong(effort) => too_long_text(alloc, *effort),
+        ExactRefused::NodeLimit => nodes_over_limit_text(alloc, NODE_LIMIT),
         ExactRefused::Memory => Ok(Text::new(alloc)),
     }
 }

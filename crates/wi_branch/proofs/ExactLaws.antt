@@ -1,8 +1,7 @@
 -- Once all branches were opened, the best run is the answer, and what was opened is the tree that shows it.
-use Rattle.std.proofs.Common.{◌≡◌, ℕ, ◌<◌, ◌≤◌, true, false, List, [], ◌∷◌, length, map, Option, Some, None, IfSome, option_map, ◌⊎◌, inl, inr, refl, arith, sym, ◌∙◌, subst}
+use Rattle.std.proofs.Common.{◌≡◌, ℕ, ◌<◌, ◌≤◌, true, false, Bool, List, [], ◌∷◌, length, map, Option, Some, None, IfSome, option_map, ◌⊎◌, inl, inr, refl, arith, ap, sym, ◌∙◌, subst}
 use Rattle.std.proofs.lemmas.List.{length-map}
 use Rattle.wi_net.specs.declared.bounds.Bounds.{Bounds}
-use Rattle.wi_net.specs.Net.{Net}
 use Rattle.wi_net.specs.Network.{IsNetwork}
 use Rattle.wi_world.specs.declared.answer.Word.TheVariants.{Yes}
 use Rattle.wi_world.specs.declared.answer.Verdict.{Verdict}
@@ -25,12 +24,13 @@ use Rattle.wi_build.specs.Problems.{Problem, IsProblem, asks, weighs, within}
 use Rattle.wi_accept.specs.Trees.{IsDecidedExactly, IsTreeAccepted, IsTreeMaker}
 use Rattle.wi_accept.proofs.Visits.{matches_whole}
 use Rattle.wi_accept.proofs.MadeTrees.{nothing_against_tree}
-use Rattle.wi_decide.specs.Showing.{claim_for, shown_by, IsSmallRun}
+use Rattle.wi_decide.specs.Showing.{claim_for, shown_by}
 use Rattle.wi_decide.proofs.ShowingLemmas.{about_asked, nothing, Shows, ShowsRun, shows_either, small_run}
 use Rattle.wi_decide.specs.declared.searching.LeastRun.{LeastRun}
+use Rattle.wi_branch.specs.declared.opened.Opened.{Opened}
 use Rattle.wi_branch.specs.Walks.{IsWalk}
-use Rattle.wi_branch.specs.Exactly.{IsExact, node_under}
-use Rattle.wi_branch.specs.private.Courses.{CanBeShown, IsBest, Opening, cut_of, IsDone, answer_with}
+use Rattle.wi_branch.specs.Exactly.{IsAnsweredExactly, IsExact, node_under}
+use Rattle.wi_branch.specs.private.Courses.{CanBeShown, IsBest, Opening, cut_of, kept, IsDone, answer_with}
 use Rattle.wi_branch.proofs.TreeMaking.{odd_nodes, walk_leaves, walk_made, walk_whole}
 use Rattle.wi_branch.proofs.WalkLaws.{fits_as, split_in, walk_nodes}
 
@@ -38,13 +38,13 @@ use Rattle.wi_branch.proofs.WalkLaws.{fits_as, split_in, walk_nodes}
 abbrev HasBest : Problem → Option LeastRun → Type 0
 HasBest problem best = IfSome best (λ found. (branch : Bounds) × IsBranch problem.net problem.bounds branch × IsBest (within problem branch) found)
 
-module _ (problem : Problem) (limit : ℕ) (k : IsNetwork problem.net) (kw : AreBounds problem.net problem.bounds) where
+module _ (problem : Problem) (k : IsNetwork problem.net) (kw : AreBounds problem.net problem.bounds) where
   -- no matching trace is below the last cut
-  none_below : (done : Opening) → IsDone problem limit done → NoTraceBelow problem.net (asks problem) (weighs problem) (cut_of done.best) problem.bounds
-  none_below done h =
-      let P : List Bounds → Type 0 = λ l. IsWalk problem None done.opened (problem.bounds ∷ []) (cut_of done.best) l in
-      let nodes = walk_nodes problem k kw None done.opened (problem.bounds ∷ []) (cut_of done.best) (root problem.net problem.bounds kw, tt) (subst P h.1 h.0.walk) in
-      let tree = nodes_tree (NoRunBelow problem.net (asks problem) (weighs problem) (cut_of done.best)) problem.net (map split_in done.opened) problem.bounds nodes in
+  none_below : (limit : ℕ) (keeps : Bool) (done : Opening) → IsDone problem limit keeps done → NoTraceBelow problem.net (asks problem) (weighs problem) (cut_of done.best) problem.bounds
+  none_below limit keeps done h =
+      let P : List Bounds → Type 0 = λ l. IsWalk problem None h.0.opened (problem.bounds ∷ []) (cut_of done.best) l in
+      let nodes = walk_nodes problem k kw None h.0.opened (problem.bounds ∷ []) (cut_of done.best) (root problem.net problem.bounds kw, tt) (subst P h.1 h.0.walk) in
+      let tree = nodes_tree (NoRunBelow problem.net (asks problem) (weighs problem) (cut_of done.best)) problem.net (map split_in h.0.opened) problem.bounds nodes in
       tree_covers problem.net (asks problem) (weighs problem) k (cut_of done.best) problem.bounds tree.0 kw tree.1
 
   -- the best run is a yes
@@ -101,24 +101,33 @@ module _ (problem : Problem) (limit : ℕ) (k : IsNetwork problem.net) (kw : Are
   not_inconclusive None = refl
   not_inconclusive (Some found) = refl
 
--- the numbers of the answer's run are small, where that can be shown
-pub small_with : (net : Net) (whole : Bounds) (best : Option LeastRun) (a : Answer) → CanBeShown best → a ≡ answer_with net whole best → IfSome a.run IsSmallRun
-small_with net whole best a can is = subst (λ (x : Answer). IfSome x.run IsSmallRun) (sym is) (go best can)
-  where
-    go : (found : Option LeastRun) → CanBeShown found → IfSome (answer_with net whole found).run IsSmallRun
-    go None h = tt
-    go (Some found) h = h.1
+-- the tree that shows this, of these nodes
+abbrev tree_of : Shown → List Opened → TreeCertificate
+tree_of s opened = record { shown = s; nodes = map (node_under s) opened }
 
-module _ (problem : Problem) (limit : ℕ) (k : IsProblem problem) where
-  can_show : (best : Option LeastRun) → HasBest problem best → NoTraceBelow problem.net (asks problem) (weighs problem) (cut_of best) problem.bounds → CanBeShown best
-  can_show None h none = tt
-  can_show (Some found) h none = (h.2.small, small_run problem k found.run (whole_moving problem limit k.network k.bounds_of found h.0 h.1 h.2 none))
+tree_same : (t : TreeCertificate) (s : Shown) (opened : List Opened) → t.shown ≡ s → t.nodes ≡ map (node_under t.shown) opened → t ≡ tree_of s opened
+tree_same t s opened shown_is nodes_are =
+    let P : List Node → Type 0 = λ xs. record { shown = t.shown; nodes = xs } ≡ tree_of t.shown opened in
+    subst P (sym nodes_are) refl ∙ ap (λ (x : Shown). tree_of x opened) shown_is
 
-  -- the best run can be shown
-  pub best_shown : (done : Opening) → IsDone problem limit done → CanBeShown done.best
-  best_shown done h = can_show done.best h.0.best (none_below problem limit k.network k.bounds_of done h)
+module _ (problem : Problem) (k : IsProblem problem) where
+  can_show : (best : Option LeastRun) → HasBest problem best → NoTraceBelow problem.net (asks problem) (weighs problem) (cut_of best) problem.bounds
+      → CanBeShown (answer_with problem.net problem.bounds best)
+  can_show None h none = (tt, tt)
+  can_show (Some found) h none = (h.2.small, small_run problem k found.run (whole_moving problem k.network k.bounds_of found h.0 h.1 h.2 none))
 
-  module _ (done : Opening) (h : IsDone problem limit done) (few : length problem.vector ≤ 5) (room : limit ≤ 10000) where
+  -- the answer with the best run can be shown
+  pub best_shown : (limit : ℕ) (keeps : Bool) (done : Opening) → IsDone problem limit keeps done → (best : Option LeastRun) → best ≡ done.best
+      → (a : Answer) → a ≡ answer_with problem.net problem.bounds best → CanBeShown a
+  best_shown limit keeps done h best best_is a is =
+      let can = can_show done.best h.0.best (none_below problem k.network k.bounds_of limit keeps done h) in
+      subst CanBeShown (sym (is ∙ ap (answer_with problem.net problem.bounds) best_is)) can
+
+  -- nothing speaks against the tree of an exact answer
+  pub exact_accepted : (limit : ℕ) (a : Answer) (t : TreeCertificate) → IsExact problem limit a t → IsTreeAccepted problem t
+  exact_accepted limit a t exact = nothing_against_tree problem a t k exact.holds exact.made
+
+  module _ (limit : ℕ) (keeps : Bool) (done : Opening) (h : IsDone problem limit keeps done) (few : length problem.vector ≤ 5) (room : limit ≤ 10000) where
     abbrev answer : Answer
     answer = answer_with problem.net problem.bounds done.best
 
@@ -126,61 +135,68 @@ module _ (problem : Problem) (limit : ℕ) (k : IsProblem problem) where
     shown = shown_by problem answer
 
     abbrev nodes : List Node
-    nodes = map (node_under shown) done.opened
+    nodes = map (node_under shown) h.0.opened
 
     abbrev tree : TreeCertificate
-    tree = record { shown = shown; nodes = nodes }
+    tree = tree_of shown h.0.opened
 
     seen : Shows problem answer
-    seen = shows_either problem k few answer (shows_with problem limit k.network k.bounds_of done.best h.0.best (none_below problem limit k.network k.bounds_of done h))
+    seen = shows_either problem k few answer (shows_with problem k.network k.bounds_of done.best h.0.best (none_below problem k.network k.bounds_of limit keeps done h))
 
     last : Option (List ℕ)
     last = cut_of done.best
 
-    walk : IsWalk problem None done.opened (problem.bounds ∷ []) (cut_of done.best) []
-    walk = subst (λ (l : List Bounds). IsWalk problem None done.opened (problem.bounds ∷ []) (cut_of done.best) l) h.1 h.0.walk
+    walk : IsWalk problem None h.0.opened (problem.bounds ∷ []) (cut_of done.best) []
+    walk = subst (λ (l : List Bounds). IsWalk problem None h.0.opened (problem.bounds ∷ []) (cut_of done.best) l) h.1 h.0.walk
 
     whole : makes_trees 1 nodes ≡ true
-    whole = walk_whole problem shown seen.shown refl few None done.opened (problem.bounds ∷ []) (cut_of done.best) walk
+    whole = walk_whole problem shown seen.shown refl few None h.0.opened (problem.bounds ∷ []) (cut_of done.best) walk
 
     few_nodes : length nodes < 10000
     few_nodes =
         let odd = odd_nodes 1 nodes whole in
-        omega (arith, odd.1, room, h.0.few, length-map done.opened (node_under shown))
+        omega (arith, odd.1, room, h.0.few, length-map h.0.opened (node_under shown))
 
     made : IsTreeMaker problem answer tree
     made = record {
       writable = record {
         shown = seen.shown;
-        decided = not_inconclusive problem limit k.network k.bounds_of done.best;
+        decided = not_inconclusive problem k.network k.bounds_of done.best;
         few = few_nodes;
         whole = whole;
-        leaves = walk_leaves problem shown seen.shown refl few None done.opened (problem.bounds ∷ []) (cut_of done.best) walk;
+        leaves = walk_leaves problem shown seen.shown refl few None h.0.opened (problem.bounds ∷ []) (cut_of done.best) walk;
       };
       about = about_asked problem answer;
       terms = refl;
       shows = seen.back;
-      nodes = walk_made problem shown seen.shown refl few k.network k.bounds_of (cut_of done.best) (seen.bound ∙ cut_with problem limit k.network k.bounds_of done.best) None done.opened (problem.bounds ∷ []) tt
+      nodes = walk_made problem shown seen.shown refl few k.network k.bounds_of (cut_of done.best) (seen.bound ∙ cut_with problem k.network k.bounds_of done.best) None h.0.opened (problem.bounds ∷ []) tt
           (root problem.net problem.bounds k.bounds_of, tt) walk;
     }
 
     exact : IsExact problem limit answer tree
     exact = record {
-      holds = holds_with problem limit k.network k.bounds_of done.best h.0.best (none_below problem limit k.network k.bounds_of done h);
+      holds = holds_with problem k.network k.bounds_of done.best h.0.best (none_below problem k.network k.bounds_of limit keeps done h);
       made = made;
-      opened = done.opened;
-      walk = subst (λ (c : Option (List ℕ)). IsWalk problem None done.opened (problem.bounds ∷ []) c []) (sym (cut_with problem limit k.network k.bounds_of done.best)) walk;
+      opened = h.0.opened;
+      walk = subst (λ (c : Option (List ℕ)). IsWalk problem None h.0.opened (problem.bounds ∷ []) c []) (sym (cut_with problem k.network k.bounds_of done.best)) walk;
       nodes = refl;
       few = h.0.few;
     }
 
-    -- whatever is equal to that answer and that tree is exact, and accepted
-    pub exact_is : (a : Answer) (t : TreeCertificate) → a ≡ answer → t.shown ≡ shown → t.nodes ≡ map (node_under t.shown) done.opened → IsExact problem limit a t
-    exact_is a t answer_is shown_is nodes_is =
-        let P : Answer → Type 0 = λ x. IsExact problem limit x t in
-        let Q : Shown → Type 0 = λ x. IsExact problem limit answer (record { shown = x; nodes = map (node_under x) done.opened }) in
-        let R : List Node → Type 0 = λ xs. IsExact problem limit answer (record { shown = t.shown; nodes = xs }) in
-        subst P (sym answer_is) (subst R (sym nodes_is) (subst Q (sym shown_is) exact))
+    -- whatever is equal to that answer and that tree is exact
+    pub exact_is : (best : Option LeastRun) → best ≡ done.best → (opened : List Opened) → done.nodes ≡ Some opened → keeps ≡ true → (a : Answer) → a ≡ answer_with problem.net problem.bounds best
+        → (t : TreeCertificate) → t.shown ≡ shown_by problem a → t.nodes ≡ map (node_under t.shown) opened → IsExact problem limit a t
+    exact_is best best_is opened nodes_are keep a answer_is t shown_is tree_nodes =
+        let a_is : a ≡ answer = answer_is ∙ ap (answer_with problem.net problem.bounds) best_is in
+        let same : Some opened ≡ Some h.0.opened = sym nodes_are ∙ (h.0.nodes ∙ ap (λ b. kept b h.0.opened) keep) in
+        let opened_are : opened ≡ h.0.opened = cc in
+        let tree_is : t ≡ tree = tree_same t shown h.0.opened (shown_is ∙ ap (shown_by problem) a_is) (tree_nodes ∙ ap (map (node_under t.shown)) opened_are) in
+        subst (λ x. IsExact problem limit x t) (sym a_is) (subst (λ x. IsExact problem limit answer x) (sym tree_is) exact)
 
-  pub exact_accepted : (a : Answer) (t : TreeCertificate) → IsExact problem limit a t → IsTreeAccepted problem t
-  exact_accepted a t exact = nothing_against_tree problem a t k exact.holds exact.made
+    -- so many nodes has the tree
+    pub answered_is : (best : Option LeastRun) → best ≡ done.best → (count : ℕ) → count ≡ done.count → (a : Answer) → a ≡ answer_with problem.net problem.bounds best
+        → IsAnsweredExactly problem limit a count
+    answered_is best best_is count count_is a answer_is =
+        let a_is : a ≡ answer = answer_is ∙ ap (answer_with problem.net problem.bounds) best_is in
+        let counted : count ≡ length nodes = count_is ∙ h.0.count ∙ sym (length-map h.0.opened (node_under shown)) in
+        subst (λ x. IsAnsweredExactly problem limit x count) (sym a_is) (record { tree = tree; exact = exact; accepted = exact_accepted limit answer tree exact; counted = counted })

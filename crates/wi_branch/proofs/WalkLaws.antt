@@ -1,5 +1,5 @@
 -- Branches opened one after the other: what they show once none is left.
-use Rattle.std.proofs.Common.{◌≡◌, ℕ, ◌+◌, ◌<◌, ◌≤◌, Bool, true, false, not, ◌&&◌, nat_eq, nat_lt, List, [], ◌∷◌, ◌++◌, length, map, Option, Some, None, IsSome, refl, arith, ap, inl, inr, sym, ◌∙◌, subst, length-append}
+use Rattle.std.proofs.Common.{◌≡◌, ℕ, ◌+◌, ◌<◌, ◌≤◌, Bool, true, false, not, ◌&&◌, nat_eq, nat_lt, List, [], ◌∷◌, ◌++◌, length, map, Option, Some, None, IsSome, option_map, refl, arith, ap, inl, inr, sym, ◌∙◌, subst, length-append}
 use Rattle.std.proofs.lemmas.Bool.{and_parts, and_from, or_cases, or_left, or_right, eqb-true, eq-eqb, ltb-true, lt-ltb, true≢false, false_from_ne_true}
 use Rattle.std.specs.List.{find}
 use Rattle.wi_net.specs.declared.parts.LinkId.{LinkId}
@@ -22,14 +22,16 @@ use Rattle.wi_quantity.specs.Weighing.{components}
 use Rattle.wi_build.specs.Problems.{Problem, asks, weighs, within}
 use Rattle.wi_branch.specs.declared.opened.Opened.{Opened}
 use Rattle.wi_branch.specs.declared.opened.Opened.TheVariants as opened
-use Rattle.wi_branch.specs.declared.refused.ExactRefused.{ExactRefused}
-use Rattle.wi_branch.specs.declared.refused.ExactRefused.TheVariants.{Overflow, TooLong, NodeLimit, Memory}
+use Rattle.wi_branch.specs.declared.refused.ExactRefused.TheVariants.{NodeLimit}
 use Rattle.wi_branch.specs.declared.finding.Told.{Told}
 use Rattle.wi_branch.specs.declared.finding.Told.TheVariants.{Nothing, Fitting, Splitting}
 use Rattle.wi_accept.proofs.Visits.{matches_within}
+use Rattle.wi_decide.specs.declared.refused.SearchRefused.{SearchRefused}
+use Rattle.wi_decide.specs.declared.refused.SearchRefused.TheVariants.{Overflow, TooLong, Memory}
+use Rattle.wi_decide.specs.Searches.{IsSearchRefused}
 use Rattle.wi_branch.specs.Walks.{is_fitting, IsNode, cut_after, left_after, IsWalk}
-use Rattle.wi_branch.specs.Exactly.{IsExactRefused}
-use Rattle.wi_branch.specs.private.Courses.{node_of, IsToldWell, Opening, cut_of, after_told, AreBranches, IsOpening, IsOpenedAt, IsStoppedAt}
+use Rattle.wi_branch.specs.Exactly.{IsExactRefused, IsNext, refusal_of}
+use Rattle.wi_branch.specs.private.Courses.{node_of, IsToldWell, Opening, cut_of, kept, after_told, AreBranches, IsOpening, IsOpenedAt}
 
 -- the order of weights is transitive
 pub less_trans : (a b c : List ℕ) → is_less a b ≡ true → is_less b c ≡ true → is_less a c ≡ true
@@ -84,6 +86,11 @@ can_split net branch run e k kb moving unfit is =
     let P : LinkId → Type 0 = λ d. CanSplit net branch d in
     subst P link s.2
 
+-- one node more is kept, where nodes are
+kept_more : (keeps : Bool) (now : Option (List Opened)) (nodes : List Opened) (node : Opened) → now ≡ kept keeps nodes → option_map (λ xs. xs ++ node ∷ []) now ≡ kept keeps (nodes ++ node ∷ [])
+kept_more true now nodes node is = ap (option_map (λ xs. xs ++ node ∷ [])) is
+kept_more false now nodes node is = ap (option_map (λ xs. xs ++ node ∷ [])) is
+
 -- a leaf, or the link of a split
 abbrev pub split_in : Opened → Option LinkId
 split_in (opened.Closed leaf) = None
@@ -135,67 +142,76 @@ module _ (problem : Problem) where
         )
 
     -- nothing is opened yet
-    pub opening_first : (limit : ℕ) → IsOpening problem limit (record { best = None; opened = []; left = problem.bounds ∷ [] })
-    opening_first limit = record { walk = (refl, refl); branches = (root problem.net problem.bounds kw, tt); best = tt; few = omega arith }
+    pub opening_first : (limit : ℕ) (keeps : Bool) → IsOpening problem limit keeps (record { best = None; count = 0; nodes = kept keeps []; left = problem.bounds ∷ [] })
+    opening_first limit keeps =
+        record { opened = []; count = refl; nodes = refl; walk = (refl, refl); branches = (root problem.net problem.bounds kw, tt); best = tt; few = omega arith }
 
     -- one branch more
-    module _ (limit : ℕ) (now : Opening) (branch : Bounds) (h : IsOpening problem limit (record now { left = branch ∷ now.left })) (room : length now.opened < limit) where
-      few_to : (node : Opened) → length (now.opened ++ node ∷ []) ≤ limit
-      few_to node = omega (arith, room, length-append now.opened (node ∷ []))
+    module _ (limit : ℕ) (keeps : Bool) (now : Opening) (branch : Bounds) (h : IsOpening problem limit keeps (record now { left = branch ∷ now.left })) (room : now.count < limit) where
+      few_to : (node : Opened) → length (h.opened ++ node ∷ []) ≤ limit
+      few_to node = omega (arith, room, h.count, length-append h.opened (node ∷ []))
 
-      opening_told : (told : Told) → IsNode (within problem branch) (cut_of now.best) (node_of told) → IsToldWell (within problem branch) told → IsOpening problem limit (after_told problem.net now branch told)
+      count_to : (node : Opened) → now.count + 1 ≡ length (h.opened ++ node ∷ [])
+      count_to node = omega (arith, h.count, length-append h.opened (node ∷ []))
+
+      opening_told : (told : Told) → IsNode (within problem branch) (cut_of now.best) (node_of told) → IsToldWell (within problem branch) told → IsOpening problem limit keeps (after_told problem.net now branch told)
       opening_told (Nothing leaf) node well = record {
-        walk = walk_more None now.opened (problem.bounds ∷ []) (cut_of now.best) branch now.left (opened.Closed leaf) h.walk node;
+        opened = h.opened ++ opened.Closed leaf ∷ [];
+        count = count_to (opened.Closed leaf);
+        nodes = kept_more keeps now.nodes h.opened (opened.Closed leaf) h.nodes;
+        walk = walk_more None h.opened (problem.bounds ∷ []) (cut_of now.best) branch now.left (opened.Closed leaf) h.walk node;
         branches = h.branches.1;
         best = h.best;
         few = few_to (opened.Closed leaf);
       }
       opening_told (Fitting found leaf) node well = record {
-        walk = walk_more None now.opened (problem.bounds ∷ []) (cut_of now.best) branch now.left (opened.Fits found.weight leaf) h.walk node;
+        opened = h.opened ++ opened.Fits found.weight leaf ∷ [];
+        count = count_to (opened.Fits found.weight leaf);
+        nodes = kept_more keeps now.nodes h.opened (opened.Fits found.weight leaf) h.nodes;
+        walk = walk_more None h.opened (problem.bounds ∷ []) (cut_of now.best) branch now.left (opened.Fits found.weight leaf) h.walk node;
         branches = h.branches.1;
         best = (branch, h.branches.0, well);
         few = few_to (opened.Fits found.weight leaf);
       }
       opening_told (Splitting e) node can = record {
-        walk = walk_more None now.opened (problem.bounds ∷ []) (cut_of now.best) branch now.left (opened.Split e) h.walk node;
+        opened = h.opened ++ opened.Split e ∷ [];
+        count = count_to (opened.Split e);
+        nodes = kept_more keeps now.nodes h.opened (opened.Split e) h.nodes;
+        walk = walk_more None h.opened (problem.bounds ∷ []) (cut_of now.best) branch now.left (opened.Split e) h.walk node;
         branches = (child_down problem.net problem.bounds branch e h.branches.0 can k, (child_up problem.net problem.bounds branch e h.branches.0 can, h.branches.1));
         best = h.best;
         few = few_to (opened.Split e);
       }
 
-      pub opening_next : (after : Opening) → IsOpenedAt problem branch now after → IsOpening problem limit after
-      opening_next after o = subst (IsOpening problem limit) (sym o.after_is) (opening_told o.told o.node o.well)
+      pub opening_next : (after : Opening) → IsOpenedAt problem branch now after → IsOpening problem limit keeps after
+      opening_next after o = subst (IsOpening problem limit keeps) (sym o.after_is) (opening_told o.told o.node o.well)
+
+      abbrev next : IsNext problem
+      next = record { opened = h.opened; cut = cut_of now.best; branch = branch; left = now.left; walk = h.walk }
 
       -- the branch that is next can't be searched
-      pub stopped_next : (refused : ExactRefused) → IsStoppedAt (within problem branch) (cut_of now.best) now.opened refused → IsExactRefused problem limit refused
-      stopped_next (Overflow opened head target w) s =
-          let P : List Opened → Type 0 = λ os. IsWalk problem None os (problem.bounds ∷ []) (cut_of now.best) (branch ∷ now.left) in
-          let Q : List Opened → Type 0 = λ os. length os < limit in
-          (subst Q (sym s.0) room, (record { cut = cut_of now.best; branch = branch; left = now.left; walk = subst P (sym s.0) h.walk }, s.1))
-      stopped_next (TooLong opened n) s =
-          let P : List Opened → Type 0 = λ os. IsWalk problem None os (problem.bounds ∷ []) (cut_of now.best) (branch ∷ now.left) in
-          let Q : List Opened → Type 0 = λ os. length os < limit in
-          (subst Q (sym s.0) room, (record { cut = cut_of now.best; branch = branch; left = now.left; walk = subst P (sym s.0) h.walk }, s.1))
-      stopped_next (NodeLimit opened) s = absurd s
+      pub stopped_next : (refused : SearchRefused) → IsSearchRefused (within problem branch) (cut_of now.best) refused → IsExactRefused problem limit (refusal_of refused)
+      stopped_next (Overflow o) s = (next, omega (arith, room, h.count), s)
+      stopped_next (TooLong n) s = (next, omega (arith, room, h.count), s)
       stopped_next Memory s = tt
 
   -- what held before the next branch was taken
-  pub opening_of : (limit : ℕ) (old now : Opening) → old ≡ now → IsOpening problem limit old → IsOpening problem limit now
-  opening_of limit old now is h = subst (IsOpening problem limit) is h
+  pub opening_of : (limit : ℕ) (keeps : Bool) (old now : Opening) → old ≡ now → IsOpening problem limit keeps old → IsOpening problem limit keeps now
+  opening_of limit keeps old now is h = subst (IsOpening problem limit keeps) is h
 
   -- one node more was opened
-  pub opened_more : (branch : Bounds) (now after : Opening) → IsOpenedAt problem branch now after → length after.opened ≡ length now.opened + 1
-  opened_more branch now after o = ap (λ (s : Opening). length s.opened) o.after_is ∙ go o.told
+  pub opened_more : (branch : Bounds) (now after : Opening) → IsOpenedAt problem branch now after → after.count ≡ now.count + 1
+  opened_more branch now after o = ap (λ (s : Opening). s.count) o.after_is ∙ go o.told
     where
-      go : (told : Told) → length (after_told problem.net now branch told).opened ≡ length now.opened + 1
-      go (Nothing leaf) = length-append now.opened (opened.Closed leaf ∷ [])
-      go (Fitting found leaf) = length-append now.opened (opened.Fits found.weight leaf ∷ [])
-      go (Splitting e) = length-append now.opened (opened.Split e ∷ [])
+      go : (told : Told) → (after_told problem.net now branch told).count ≡ now.count + 1
+      go (Nothing leaf) = refl
+      go (Fitting found leaf) = refl
+      go (Splitting e) = refl
 
   -- where as many were opened as may be, one more is over the limit
-  pub limit_next : (limit : ℕ) (now : Opening) (branch : Bounds) → IsOpening problem limit (record now { left = branch ∷ now.left }) → limit ≤ length now.opened
-      → IsExactRefused problem limit (NodeLimit now.opened)
-  limit_next limit now branch h full = (omega (arith, full, h.few), record { cut = cut_of now.best; branch = branch; left = now.left; walk = h.walk })
+  pub limit_next : (limit : ℕ) (keeps : Bool) (now : Opening) (branch : Bounds) → IsOpening problem limit keeps (record now { left = branch ∷ now.left }) → limit ≤ now.count
+      → IsExactRefused problem limit NodeLimit
+  limit_next limit keeps now branch h full = (record { opened = h.opened; cut = cut_of now.best; branch = branch; left = now.left; walk = h.walk }, omega (arith, full, h.few, h.count))
 
 -- what the code computes tells whether a run fits
 pub told_some : (net : Net) (branch : Bounds) (run : Run) (v : Verdict) (fits : Bool) (s : List LinkId) (o : Option LinkId) → IsNetwork net → AreBounds net branch → IsMovingRun net branch run

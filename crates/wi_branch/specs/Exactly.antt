@@ -8,8 +8,10 @@ use Rattle.wi_cert.specs.declared.tree.Node.{Node}
 use Rattle.wi_cert.specs.declared.tree.Node.TheVariants as nodes
 use Rattle.wi_cert.specs.declared.tree.TreeCertificate.{TreeCertificate}
 use Rattle.wi_build.specs.Problems.{Problem, within}
-use Rattle.wi_accept.specs.Trees.{IsDecidedExactly, IsTreeMaker}
+use Rattle.wi_accept.specs.Trees.{IsDecidedExactly, IsTreeAccepted, IsTreeMaker}
 use Rattle.wi_decide.specs.Searches.{IsOverflowingBelow, IsTooLongBelow, lowered}
+use Rattle.wi_decide.specs.declared.refused.SearchRefused.{SearchRefused}
+use Rattle.wi_decide.specs.declared.refused.SearchRefused.TheVariants as search
 use Rattle.wi_branch.specs.declared.opened.Opened.{Opened}
 use Rattle.wi_branch.specs.declared.opened.Opened.TheVariants.{Closed, Fits, Split}
 use Rattle.wi_branch.specs.declared.refused.ExactRefused.{ExactRefused}
@@ -31,18 +33,31 @@ pub record IsExact (problem : Problem) (limit : ℕ) (answer : Answer) (t : Tree
   pub nodes : t.nodes ≡ map (node_under t.shown) opened
   pub few : length opened ≤ limit
 
+-- an exact answer to a problem, shown by a tree of so many nodes, against which nothing speaks
+pub record IsAnsweredExactly (problem : Problem) (limit : ℕ) (answer : Answer) (count : ℕ) : Type 0 where
+  pub tree : TreeCertificate
+  pub exact : IsExact problem limit answer tree
+  pub accepted : IsTreeAccepted problem tree
+  pub counted : count ≡ length tree.nodes
+
 -- nodes were opened from the problem's bounds on, and there is a branch that is next
-pub record IsNext (problem : Problem) (opened : List Opened) : Type 0 where
+pub record IsNext (problem : Problem) : Type 0 where
+  pub opened : List Opened
   pub cut : Option (List ℕ)
   pub branch : Bounds
   pub left : List Bounds
   pub walk : IsWalk problem None opened (problem.bounds ∷ []) cut (branch ∷ left)
 
--- at the next branch a summary doesn't fit, or the least run is too long; or it would be one more than the limit
+-- at the branch that is next a summary doesn't fit, or the least run is too long; or it would be one more than the limit
 abbrev pub IsExactRefused : Problem → ℕ → ExactRefused → Type 0
-IsExactRefused problem limit (Overflow opened head target w) =
-    (length opened < limit) × ((next : IsNext problem opened) × IsOverflowingBelow (within problem next.branch) next.cut head target (components w))
-IsExactRefused problem limit (TooLong opened n) =
-    (length opened < limit) × ((next : IsNext problem opened) × IsTooLongBelow (within problem next.branch) next.cut n)
-IsExactRefused problem limit (NodeLimit opened) = (length opened ≡ limit) × IsNext problem opened
+IsExactRefused problem limit (Overflow o) =
+    (next : IsNext problem) × (length next.opened < limit) × IsOverflowingBelow (within problem next.branch) next.cut o.head o.target (components o.weight)
+IsExactRefused problem limit (TooLong n) = (next : IsNext problem) × (length next.opened < limit) × IsTooLongBelow (within problem next.branch) next.cut n
+IsExactRefused problem limit NodeLimit = (next : IsNext problem) × (length next.opened ≡ limit)
 IsExactRefused problem limit Memory = Unit {0}
+
+-- a search's refusal, as it is told of the whole
+abbrev pub refusal_of : SearchRefused → ExactRefused
+refusal_of (search.Overflow o) = Overflow o
+refusal_of (search.TooLong n) = TooLong n
+refusal_of search.Memory = Memory

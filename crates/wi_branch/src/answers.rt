@@ -1,12 +1,13 @@
 //! Branches are opened until none is left, each below the weight of the best run that fitted before it, so that a branch without a
 //! lighter run ends at once. The answer's verdict is within the whole bounds.
-ghost use Rattle.std.specs.Prelude.{◌≡◌, ◌≤◌, map, Some, None, IfOk, IfErr};
+ghost use Rattle.std.specs.Prelude.{◌≡◌, ◌<◌, ◌≤◌, true, false, map, IfOk, IfErr};
 ghost use Rattle.wi_world.specs.Moves.{AreBounds};
 ghost use Rattle.wi_build.specs.Problems.{allowing, within};
 ghost use Rattle.wi_accept.specs.Trees.{IsTreeAccepted};
+ghost use Rattle.wi_decide.specs.Searches.{IsSearchRefused};
 ghost use Rattle.wi_decide.specs.Showing.{shown_by};
-ghost use Rattle.wi_branch.specs.Exactly.{IsExact, IsExactRefused, node_under};
-ghost use Rattle.wi_branch.specs.private.Courses.{CanBeShown, IsDone, IsOpenedAt, IsStoppedAt, answer_with, cut_of, stopped_by};
+ghost use Rattle.wi_branch.specs.Exactly.{IsAnsweredExactly, IsExact, IsExactRefused, node_under};
+ghost use Rattle.wi_branch.specs.private.Courses.{CanBeShown, IsDone, IsOpenedAt, answer_with, cut_of};
 
 use crate::course::Course;
 use crate::finding::tell;
@@ -43,7 +44,24 @@ pub fn exact(
     answered
 }
 
-// The exact answer within a problem's own bounds.
+/// The same answer, and how many nodes the tree has that shows it. The tree is not made, and of a branch nothing is kept but a run.
+pub fn exact_answer(
+    alloc: Global,
+    problem: &Problem<'_>,
+    k: u32,
+    limit: u32,
+) -> Result<(Answer, u32), ExactRefused>
+    requires { limit ≤ 10000 }
+    ensures answered { IfOk result (λ found. IsAnsweredExactly (allowing problem.now k) limit found.0 found.1) }
+    ensures refused { IfErr result (IsExactRefused (allowing problem.now k) limit) }
+{
+    let whole = problem.bounds_allowing(k)?;
+    let answered = answered(alloc, &problem.within(&whole), limit);
+    drop(whole);
+    answered
+}
+
+// The exact answer within a problem's own bounds, and the tree.
 fn exactly(
     alloc: Global,
     problem: &Problem<'_>,
@@ -55,34 +73,46 @@ fn exactly(
     ensures refused { IfErr result (IsExactRefused problem.now limit) }
 {
     problem.keeps();
-    let course = opened_all(alloc, problem, limit)?;
-    Ok(shown_with(alloc, problem, course)?)
+    let course = opened_all(alloc, problem, limit, true)?;
+    let Course { best, nodes, .. } = course;
+    let nodes = nodes.unwrap();
+    let answer = answer_of(alloc, problem, best)?;
+    let tree = tree_of(alloc, problem, &answer, nodes)?;
+    Ok((answer, tree))
 }
 
-// Opens branches until none is left.
-fn opened_all(alloc: Global, problem: &Problem<'_>, limit: u32) -> Result<Course, ExactRefused>
-    ensures done { IfOk result (IsDone problem.now limit) }
+// The exact answer within a problem's own bounds, and how many nodes were opened.
+fn answered(alloc: Global, problem: &Problem<'_>, limit: u32) -> Result<(Answer, u32), ExactRefused>
+    requires { limit ≤ 10000 }
+    ensures answered { IfOk result (λ found. IsAnsweredExactly problem.now limit found.0 found.1) }
     ensures refused { IfErr result (IsExactRefused problem.now limit) }
 {
     problem.keeps();
-    let mut course = Course::new(alloc, problem.bounds().twin()?)?;
+    let course = opened_all(alloc, problem, limit, false)?;
+    let Course { best, count, .. } = course;
+    let answer = answer_of(alloc, problem, best)?;
+    Ok((answer, count))
+}
+
+// Opens branches until none is left. `keeps` says whether the nodes are kept.
+fn opened_all(
+    alloc: Global,
+    problem: &Problem<'_>,
+    limit: u32,
+    keeps: bool,
+) -> Result<Course, ExactRefused>
+    ensures done { IfOk result (IsDone problem.now limit keeps) }
+    ensures refused { IfErr result (IsExactRefused problem.now limit) }
+{
+    problem.keeps();
+    let mut course = Course::new(alloc, problem.bounds().twin()?, keeps)?;
     while let Some(branch) = course.next() {
-        if course.len() >= limit as usize {
-            return Err(over_limit(course));
+        if course.count >= limit {
+            return Err(ExactRefused::NodeLimit);
         }
         course = opened(alloc, problem, &branch, course)?;
     }
     Ok(course)
-}
-
-// The refusal of one more node.
-fn over_limit(course: Course) -> ExactRefused
-    ensures { result ≡ ExactRefused.NodeLimit course.opened }
-{
-    let Course { opened, .. } = course;
-    ExactRefused::NodeLimit {
-        opened: Listed::of(opened),
-    }
 }
 
 // Opens a branch.
@@ -91,60 +121,31 @@ fn opened(
     problem: &Problem<'_>,
     branch: &Bounds,
     mut course: Course,
-) -> Result<Course, ExactRefused>
-    requires { AreBounds problem.now.net branch.now }
+) -> Result<Course, SearchRefused>
+    requires branch { AreBounds problem.now.net branch.now }
+    requires room { course.count < 4294967295 }
     ensures opened { IfOk result (IsOpenedAt problem.now branch.now course) }
-    ensures refused { IfErr result (IsStoppedAt (within problem.now branch.now) (cut_of course.best) course.opened) }
+    ensures refused { IfErr result (IsSearchRefused (within problem.now branch.now) (cut_of course.best)) }
 {
-    match tell(alloc, &problem.within(branch), course.cut()) {
-        Ok(told) => {
-            course.note(alloc, problem.net(), branch, told)?;
-            Ok(course)
-        }
-        Err(refused) => Err(stopped(refused, course)),
-    }
+    let told = tell(alloc, &problem.within(branch), course.cut())?;
+    course.note(alloc, problem.net(), branch, told)?;
+    Ok(course)
 }
 
-// The refusal, with the nodes before it.
-fn stopped(refused: SearchRefused, course: Course) -> ExactRefused
-    ensures { result ≡ stopped_by course.opened refused }
-{
-    let Course { opened, .. } = course;
-    let opened = Listed::of(opened);
-    match refused {
-        SearchRefused::Overflow {
-            head,
-            target,
-            weight,
-        } => ExactRefused::Overflow {
-            opened,
-            head,
-            target,
-            weight,
-        },
-        SearchRefused::TooLong(effort) => ExactRefused::TooLong { opened, effort },
-        SearchRefused::Memory => ExactRefused::Memory,
-    }
-}
-
-// The answer once all branches were opened, and the tree that shows it.
-fn shown_with(
+// The tree with these nodes, which shows an answer.
+fn tree_of(
     alloc: Global,
     problem: &Problem<'_>,
-    course: Course,
-) -> Result<(Answer, TreeCertificate), NoMemory>
-    requires { CanBeShown course.best }
-    ensures answer { IfOk result (λ found. found.0 ≡ answer_with problem.now.net problem.now.bounds course.best) }
-    ensures shown { IfOk result (λ found. found.1.shown ≡ shown_by problem.now (answer_with problem.now.net problem.now.bounds course.best)) }
-    ensures nodes { IfOk result (λ found. found.1.nodes ≡ map (node_under found.1.shown) course.opened) }
+    answer: &Answer,
+    nodes: Vec<Opened>,
+) -> Result<TreeCertificate, NoMemory>
+    requires { CanBeShown answer.now }
+    ensures shown { IfOk result (λ tree. tree.shown ≡ shown_by problem.now answer.now) }
+    ensures nodes { IfOk result (λ tree. tree.nodes ≡ map (node_under tree.shown) nodes.items) }
 {
-    problem.keeps();
-    let Course { best, opened, .. } = course;
-    let answer = answer_of(alloc, problem, best)?;
-    let shown = shown_of(alloc, problem, &answer)?;
-    let nodes = nodes_of(alloc, opened, &shown)?;
-    let nodes = Listed::of(nodes);
-    Ok((answer, TreeCertificate { shown, nodes }))
+    let shown = shown_of(alloc, problem, answer)?;
+    let nodes = Listed::of(nodes_of(alloc, nodes, &shown)?);
+    Ok(TreeCertificate { shown, nodes })
 }
 
 // The answer with the best run.

@@ -73,10 +73,7 @@ fn probed(
 {
     match exact(alloc, problem, k, limit.min(FEW_NODES)) {
         Ok(found) => Some(found),
-        Err(refused) => {
-            drop(refused);
-            None
-        }
+        Err(_refused) => None,
     }
 }
 
@@ -337,7 +334,7 @@ fn tried(
     ensures refused { IfErr result (λ refused. (most : ℕ) → k ≤ most → IsStoppedUpTo (allowing problem.now) most limit refused) }
 {
     match exact(alloc, problem, k, limit) {
-        Ok((answer, tree)) => Ok(told(k, answer, tree, below)),
+        Ok((answer, tree)) => Ok(trial_by(k, answer, tree, below)),
         Err(refused) => {
             drop(below);
             Err(stopped_at(k, refused))
@@ -346,7 +343,7 @@ fn tried(
 }
 
 // What an exact answer tells of a number. An exact answer is never inconclusive.
-fn told(k: u32, answer: Answer, tree: TreeCertificate, below: Option<TreeCertificate>) -> Trial
+fn trial_by(k: u32, answer: Answer, tree: TreeCertificate, below: Option<TreeCertificate>) -> Trial
     ensures { result ≡ trial_by answer.word k answer tree below }
 {
     match answer.word {

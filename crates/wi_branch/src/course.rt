@@ -1,9 +1,9 @@
 //! Branches wait on a stack, and none is copied: a child is made when its parent is split, and let go when it was opened. The best
-//! run is kept whole, and each leaf as it was found.
-ghost use Rattle.std.specs.Prelude.{◌≡◌, ◌∷◌, ◌++◌, ◌<◌, [], Some, None, length, option_map, MatchOption, OnOk, IfOk};
+//! run is kept whole. Nodes are kept only for a tree, each leaf as it was found: a leaf takes as much memory as its search.
+ghost use Rattle.std.specs.Prelude.{◌≡◌, ◌∷◌, ◌++◌, ◌<◌, [], Some, None, option_map, MatchOption, OnOk, IfOk};
 ghost use Rattle.wi_quantity.specs.Weighing.{components};
 ghost use Rattle.wi_world.specs.Moves.{AreBounds};
-ghost use Rattle.wi_branch.specs.private.Courses.{MaySplit, after_told, cut_of};
+ghost use Rattle.wi_branch.specs.private.Courses.{MaySplit, after_told, cut_of, kept, with_node};
 
 use crate::finding::Told;
 use crate::opened::Opened;
@@ -16,43 +16,39 @@ use wi_net::{Bounds, LinkId, Network};
 use wi_quantity::Weight;
 use wi_trees::{with_down, with_up};
 
-/// The best run that fitted so far, the nodes in preorder, and the branches that are left.
+/// The best run that fitted so far, how many nodes were opened, these in preorder, where they are kept, and the branches that are
+/// left.
 #[derive(Drop)]
 pub(crate) struct Course {
     pub(crate) best: Option<LeastRun>,
-    pub(crate) opened: Vec<Opened>,
+    pub(crate) count: u32,
+    pub(crate) nodes: Option<Vec<Opened>>,
     // The next one last.
     left: Vec<Bounds>,
 }
 
 impl Model for Course {
-    ghost use Rattle.std.specs.Prelude.{reverse};
+    ghost use Rattle.std.specs.Prelude.{option_map, reverse};
     ghost use Rattle.wi_branch.specs.private.Courses.{Opening};
 
     ghost Value = { Opening };
 
-    ghost view = { λ c. record { best = c.best; opened = c.opened.items; left = reverse c.left.items } };
+    ghost view = { λ c. record { best = c.best; count = c.count; nodes = option_map (λ nodes. nodes.items) c.nodes; left = reverse c.left.items } };
 }
 
 impl Course {
-    /// Nothing was opened yet.
-    pub(crate) fn new(alloc: Global, whole: Bounds) -> Result<Course, NoMemory>
-        ensures { IfOk result (λ course. course ≡ record { best = None; opened = []; left = whole ∷ [] }) }
+    /// Nothing was opened yet. `keeps` says whether nodes are kept.
+    pub(crate) fn new(alloc: Global, whole: Bounds, keeps: bool) -> Result<Course, NoMemory>
+        ensures { IfOk result (λ course. course ≡ record { best = None; count = 0; nodes = kept keeps []; left = whole ∷ [] }) }
     {
         let mut left = Vec::new(alloc);
         put(&mut left, whole)?;
         Ok(Course {
             best: None,
-            opened: Vec::new(alloc),
+            count: 0,
+            nodes: if keeps { Some(Vec::new(alloc)) } else { None },
             left,
         })
-    }
-
-    /// How many nodes were opened. It takes no memory.
-    pub(crate) fn len(&self) -> usize
-        ensures { result ≡ length self.now.opened }
-    {
-        self.opened.len()
     }
 
     /// The weight of the best run so far.
@@ -82,20 +78,37 @@ impl Course {
     ) -> Result<(), NoMemory>
         requires bounds { AreBounds net.now branch.now }
         requires split { MaySplit branch.now told }
+        requires room { self.old.count < 4294967295 }
         ensures { OnOk result (self.new ≡ after_told net.now self.old branch.now told) }
     {
         match told {
-            Told::Nothing(leaf) => put(&mut self.opened, Opened::Closed(leaf)),
+            Told::Nothing(leaf) => self.keep(Opened::Closed(leaf)),
             Told::Fitting(found, leaf) => self.improve(found, leaf),
             Told::Splitting(link) => self.split(alloc, net, branch, link),
         }
     }
 
+    // One node more.
+    fn keep(&mut self, node: Opened) -> Result<(), NoMemory>
+        requires { self.old.count < 4294967295 }
+        ensures { OnOk result (self.new ≡ with_node self.old node) }
+    {
+        self.count += 1;
+        match &mut self.nodes {
+            Some(nodes) => put(nodes, node),
+            None => {
+                drop(node);
+                Ok(())
+            }
+        }
+    }
+
     // A better run.
     fn improve(&mut self, found: LeastRun, leaf: Closed) -> Result<(), NoMemory>
-        ensures { OnOk result (self.new ≡ record self.old { best = Some found; opened = self.old.opened ++ Opened.Fits found.weight leaf ∷ [] }) }
+        requires { self.old.count < 4294967295 }
+        ensures { OnOk result (self.new ≡ record (with_node self.old (Opened.Fits found.weight leaf)) { best = Some found }) }
     {
-        put(&mut self.opened, Opened::Fits(found.weight, leaf))?;
+        self.keep(Opened::Fits(found.weight, leaf))?;
         self.best = Some(found);
         Ok(())
     }
@@ -109,10 +122,11 @@ impl Course {
         link: LinkId,
     ) -> Result<(), NoMemory>
         requires bounds { AreBounds net.now branch.now }
-        requires room { 0 < branch.now.k }
+        requires splits { 0 < branch.now.k }
+        requires room { self.old.count < 4294967295 }
         ensures { OnOk result (self.new ≡ after_told net.now self.old branch.now (Told.Splitting link)) }
     {
-        put(&mut self.opened, Opened::Split(link))?;
+        self.keep(Opened::Split(link))?;
         put(&mut self.left, with_up(alloc, net, branch, link)?)?;
         put(&mut self.left, with_down(alloc, net, branch, link)?)
     }

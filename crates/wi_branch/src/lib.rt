@@ -12,7 +12,7 @@ mod refused;
 mod tolerance;
 mod tree;
 
-pub use answers::exact;
+pub use answers::{exact, exact_answer};
 pub use counting::tolerate;
 pub use opened::Opened;
 pub use refused::ExactRefused;

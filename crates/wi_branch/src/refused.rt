@@ -1,28 +1,18 @@
-//! A refusal has the nodes before it, so that it can be seen that the search went as it has to.
-use crate::opened::Opened;
-use wi_base::{Listed, NoMemory};
+//! A refusal is `Copy` and takes no memory: the nodes before it are let go.
+use wi_base::NoMemory;
+use wi_decide::SearchRefused;
 use wi_quantity::Weight;
+use wi_saturate::Overflow;
 
-/// Why there is no exact answer. `opened` has the nodes that were opened, in preorder; it stops before the branch spoken of.
-#[derive(Drop)]
+/// Why there is no exact answer. Nodes are opened in preorder, and the first branch that can't be is the one spoken of.
+#[derive(Clone, Copy, Debug, PartialEq, Eq)]
 pub enum ExactRefused {
-    /// A summary that no run of the branch is lighter than has a component over 2^64 - 1: the lightest such summary, from the head
-    /// to the state `target`.
-    Overflow {
-        opened: Listed<Opened>,
-        head: (u64, u32),
-        target: u64,
-        weight: Weight,
-    },
+    /// A summary that no run of the branch is lighter than has a component over 2^64 - 1: the lightest such summary.
+    Overflow(Overflow<Weight>),
     /// The effort of the branch's least run, which is over 4,096.
-    TooLong {
-        opened: Listed<Opened>,
-        effort: u64,
-    },
+    TooLong(u64),
     /// One more node would be opened than the limit.
-    NodeLimit {
-        opened: Listed<Opened>,
-    },
+    NodeLimit,
     /// Memory ran out.
     Memory,
 }
@@ -35,5 +25,20 @@ impl From<NoMemory> for ExactRefused {
 
     fn from(_error: NoMemory) -> Self {
         ExactRefused::Memory
+    }
+}
+
+impl From<SearchRefused> for ExactRefused {
+    ghost use Rattle.std.specs.Prelude.{◌≡◌};
+    ghost use Rattle.wi_branch.specs.Exactly.{refusal_of};
+
+    ghost from_gives = { λ refused r. r ≡ refusal_of refused };
+
+    fn from(refused: SearchRefused) -> Self {
+        match refused {
+            SearchRefused::Overflow(overflow) => ExactRefused::Overflow(overflow),
+            SearchRefused::TooLong(effort) => ExactRefused::TooLong(effort),
+            SearchRefused::Memory => ExactRefused::Memory,
+        }
     }
 }

@@ -59,6 +59,7 @@ fn keep_lighter(shown: &Shown, rows: &mut Vec<Row>)
     ensures { rows.new.items ≡ filter (is_lighter shown.now) rows.old.items }
 {
     rows.retain(|row| is_lighter(shown, row));
+    rows.shrink_to_fit();
 }
 
 // Whether a row weighs less than what is shown; of a no, each may stand.

@@ -99,14 +99,14 @@ module _ (problem : Problem) (k : IsProblem problem) where
 
       -- it is what is shown, or its effort is over the limit
       pub not_shown : (refused : SearchRefused) → IsNotShown b.second.count refused → IsSearchRefused problem (option_map components cut) refused
-      not_shown (Overflow head target w) h = absurd h
+      not_shown (Overflow o) h = absurd h
       not_shown (TooLong n) h = subst (λ (m : ℕ). IsTooLongBelow problem (option_map components cut) m) (sym h.0) (too_long h.1)
       not_shown Memory h = tt
 
 -- without a table a summary doesn't fit
 pub no_table : (problem : Problem) (cut : Option (Pair Terms Effort)) (heads pairs : List (ℕ × ℕ)) (refused : SearchRefused) → AreLeastClosed (rules problem) (0, 0) heads pairs
     → IsNoTable problem heads cut refused → IsSearchRefused problem (option_map components cut) refused
-no_table problem cut heads pairs (Overflow head target w) closed h = record { heads = heads; pairs = pairs; closed = closed; overflow = h }
+no_table problem cut heads pairs (Overflow o) closed h = record { heads = heads; pairs = pairs; closed = closed; overflow = h }
 no_table problem cut heads pairs (TooLong n) closed h = absurd h
 no_table problem cut heads pairs Memory closed h = tt
 

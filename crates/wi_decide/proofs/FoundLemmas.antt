@@ -16,11 +16,9 @@ use Rattle.wi_world.proofs.HoldsLaws.{no_from_moving, answer_by_verdict}
 use Rattle.wi_quantity.specs.Weighing.{components}
 use Rattle.wi_trace.specs.declared.answer.Answer.{Answer}
 use Rattle.wi_build.specs.Problems.{Problem, asks, weighs}
-use Rattle.wi_decide.specs.declared.refused.SearchRefused.{SearchRefused}
-use Rattle.wi_decide.specs.declared.refused.SearchRefused.TheVariants.{Overflow, TooLong, Memory}
 use Rattle.wi_decide.specs.declared.searching.LeastRun.{LeastRun}
-use Rattle.wi_decide.specs.Searches.{AllFitBelow, IsFound, IsLeastBelow, IsSearchRefused}
-use Rattle.wi_decide.specs.Refusals.{IsDecideRefused, IsUnrefused, refusal_of}
+use Rattle.wi_decide.specs.Searches.{AllFitBelow, IsFound, IsLeastBelow}
+use Rattle.wi_decide.specs.Refusals.{IsUnrefused}
 
 -- where no run was found it is a no
 pub is_no : (problem : Problem) (found : Option LeastRun) → IsNetwork problem.net → AreBounds problem.net problem.bounds → found ≡ None → IsFound problem None found → IsNo problem.net (asks problem)
@@ -56,9 +54,3 @@ not_due problem found a h fits same = record {
     go : (f : Option LeastRun) → IsFound problem None f → IfSome (option_map (λ x. x.run) f) (λ run. effort_of problem.net run ≤ 4096)
     go None k = tt
     go (Some x) k = k.1
-
--- what a search without cut refuses isn't decided
-pub undecided : (problem : Problem) (refused : SearchRefused) → IsSearchRefused problem None refused → IsDecideRefused problem (refusal_of refused)
-undecided problem (Overflow head target w) h = record { head = head; target = target; overflow = h }
-undecided problem (TooLong n) h = h
-undecided problem Memory h = tt

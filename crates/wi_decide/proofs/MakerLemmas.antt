@@ -1,11 +1,13 @@
 -- What a search writes down, and that it is the certificate that a maker writes for the answer.
-use Rattle.std.proofs.Common.{◌≡◌, ℕ, ◌+◌, ◌≤◌, ◌^◌, Bool, true, false, ◌||◌, nat_le, List, [], filter, length, Option, Some, None, refl, sym, ap, ◌∙◌, subst, arith}
-use Rattle.std.specs.Prelude.{option_map, IfSome}
+use Rattle.std.proofs.Common.{◌≡◌, ℕ, ◌+◌, ◌≤◌, ◌^◌, Bool, true, false, ◌||◌, nat_le, List, [], filter, length, Option, Some, None, Result, Ok, Err, refl, sym, ap, ◌∙◌, subst, arith}
+use Rattle.std.specs.Prelude.{option_map, IfOk, IfSome}
+use Rattle.std.specs.Option.{option_or}
 use Rattle.std.specs.List.{All, list_all}
 use Rattle.std.specs.List.Sorted.{IsPermutation, IsSortedBy, IsStrictlySortedBy}
 use Rattle.std.specs.Cmp.Lexicographic.{slice_cmp}
 use Rattle.std.specs.Ordering.{nat_cmp}
 use Rattle.std.proofs.lemmas.Bool.{and_parts, leb-true}
+use Rattle.wi_base.specs.declared.no_memory.NoMemory.{NoMemory}
 use Rattle.wi_weight.specs.Weights.{EachBelow}
 use Rattle.wi_quantity.specs.declared.vector.Part.{Part}
 use Rattle.wi_quantity.specs.Vectors.{is_term, is_vector}
@@ -28,13 +30,14 @@ use Rattle.wi_accept.specs.Causes.{bound_of}
 use Rattle.wi_accept.specs.Makers.{AreLeast, IsMaker}
 use Rattle.wi_accept.proofs.RisingRows.{row_below_trans}
 use Rattle.wi_decide.specs.declared.searching.LeastRun.{LeastRun}
-use Rattle.wi_decide.specs.Searches.{IsWrittenDown, bound_with, lowered}
+use Rattle.wi_decide.specs.declared.searching.Evidence.{Evidence}
+use Rattle.wi_decide.specs.Searches.{IsEvidence, IsWrittenDown, bound_with, lowered}
 use Rattle.wi_decide.specs.Showing.{Weight, shown_by, written}
 use Rattle.wi_decide.specs.private.Certificates.{row_by, rows_below}
 use Rattle.wi_decide.specs.private.Tables.{IsTable}
 use Rattle.wi_decide.proofs.AnswerLemmas.{goal_fits}
 use Rattle.wi_decide.proofs.RisingLemmas.{added, all_filter, filter_rises, pairs_rise, rows_rise}
-use Rattle.wi_decide.proofs.RowLemmas.{each_row, row_bound, row_terms, rows_distinct, rows_listed}
+use Rattle.wi_decide.proofs.RowLemmas.{each_row, row_terms, rows_distinct, rows_listed}
 use Rattle.wi_decide.proofs.ShowingLemmas.{Shows, about_asked, shows}
 use Rattle.wi_decide.proofs.WrittenLemmas.{HasTerms, written_length, written_less}
 
@@ -87,7 +90,7 @@ IsRight s r = HasCount s r × (is_lighter s r ≡ true)
 
 module _ (problem : Problem) (k : IsProblem problem) (few : length problem.vector ≤ 5) (cut : Option Weight) (table : TableView Weight) (closed : Closed) (l : IsListed problem cut table closed) where
   -- they can be written under whatever shows their bound
-  writable : (s : Shown) → IsShown s → s.terms ≡ length problem.vector → bound_of s ≡ option_map components (row_bound table.best cut) → IsClosed s closed
+  writable : (s : Shown) → IsShown s → s.terms ≡ length problem.vector → bound_of s ≡ option_map components (option_or table.best cut) → IsClosed s closed
   writable s shown terms bound = record {
     heads = pairs_added closed.heads l.heads;
     pairs = pairs_added closed.pairs l.pairs;
@@ -98,7 +101,7 @@ module _ (problem : Problem) (k : IsProblem problem) (few : length problem.vecto
       fine : All (IsRight s) closed.rows
       fine = each_row problem closed.heads cut table l.table_is (length problem.vector) closed.rows l.rows (IsRight s) (λ t there within. (
         written_length (length problem.vector) t.weight few ∙ ap (λ m. m + 1) (sym terms),
-        lighter (length problem.vector) s (row_bound table.best cut) (row_by (length problem.vector) t) t.weight few shown terms bound (row_terms problem closed.heads cut table l.table_is k few t there) refl within,
+        lighter (length problem.vector) s (option_or table.best cut) (row_by (length problem.vector) t) t.weight few shown terms bound (row_terms problem closed.heads cut table l.table_is k few t there) refl within,
       ))
 
   -- and the lighter rows under whatever is shown
@@ -116,36 +119,45 @@ module _ (problem : Problem) (k : IsProblem problem) (few : length problem.vecto
       counted = each_row problem closed.heads cut table l.table_is (length problem.vector) closed.rows l.rows (HasCount s)
           (λ t there within. written_length (length problem.vector) t.weight few ∙ ap (λ m. m + 1) (sym terms))
 
-  written_down : IsWrittenDown problem (option_map components (row_bound table.best cut)) closed
+  written_down : IsWrittenDown problem (option_map components (option_or table.best cut)) closed
   written_down = record {
     least = record { closed = l.least; rows = rows_listed problem closed.heads cut table l.table_is k few closed.rows l.rows };
     writable = writable;
     lowered = lower_writable;
   }
 
-bound_is : (cut : Option Weight) (found : Option LeastRun) → option_map components (row_bound (option_map (λ f. f.weight) found) cut) ≡ bound_with (option_map components cut) found
-bound_is cut None = refl
-bound_is cut (Some f) = refl
+-- what bounds every run is the weight of the run that was found, or the cut
+pub bound_is : (cut : Option Weight) (found : Option LeastRun) (best : Option Weight) → option_map (λ f. f.weight) found ≡ best → bound_with (option_map components cut) found ≡ option_map components (option_or best cut)
+bound_is cut None best same = ap (λ (b : Option Weight). option_map components (option_or b cut)) same
+bound_is cut (Some f) best same = ap (λ (b : Option Weight). option_map components (option_or b cut)) same
 
--- and so it is by what each step of making it promises
-pub written_by : (problem : Problem) (heads pairs : List (ℕ × ℕ)) (cut : Option Weight) (table : TableView Weight) (found : Option LeastRun) (closed : Closed) (terms : ℕ)
-    → IsProblem problem → is_vector problem.vector ≡ true → terms ≡ length problem.vector
-    → AreLeastClosed (rules problem) (0, 0) heads pairs → IsTable problem heads cut table → option_map (λ f. f.weight) found ≡ table.best
-    → closed.heads ≡ heads → closed.pairs ≡ pairs → IsStrictlySortedBy pair_cmp heads → IsStrictlySortedBy pair_cmp pairs
-    → IsPermutation (rows_below terms table) closed.rows → IsSortedBy row_below closed.rows → IsWrittenDown problem (bound_with (option_map components cut) found) closed
-written_by problem heads pairs cut table found closed terms k v terms_are least is same heads_are pairs_are heads_rise pairs_rise rows sorted =
+-- evidence is written down by what each step of writing promises
+written_by : (problem : Problem) (e : Evidence) (closed : Closed) (terms : ℕ) → IsProblem problem → is_vector problem.vector ≡ true → terms ≡ length problem.vector
+    → closed.heads ≡ e.heads.heads → closed.pairs ≡ e.heads.pairs → IsStrictlySortedBy pair_cmp e.heads.heads → IsStrictlySortedBy pair_cmp e.heads.pairs
+    → IsPermutation (rows_below terms e.table) closed.rows → IsSortedBy row_below closed.rows → (bound : Option (List ℕ)) → IsEvidence problem bound e → IsWrittenDown problem bound closed
+written_by problem e closed terms k v terms_are heads_are pairs_are heads_rise pairs_rise rows sorted bound is =
+    let heads = e.heads.heads in
+    let pairs = e.heads.pairs in
+    let table = e.table in
+    let cut = is.cut in
     let listed : IsListed problem cut table closed = record {
-      table_is = subst (λ (hs : List (ℕ × ℕ)). IsTable problem hs cut table) (sym heads_are) is;
+      table_is = subst (λ (hs : List (ℕ × ℕ)). IsTable problem hs cut table) (sym heads_are) is.table;
       least = subst (λ (hs : List (ℕ × ℕ)). AreLeastClosed (rules problem) (0, 0) hs closed.pairs) (sym heads_are)
-          (subst (λ (ps : List (ℕ × ℕ)). AreLeastClosed (rules problem) (0, 0) heads ps) (sym pairs_are) least);
+          (subst (λ (ps : List (ℕ × ℕ)). AreLeastClosed (rules problem) (0, 0) heads ps) (sym pairs_are) is.closed);
       heads = subst (IsStrictlySortedBy pair_cmp) (sym heads_are) heads_rise;
       pairs = subst (IsStrictlySortedBy pair_cmp) (sym pairs_are) pairs_rise;
       rows = subst (λ m. IsPermutation (rows_below m table) closed.rows) terms_are rows;
       sorted = sorted;
     } in
-    subst (λ (bound : Option (List ℕ)). IsWrittenDown problem bound closed)
-    (ap (λ (best : Option Weight). option_map components (row_bound best cut)) (sym same) ∙ bound_is cut found)
-    (written_down problem k (few_terms problem.vector v) cut table closed listed)
+    subst (λ (b : Option (List ℕ)). IsWrittenDown problem b closed) (sym is.bound_is) (written_down problem k (few_terms problem.vector v) cut table closed listed)
+
+-- so it is by what is promised of writing it down
+pub written_ok : (r : Result Closed NoMemory) (problem : Problem) (e : Evidence) (terms : ℕ) → IsProblem problem → is_vector problem.vector ≡ true → terms ≡ length problem.vector
+    → IfOk r (λ closed. closed.heads ≡ e.heads.heads) → IfOk r (λ closed. closed.pairs ≡ e.heads.pairs) → IsStrictlySortedBy pair_cmp e.heads.heads → IsStrictlySortedBy pair_cmp e.heads.pairs
+    → IfOk r (λ closed. IsPermutation (rows_below terms e.table) closed.rows) → IfOk r (λ closed. IsSortedBy row_below closed.rows)
+    → IfOk r (λ closed. (bound : Option (List ℕ)) → IsEvidence problem bound e → IsWrittenDown problem bound closed)
+written_ok (Ok closed) problem e terms k v terms_are heads pairs heads_rise pairs_rise rows sorted = written_by problem e closed terms k v terms_are heads pairs heads_rise pairs_rise rows sorted
+written_ok (Err error) problem e terms k v terms_are heads pairs heads_rise pairs_rise rows sorted = tt
 
 -- what was written down is the certificate of an answer that shows its bound
 made : (problem : Problem) (a : Answer) (closed : Closed) → IsProblem problem → length problem.vector ≤ 5 → IsWrittenDown problem (option_map components a.weight) closed → IsDecided problem a

@@ -2,6 +2,7 @@
 -- a goal's row these are all rows, and the least summaries below the cut.
 use Rattle.std.proofs.Common.{◌≡◌, ◌↔◌, ℕ, zero, suc, ◌<◌, ◌≤◌, Bool, true, false, ◌&&◌, nat_eq, List, [], ◌∷◌, map, take, filter, length, get_or, slice_get, Option, Some, None, refl, sym, ap, ◌∙◌, subst, arith}
 use Rattle.std.specs.Prelude.{option_map, IfSome}
+use Rattle.std.specs.Option.{option_or}
 use Rattle.std.specs.List.{All, AllByRecursion, IsDistinct}
 use Rattle.std.specs.List.Sorted.{IsPermutation}
 use Rattle.std.specs.Ordering.{is_lt}
@@ -41,26 +42,21 @@ less_is Less h = refl
 less_is Equal h = cc
 less_is Greater h = cc
 
--- what bounds the rows that are kept: the goal's weight, or the cut
-abbrev pub row_bound : Option Weight → Option Weight → Option Weight
-row_bound None cut = cut
-row_bound (Some b) cut = Some b
-
-kept_within : (best cut : Option Weight) (v : Weight) → is_below best v ≡ true → Within scale (option_map components cut) (components v) → Within scale (option_map components (row_bound best cut)) (components v)
+kept_within : (best cut : Option Weight) (v : Weight) → is_below best v ≡ true → Within scale (option_map components cut) (components v) → Within scale (option_map components (option_or best cut)) (components v)
 kept_within None cut v below within = within
 kept_within (Some b) cut v below within = less_is (scale.order (components v) (components b)) below
 
-within_kept : (best cut : Option Weight) (v : Weight) → Within scale (option_map components (row_bound best cut)) (components v) → is_below best v ≡ true
+within_kept : (best cut : Option Weight) (v : Weight) → Within scale (option_map components (option_or best cut)) (components v) → is_below best v ≡ true
 within_kept None cut v h = refl
 within_kept (Some b) cut v h = ap is_lt h
 
 -- what is below the goal's weight is so, and is below the cut as that is
-within_if : (best cut : Option Weight) (w : List ℕ) → Within scale (option_map components (row_bound best cut)) w → IfSome (option_map components best) (λ b. Below scale w b)
+within_if : (best cut : Option Weight) (w : List ℕ) → Within scale (option_map components (option_or best cut)) w → IfSome (option_map components best) (λ b. Below scale w b)
 within_if None cut w h = tt
 within_if (Some b) cut w h = h
 
 within_cut : (rules : ℕ → ℕ → List (Rule Weight)) (best cut : Option Weight) (w : List ℕ) → IsWeight scale w → IfSome (option_map components best) (λ b. Least scale components rules 0 0 1 b × Within scale (option_map components cut) b)
-    → Within scale (option_map components (row_bound best cut)) w → Within scale (option_map components cut) w
+    → Within scale (option_map components (option_or best cut)) w → Within scale (option_map components cut) w
 within_cut rules None cut w weight goal h = h
 within_cut rules (Some b) None w weight goal h = tt
 within_cut rules (Some b) (Some c) w weight goal h = scale_laws.trans w (components b) (components c) weight refl refl h goal.1
@@ -122,7 +118,7 @@ module _ (problem : Problem) (heads : List (ℕ × ℕ)) (cut : Option Weight) (
         (kept_apart is_same_settled is_same (row_by n) (λ r. is_below table.best r.weight) (λ x y. refl) table.rows rows_apart)
 
     -- what holds of each row below the goal holds of all
-    pub each_row : (P : Row → Type 0) → ((t : settled.Row Weight) → In table.rows t → Within scale (option_map components (row_bound table.best cut)) (components t.weight) → P (row_by n t)) → All P rows
+    pub each_row : (P : Row → Type 0) → ((t : settled.Row Weight) → In table.rows t → Within scale (option_map components (option_or table.best cut)) (components t.weight) → P (row_by n t)) → All P rows
     each_row P each = All-permutation P (rows_below n table) rows order (all_in P (rows_below n table) from)
       where
         from : (x : Row) → In (rows_below n table) x → P x
@@ -144,7 +140,7 @@ module _ (problem : Problem) (heads : List (ℕ × ℕ)) (cut : Option Weight) (
     said r = row r.p r.g r.q (padded (length problem.vector) r.weight)
 
     abbrev IsWithin : Summary → Type 0
-    IsWithin s = IsLeastWithin problem heads (option_map components (row_bound table.best cut)) s.p s.g s.q s.weight
+    IsWithin s = IsLeastWithin problem heads (option_map components (option_or table.best cut)) s.p s.g s.q s.weight
 
     from_row : (s : Summary) → In (map said (rows_below (length problem.vector) table)) s → IsWithin s
     from_row s h =
@@ -157,7 +153,7 @@ module _ (problem : Problem) (heads : List (ℕ × ℕ)) (cut : Option Weight) (
         let here : IsWithin (row (m.0).p (m.0).g (m.0).q (components (m.0).weight)) = record { head = there.head; least = there.least; within = kept_within table.best cut (m.0).weight t.1 there.within } in
         subst IsWithin (ap (λ w. row (m.0).p (m.0).g (m.0).q w) (sym whole) ∙ (ap said m.2 ∙ x.2)) here
 
-    to_row : (p g q : ℕ) (w : List ℕ) → IsLeastWithin problem heads (option_map components (row_bound table.best cut)) p g q w → In (map said (rows_below (length problem.vector) table)) (row p g q w)
+    to_row : (p g q : ℕ) (w : List ℕ) → IsLeastWithin problem heads (option_map components (option_or table.best cut)) p g q w → In (map said (rows_below (length problem.vector) table)) (row p g q w)
     to_row p g q w h =
         let weight = pops_weight (rules problem) p g q w h.least.0 in
         let within = within_cut (rules problem) table.best cut w weight is.found h.within in
@@ -166,7 +162,7 @@ module _ (problem : Problem) (heads : List (ℕ × ℕ)) (cut : Option Weight) (
         let at : slice_get table.rows found.0 ≡ Some t = found.1.1 in
         let there : In table.rows t = contains_in table.rows t (contains_from_get table.rows found.0 t at) in
         let weighs : components t.weight ≡ w = found.1.3 in
-        let below : is_below table.best t.weight ≡ true = within_kept table.best cut t.weight (subst (Within scale (option_map components (row_bound table.best cut))) (sym weighs) h.within) in
+        let below : is_below table.best t.weight ≡ true = within_kept table.best cut t.weight (subst (Within scale (option_map components (option_or table.best cut))) (sym weighs) h.within) in
         let kept = in_map (row_by (length problem.vector)) (filter (λ r. is_below table.best r.weight) table.rows) t (in_filter (λ r. is_below table.best r.weight) table.rows t there below) in
         let whole : padded (length problem.vector) (written (length problem.vector) t.weight) ≡ w = padded_written (length problem.vector) t.weight few (row_terms t there) ∙ weighs in
         let same : said (row_by (length problem.vector) t) ≡ row p g q w =
@@ -177,7 +173,7 @@ module _ (problem : Problem) (heads : List (ℕ × ℕ)) (cut : Option Weight) (
         subst (In (map said (rows_below (length problem.vector) table))) same (in_map said (rows_below (length problem.vector) table) (row_by (length problem.vector) t) kept)
 
     pub rows_listed : (rows : List Row) → IsPermutation (rows_below (length problem.vector) table) rows → (p g q : ℕ) (w : List ℕ)
-        → Listed (rows_of (length problem.vector) rows) p g q w ↔ IsLeastWithin problem heads (option_map components (row_bound table.best cut)) p g q w
+        → Listed (rows_of (length problem.vector) rows) p g q w ↔ IsLeastWithin problem heads (option_map components (option_or table.best cut)) p g q w
     rows_listed rows order p g q w = (
       λ h. from_row (row p g q w) (contains_in (map said (rows_below (length problem.vector) table)) (row p g q w) (Contains-permutation (map said rows) (map said (rows_below (length problem.vector) table)) (row p g q w) (IsPermutation-sym _ _ moved) h)),
       λ h. Contains-permutation (map said (rows_below (length problem.vector) table)) (map said rows) (row p g q w) moved (in_contains (map said (rows_below (length problem.vector) table)) (row p g q w) (to_row p g q w h)),

@@ -1,12 +1,16 @@
 -- What is found for a problem below a cut: a least matching moving run, or that there is none; what shows that nothing is lighter;
 -- and why it isn't known.
-use Rattle.std.specs.Prelude.{◌≡◌, ℕ, ◌<◌, ◌≤◌, List, filter, length, Option, Some, None}
+use Rattle.std.specs.Prelude.{◌≡◌, ℕ, ◌<◌, ◌≤◌, List, filter, length, Option, Some, None, option_map}
+use Rattle.std.specs.Option.{option_or}
+use Rattle.wi_weight.specs.declared.kinds.Pair.{Pair}
+use Rattle.wi_weight.specs.declared.kinds.Terms.{Terms}
+use Rattle.wi_weight.specs.declared.kinds.Effort.{Effort}
 use Rattle.wi_world.specs.declared.run.Run.{Run}
 use Rattle.wi_world.specs.Runs.{effort_of}
 use Rattle.wi_world.specs.Holds.{NoneMovingLess}
 use Rattle.wi_quantity.specs.Weighing.{components}
 use Rattle.wi_pds.specs.LeastClosed.{AreLeastClosed}
-use Rattle.wi_saturate.specs.LeastTables.{IsOverflow}
+use Rattle.wi_saturate.specs.LeastTables.{IsLeastTable, IsOverflow}
 use Rattle.wi_build.specs.Problems.{Problem, IsAnswering, asks, weighs}
 use Rattle.wi_build.specs.Systems.{scale, rules}
 use Rattle.wi_cert.specs.declared.shown.Shown.{Shown}
@@ -17,6 +21,7 @@ use Rattle.wi_accept.specs.Causes.{bound_of}
 use Rattle.wi_accept.specs.Makers.{AreLeast}
 use Rattle.wi_trees.specs.Trees.{IsBelow, NoRunBelow}
 use Rattle.wi_decide.specs.declared.searching.LeastRun.{LeastRun}
+use Rattle.wi_decide.specs.declared.searching.Evidence.{Evidence}
 use Rattle.wi_decide.specs.declared.refused.SearchRefused.{SearchRefused}
 use Rattle.wi_decide.specs.declared.refused.SearchRefused.TheVariants.{Overflow, TooLong, Memory}
 
@@ -54,9 +59,17 @@ IsFound problem cut (Some found) = IsLeastBelow problem cut (components found.we
 
 -- why it isn't known
 abbrev pub IsSearchRefused : Problem → Option (List ℕ) → SearchRefused → Type 0
-IsSearchRefused problem cut (Overflow head target w) = IsOverflowingBelow problem cut head target (components w)
+IsSearchRefused problem cut (Overflow o) = IsOverflowingBelow problem cut o.head o.target (components o.weight)
 IsSearchRefused problem cut (TooLong n) = IsTooLongBelow problem cut n
 IsSearchRefused problem cut Memory = Unit {0}
+
+-- the least closed heads and pairs of a problem, and a table of their least summaries below a cut; what bounds every run then is the
+-- weight of the table's goal, or the cut
+pub record IsEvidence (problem : Problem) (bound : Option (List ℕ)) (e : Evidence) : Type 0 where
+  pub closed : AreLeastClosed (rules problem) (0, 0) e.heads.heads e.heads.pairs
+  pub cut : Option (Pair Terms Effort)
+  pub table : IsLeastTable scale components (rules problem) e.heads.heads (0, 0, 1) (option_map components cut) e.table.rows (option_map components e.table.best)
+  pub bound_is : bound ≡ option_map components (option_or e.table.best cut)
 
 -- what bounds every run then: the weight of the run that was found, or the cut
 abbrev pub bound_with : Option (List ℕ) → Option LeastRun → Option (List ℕ)

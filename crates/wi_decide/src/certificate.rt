@@ -192,6 +192,7 @@ fn sorted_rows(alloc: Global, terms: u32, table: &Table<Weight>) -> Result<Vec<R
     ensures sorted { IfOk result (λ rows. IsSortedBy row_below rows.items) }
 {
     let mut rows = rows_below(alloc, terms, table)?;
+    rows.shrink_to_fit();
     rows.sort_unstable_by_key(|row| (row.p, row.g, row.q));
     Ok(rows)
 }

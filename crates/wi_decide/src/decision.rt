@@ -2,14 +2,14 @@
 //! lighter is taken over as it is.
 ghost use Rattle.std.specs.Prelude.{◌≡◌, Some, None, IfOk, IfErr, option_map};
 ghost use Rattle.wi_world.specs.private.Holds.{word_for};
-ghost use Rattle.wi_decide.specs.Searches.{IsFound};
+ghost use Rattle.wi_decide.specs.Searches.{IsFound, IsSearchRefused};
 ghost use Rattle.wi_accept.specs.Answers.{IsDecided};
 ghost use Rattle.wi_accept.specs.Causes.{IsAccepted};
 ghost use Rattle.wi_accept.specs.Makers.{IsMaker};
-ghost use Rattle.wi_decide.specs.Refusals.{IsDecideRefused, IsUnrefused};
+ghost use Rattle.wi_decide.specs.Refusals.{IsUnrefused};
 
 use crate::certificate::shown_of;
-use crate::refused::DecideRefused;
+use crate::refused::SearchRefused;
 use crate::searching::{LeastRun, Searched, search};
 use std::alloc::Global;
 use wi_base::NoMemory;
@@ -20,18 +20,19 @@ use wi_world::{Verdict, Word};
 
 /// The answer to a problem, and the certificate that shows it. A run is shown where its effort is at most 4,096. The certificate has
 /// the least closed heads and pairs, and the rows that weigh less than that run; of a no, all rows.
-pub fn decide(alloc: Global, problem: &Problem<'_>) -> Result<(Answer, Certificate), DecideRefused>
+pub fn decide(alloc: Global, problem: &Problem<'_>) -> Result<(Answer, Certificate), SearchRefused>
     ensures decided { IfOk result (λ found. IsDecided problem.now found.0) }
     ensures made { IfOk result (λ found. IsMaker problem.now found.0 found.1) }
     ensures accepted { IfOk result (λ found. IsAccepted problem.now found.1) }
-    ensures refused { IfErr result (IsDecideRefused problem.now) }
+    ensures refused { IfErr result (IsSearchRefused problem.now None) }
     ensures unrefused { IfOk result (λ found. IsUnrefused problem.now found.0) }
 {
     problem.keeps();
     let searched = search(alloc, problem, None)?;
-    let Searched { found, closed } = searched;
+    let Searched { found, evidence } = searched;
     let answer = answer_of(alloc, problem, found)?;
     let shown = shown_of(alloc, problem, &answer)?;
+    let closed = evidence.write_down(alloc, problem)?;
     Ok((answer, Certificate { shown, closed }))
 }
 

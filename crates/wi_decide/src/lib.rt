@@ -12,6 +12,6 @@ mod spelling;
 pub use certificate::shown_of;
 pub use decision::decide;
 pub use laws::overflows_show;
-pub use refused::{DecideRefused, SearchRefused};
-pub use searching::{LeastRun, Searched, search};
+pub use refused::SearchRefused;
+pub use searching::{Evidence, LeastRun, Searched, search};
 pub use spelling::run_of;

@@ -1,7 +1,7 @@
 //! What can come up at all is found first, so that least summaries are looked for there alone; the rules are made for both, and
 //! so twice. A least run may be far longer than all that it was found by, so one of more than 4,096 rules is refused before it
 //! is unfolded.
-ghost use Rattle.std.specs.Prelude.{◌≡◌, ◌^◌, ◌<◌, ◌≤◌, Option, IsSome, IfSome, IfOk, IfErr, OnOk, option_map};
+ghost use Rattle.std.specs.Prelude.{◌≡◌, ℕ, ◌^◌, ◌<◌, ◌≤◌, List, Option, IsSome, IfSome, IfOk, IfErr, OnOk, option_map};
 ghost use Rattle.wi_weight.specs.Weights.{EachBelow};
 ghost use Rattle.wi_weight.specs.declared.kinds.Pair.{Pair};
 ghost use Rattle.wi_weight.specs.declared.kinds.Terms.{Terms};
@@ -12,21 +12,20 @@ ghost use Rattle.wi_witness.specs.GoalRuns.{IsNamedRun};
 ghost use Rattle.wi_build.specs.Problems.{Problem, IsAnswering};
 ghost use Rattle.wi_build.specs.Encodings.{encoding_of};
 ghost use Rattle.wi_build.specs.Systems.{scale, rules_by};
-ghost use Rattle.wi_decide.specs.Searches.{AllFitBelow, IsFound, IsSearchRefused, IsWrittenDown, bound_with};
+ghost use Rattle.wi_decide.specs.Searches.{AllFitBelow, IsFound, IsEvidence, IsSearchRefused, IsWrittenDown, bound_with};
 ghost use Rattle.wi_decide.specs.private.Tables.{IsTable, HasTable, IsNoTable, IsNotShown};
 
 use crate::certificate::closed_of;
 use crate::refused::SearchRefused;
 use crate::spelling::run_of;
 use std::alloc::Global;
-use std::marker::Brand;
-use std::sync::ledger::{Blank, Ledger};
+use wi_base::NoMemory;
 use wi_build::{LazySystem, Problem};
 use wi_cert::Closed;
 use wi_pds::{Heads, RuleId};
 use wi_quantity::Weight;
 use wi_reduce::reach;
-use wi_saturate::{LeastRefused, Steps, Table, least};
+use wi_saturate::{LeastRefused, Table, least};
 use wi_witness::{UnfoldRefused, unfold};
 use wi_world::Run;
 
@@ -46,8 +45,30 @@ pub struct LeastRun {
 pub struct Searched {
     /// Without one, no matching moving run is below the cut.
     pub found: Option<LeastRun>,
-    /// The least closed heads and pairs, and the rows that weigh less than the run; without one, less than the cut.
-    pub closed: Closed,
+    pub evidence: Evidence,
+}
+
+/// The least closed heads and pairs of a problem, and the table of their least summaries, as they were found. It takes as much memory as
+/// the search.
+#[derive(Drop)]
+pub struct Evidence {
+    heads: Heads,
+    table: Table<Weight>,
+}
+
+impl Evidence {
+    /// Writes it down for a checker: the least closed heads and pairs, and the rows that weigh less than the run that was found; without
+    /// one, less than the cut.
+    pub fn write_down(self, alloc: Global, problem: &Problem<'_>) -> Result<Closed, NoMemory>
+        requires { (bound : Option (List ℕ)) × IsEvidence problem.now bound self }
+        ensures { IfOk result (λ closed. (bound : Option (List ℕ)) → IsEvidence problem.now bound self → IsWrittenDown problem.now bound closed) }
+    {
+        problem.keeps();
+        let Evidence { heads, table } = self;
+        let closed = closed_of(alloc, problem.terms() as u32, heads, &table);
+        drop(table);
+        closed
+    }
 }
 
 /// A least run that answers a problem, if one weighs less than the cut; without a cut any may. One is shown where its effort is at
@@ -58,7 +79,7 @@ pub fn search(
     cut: Option<Weight>,
 ) -> Result<Searched, SearchRefused>
     ensures found { IfOk result (λ s. IsFound problem.now (option_map components cut) s.found) }
-    ensures closed { IfOk result (λ s. IsWrittenDown problem.now (bound_with (option_map components cut) s.found) s.closed) }
+    ensures evidence { IfOk result (λ s. IsEvidence problem.now (bound_with (option_map components cut) s.found) s.evidence) }
     ensures fits { OnOk result (AllFitBelow problem.now (option_map components cut)) }
     ensures small { IfOk result (λ s. IfSome s.found (λ found. EachBelow (2 ^ 64) (components found.weight))) }
     ensures refused { IfErr result (IsSearchRefused problem.now (option_map components cut)) }
@@ -76,55 +97,36 @@ fn search_by(
     cut: Option<Weight>,
 ) -> Result<Searched, SearchRefused>
     ensures found { IfOk result (λ s. IsFound system.now (option_map components cut) s.found) }
-    ensures closed { IfOk result (λ s. IsWrittenDown system.now (bound_with (option_map components cut) s.found) s.closed) }
+    ensures evidence { IfOk result (λ s. IsEvidence system.now (bound_with (option_map components cut) s.found) s.evidence) }
     ensures fits { OnOk result (AllFitBelow system.now (option_map components cut)) }
     ensures small { IfOk result (λ s. IfSome s.found (λ found. EachBelow (2 ^ 64) (components found.weight))) }
     ensures refused { IfErr result (IsSearchRefused system.now (option_map components cut)) }
 {
     system.keeps();
     let heads = reach(alloc, system)?;
-    let table = table_of::<Brand, Brand>(alloc, system, &heads, cut, Blank::new(1), Blank::new(1))?;
+    let table = table_of(alloc, system, &heads, cut)?;
     let found = found_of(alloc, system, &table)?;
-    let closed = closed_of(alloc, system.terms() as u32, heads, &table)?;
-    Ok(Searched { found, closed })
+    Ok(Searched {
+        found,
+        evidence: Evidence { heads, table },
+    })
 }
 
-// The least summaries of heads below a cut, up to the goal. How many rows are settled and how many candidates are tried is counted
-// by the blanks' ledgers, and not looked at.
-fn table_of<L: Ledger, M: Ledger>(
+// The least summaries of heads below a cut, up to the goal.
+fn table_of(
     alloc: Global,
     system: &LazySystem<'_>,
     heads: &Heads,
     cut: Option<Weight>,
-    blank: Blank,
-    other: Blank,
 ) -> Result<Table<Weight>, SearchRefused>
-    requires name { blank.name ≡ L.name }
-    requires parts { blank.parts ≡ L.parts }
-    requires some { 0 < blank.parts }
-    requires other_name { other.name ≡ M.name }
-    requires other_parts { other.parts ≡ M.parts }
-    requires other_some { 0 < other.parts }
-    requires closed { AreClosed (rules_by (encoding_of system.now)) (0, 0) heads.now.heads heads.now.pairs }
+    requires { AreClosed (rules_by (encoding_of system.now)) (0, 0) heads.now.heads heads.now.pairs }
     ensures table { IfOk result (λ table. IsTable system.now heads.now.heads cut table) }
     ensures refused { IfErr result (λ refused. IsNoTable system.now heads.now.heads cut refused) }
 {
     system.keeps();
-    let mut steps = Steps::<L>::open(blank);
-    let mut tries = Steps::<M>::open(other);
-    match least(alloc, system, heads, (0, 0, 1), cut, &mut steps, &mut tries) {
+    match least(alloc, system, heads, (0, 0, 1), cut) {
         Ok(table) => Ok(table),
-        Err(
-            LeastRefused::Overflow {
-                head,
-                target,
-                weight,
-            },
-        ) => Err(SearchRefused::Overflow {
-            head,
-            target,
-            weight,
-        }),
+        Err(LeastRefused::Overflow(overflow)) => Err(SearchRefused::Overflow(overflow)),
         Err(LeastRefused::Memory) => Err(SearchRefused::Memory),
     }
 }

@@ -15,31 +15,35 @@ use Rattle.wi_base.specs.declared.no_memory.NoMemory.{NoMemory}
 use Rattle.wi_branch.specs.declared.refused.ExactRefused.{ExactRefused}
 use Rattle.wi_branch.specs.declared.refused.ExactRefused.TheVariants as refused
 use Rattle.wi_branch.specs.Exactly.{IsExactRefused}
-use Rattle.wi_settle.specs.declared.settled.Asked.{Asked}
-use Rattle.wi_settle.specs.declared.settled.Asked.TheVariants as asked_as
-use Rattle.wi_settle.specs.private.Asking.{IsAsked, asked_by}
+use Rattle.wi_settle.specs.declared.settled.Reply.{Reply}
+use Rattle.wi_settle.specs.declared.settled.Reply.TheVariants as reply_as
+use Rattle.wi_settle.specs.private.Asking.{IsReply, reply_by}
 
 -- by all that it shows
-told : (problem : Problem) (word : Word) (w : Option (List ℕ)) (run : Option Run) (verdict : Option Verdict) → HoldsExactly problem.net (asks problem) (weighs problem) word w run verdict → IsAsked problem (asked_by problem.net run verdict)
-told problem Yes (Some w) (Some run) (Some (Fits fails)) h = (
+reply_holds : (problem : Problem) (word : Word) (w : Option (List ℕ)) (run : Option Run) (verdict : Option Verdict) → HoldsExactly problem.net (asks problem) (weighs problem) word w run verdict → IsReply problem (reply_by problem.net run verdict)
+reply_holds problem Yes (Some w) (Some run) (Some (Fits fails)) h = (
   record { fails = fails; run = run; allowed = h.allowed; trace = h.trace; matches = h.matches },
   record { run = run; union = h.allowed.union; down = h.allowed.down; up = h.allowed.up; trace = h.trace; matches = h.matches; used = refl },
 )
-told problem No None None None h = (λ has. h has.fails has.run has.allowed has.trace has.matches)
-told problem Yes None run verdict h = elim h [ ]
-told problem Yes (Some w) None verdict h = elim h [ ]
-told problem Yes (Some w) (Some run) None h = elim h [ ]
-told problem Yes (Some w) (Some run) (Some (Exceeds n)) h = elim h [ ]
-told problem Yes (Some w) (Some run) (Some (UsesFailed e)) h = elim h [ ]
-told problem No (Some w) run verdict h = elim h [ ]
-told problem No None (Some run) verdict h = elim h [ ]
-told problem No None None (Some verdict) h = elim h [ ]
-told problem Inconclusive w run verdict h = elim h [ ]
+reply_holds problem No None None None h = (λ has. h has.fails has.run has.allowed has.trace has.matches)
+reply_holds problem Yes None run verdict h = elim h [ ]
+reply_holds problem Yes (Some w) None verdict h = elim h [ ]
+reply_holds problem Yes (Some w) (Some run) None h = elim h [ ]
+reply_holds problem Yes (Some w) (Some run) (Some (Exceeds n)) h = elim h [ ]
+reply_holds problem Yes (Some w) (Some run) (Some (UsesFailed e)) h = elim h [ ]
+reply_holds problem No (Some w) run verdict h = elim h [ ]
+reply_holds problem No None (Some run) verdict h = elim h [ ]
+reply_holds problem No None None (Some verdict) h = elim h [ ]
+reply_holds problem Inconclusive w run verdict h = elim h [ ]
 
-pub asked_is : (problem : Problem) (answer : Answer) → IsDecidedExactly problem answer → IsAsked problem (asked_by problem.net answer.run answer.verdict)
-asked_is problem answer h = told problem answer.word (option_map components answer.weight) answer.run answer.verdict h
+reply_is : (problem : Problem) (answer : Answer) → IsDecidedExactly problem answer → IsReply problem (reply_by problem.net answer.run answer.verdict)
+reply_is problem answer h = reply_holds problem answer.word (option_map components answer.weight) answer.run answer.verdict h
+
+pub reply_ok : (r : Result Reply NoMemory) (problem : Problem) (answer : Answer) → IsDecidedExactly problem answer → IfOk r (λ reply. reply ≡ reply_by problem.net answer.run answer.verdict) → IfOk r (IsReply problem)
+reply_ok (Ok reply) problem answer h is = subst (λ (x : Reply). IsReply problem x) (sym is) (reply_is problem answer h)
+reply_ok (Err error) problem answer h is = tt
 
 -- that there is none
-pub open_asked : (r : Result Asked NoMemory) (problem : Problem) (cause : ExactRefused) → IfOk r (λ asked. asked ≡ asked_as.Open) → OnOk r (cause ≡ refused.Memory → ⊥) → IsExactRefused problem 10000 cause → IfOk r (IsAsked problem)
-open_asked (Ok asked) problem cause is decided h = subst (λ (x : Asked). IsAsked problem x) (sym is) (cause, decided, h)
-open_asked (Err error) problem cause is decided h = tt
+pub open_reply : (r : Result Reply NoMemory) (problem : Problem) (cause : ExactRefused) → IfOk r (λ reply. reply ≡ reply_as.Open) → OnOk r (cause ≡ refused.Memory → ⊥) → IsExactRefused problem 10000 cause → IfOk r (IsReply problem)
+open_reply (Ok reply) problem cause is decided h = subst (λ (x : Reply). IsReply problem x) (sym is) (cause, decided, h)
+open_reply (Err error) problem cause is decided h = tt

@@ -24,10 +24,10 @@ use Rattle.wi_outage.proofs.Surviving.{survived}
 use Rattle.wi_outage.proofs.Settling.{at_one_more, kept_up}
 use Rattle.wi_settle.specs.declared.found.Found.{Found}
 use Rattle.wi_settle.specs.declared.settled.Witness.{Witness}
-use Rattle.wi_settle.specs.declared.settled.Asked.{Asked}
-use Rattle.wi_settle.specs.declared.settled.Asked.TheVariants.{Yes, No, Open}
+use Rattle.wi_settle.specs.declared.settled.Reply.{Reply}
+use Rattle.wi_settle.specs.declared.settled.Reply.TheVariants.{Yes, No, Open}
 use Rattle.wi_settle.specs.Findings.{AskAlike, during, IsFound, IsWitness, IsNoneBesides, IsOutageOf, IsSettled, Settling}
-use Rattle.wi_settle.specs.private.Asking.{AreKept, IsAsked, begun, counted, found_of, free_groups, kept_by, none_noted, noted}
+use Rattle.wi_settle.specs.private.Asking.{AreKept, IsReply, begun, counted, found_of, free_groups, kept_by, none_noted, noted}
 use Rattle.wi_settle.proofs.SetLaws.{within_self, within_union, within_on, within_second, apart_within, union_within, outside_apart, outside_whole, others_whole}
 
 bounded : (problem : Problem) → IsProblem problem → IsBounded problem.net problem.bounds
@@ -35,7 +35,7 @@ bounded problem p = record { network = p.network; bounds_of = p.bounds_of }
 
 -- ---- what is found of a problem
 
-pub found_is : (problem : Problem) (asked : Asked) → IsAsked problem asked → IsFound problem (found_of asked)
+pub found_is : (problem : Problem) (reply : Reply) → IsReply problem reply → IsFound problem (found_of reply)
 found_is problem (Yes witness) h = h.0
 found_is problem No h = h
 found_is problem Open h = h
@@ -75,17 +75,17 @@ with_none : (problem : Problem) (settled : Settling) → IsSettled problem settl
 with_none problem settled s = record { own = s.own; witnesses = s.witnesses; none = s.none }
 
 -- what was asked within bounds that know more is taken in
-pub noted_settled : (problem : Problem) (bounds : Bounds) (settled : Settling) (asked : Asked) → is_within problem.bounds.down bounds.down ≡ true → is_within problem.bounds.up bounds.up ≡ true
-    → IsAsked (within problem bounds) asked → IsSettled problem settled → IsSettled problem (noted settled asked)
+pub noted_settled : (problem : Problem) (bounds : Bounds) (settled : Settling) (reply : Reply) → is_within problem.bounds.down bounds.down ≡ true → is_within problem.bounds.up bounds.up ≡ true
+    → IsReply (within problem bounds) reply → IsSettled problem settled → IsSettled problem (noted settled reply)
 noted_settled problem bounds settled (Yes witness) down up h s = with_witness problem settled witness (witness_within problem bounds witness down up h.1) s
 noted_settled problem bounds settled No down up h s = with_none problem settled s
 noted_settled problem bounds settled Open down up h s = with_none problem settled s
 
 -- and what was asked first
-pub begun_settled : (problem : Problem) (asked : Asked) → IsAsked problem asked → IsSettled problem (begun asked)
-begun_settled problem asked h =
-    noted_settled problem problem.bounds (record { searches = 0; own = found_of asked; witnesses = []; none = None }) asked (within_self problem.bounds.down) (within_self problem.bounds.up) h
-    (record { own = found_is problem asked h; witnesses = All-nil (IsWitness problem); none = tt })
+pub begun_settled : (problem : Problem) (reply : Reply) → IsReply problem reply → IsSettled problem (begun reply)
+begun_settled problem reply h =
+    noted_settled problem problem.bounds (record { searches = 0; own = found_of reply; witnesses = []; none = None }) reply (within_self problem.bounds.down) (within_self problem.bounds.up) h
+    (record { own = found_is problem reply h; witnesses = All-nil (IsWitness problem); none = tt })
 
 -- ---- an outage of which all is known to be down
 
@@ -182,7 +182,7 @@ none_kept problem bounds p zero kept none_there links group up apart there = non
 pub none_settled : (problem : Problem) (settled : Settling) (kept : List LinkId) → IsNoneBesides problem kept → IsSettled problem settled → IsSettled problem (record settled { none = Some kept })
 none_settled problem settled kept none s = record { own = s.own; witnesses = s.witnesses; none = none }
 
-pub none_noted_settled : (problem other : Problem) (settled : Settling) (kept : List LinkId) (asked : Asked) → ((HasTrace other → ⊥) → IsNoneBesides problem kept) → IsAsked other asked → IsSettled problem settled → IsSettled problem (none_noted settled asked kept)
+pub none_noted_settled : (problem other : Problem) (settled : Settling) (kept : List LinkId) (reply : Reply) → ((HasTrace other → ⊥) → IsNoneBesides problem kept) → IsReply other reply → IsSettled problem settled → IsSettled problem (none_noted settled reply kept)
 none_noted_settled problem other settled kept (Yes witness) law h s = s
 none_noted_settled problem other settled kept No law h s = none_settled problem settled kept (law h) s
 none_noted_settled problem other settled kept Open law h s = s
@@ -197,7 +197,7 @@ kept_first problem bounds is are = record {
   up = ap (λ (b : Bounds). is_within problem.bounds.up b.up) is ∙ within_self problem.bounds.up;
 }
 
-pub kept_next : (problem : Problem) (bounds : Bounds) (asked : Asked) → IsAsked (within problem bounds) asked → AreKept problem bounds → AreKept problem (kept_by bounds asked)
+pub kept_next : (problem : Problem) (bounds : Bounds) (reply : Reply) → IsReply (within problem bounds) reply → AreKept problem bounds → AreKept problem (kept_by bounds reply)
 kept_next problem bounds (Yes witness) h kept = record {
   bounds_of = record {
     down = kept.bounds_of.down;
@@ -220,17 +220,17 @@ none_besides problem single links None o one known h = absurd (true≢false (sym
 none_besides problem single links (Some kept) o one known h = known links (o.group one) o.up h
 
 -- what is asked for an outage by a search
-during_settled : (known problem : Problem) (links : List LinkId) (settled : Settling) (asked : Asked) → AskAlike known problem → IsAsked (during problem links) asked → IsSettled known settled → IsSettled known (noted settled asked)
+during_settled : (known problem : Problem) (links : List LinkId) (settled : Settling) (reply : Reply) → AskAlike known problem → IsReply (during problem links) reply → IsSettled known settled → IsSettled known (noted settled reply)
 during_settled known problem links settled (Yes witness) alike h s =
     with_witness known settled witness (alike_witness known problem witness alike (witness_within problem (with_down problem.bounds links) witness (within_union problem.bounds.down links) (within_self problem.bounds.up) h.1)) s
 during_settled known problem links settled No alike h s = with_none known settled s
 during_settled known problem links settled Open alike h s = with_none known settled s
 
 -- it is taken in where memory suffices, and else all is as before
-pub during_kept : (r : Result Found NoMemory) (problem : Problem) (links : List LinkId) (settled new : Settling) (asked : Asked) → IsAsked (during problem links) asked → OnOk r (new ≡ noted settled asked) → OnErr r (new ≡ settled)
+pub during_kept : (r : Result Found NoMemory) (problem : Problem) (links : List LinkId) (settled new : Settling) (reply : Reply) → IsReply (during problem links) reply → OnOk r (new ≡ noted settled reply) → OnErr r (new ≡ settled)
     → (known : Problem) → AskAlike known problem → IsSettled known settled → IsSettled known new
-during_kept (Ok found) problem links settled new asked h ok err known alike s = subst (λ (x : Settling). IsSettled known x) (sym ok) (during_settled known problem links settled asked alike h s)
-during_kept (Err error) problem links settled new asked h ok err known alike s = subst (λ (x : Settling). IsSettled known x) (sym err) s
+during_kept (Ok found) problem links settled new reply h ok err known alike s = subst (λ (x : Settling). IsSettled known x) (sym ok) (during_settled known problem links settled reply alike h s)
+during_kept (Err error) problem links settled new reply h ok err known alike s = subst (λ (x : Settling). IsSettled known x) (sym err) s
 
 pub known_is : (problem : Problem) (single : Bool) (links : List LinkId) (bounds : Bounds) (settled : Settling) (found : Found) (b : Bool) → b ≡ is_within links bounds.down → b ≡ true → found ≡ settled.own
     → IsProblem problem → problem.bounds ≡ bounds → IsSettled problem settled → IsOutageOf problem single links → IsFound (during problem links) found
@@ -255,20 +255,20 @@ free_settled problem settled new kept free k p free_is k_is few none_there none 
     (none_settled problem settled kept (subst (λ (x : List LinkId). IsNoneBesides problem x) (sym none) (none_free problem p (omega (arith, free_is, k_is, few)) none_there)) s)
 
 -- one more may fail
-pub more_settled : (problem : Problem) (settled one new : Settling) (kept : List LinkId) (more : ℕ) (asked : Asked) → IsProblem problem → more ≡ problem.bounds.k + 1 → IsAsked (allowing problem more) asked → kept ≡ []
-    → IsSettled problem settled → one ≡ none_noted settled asked kept → new ≡ noted one asked → IsSettled problem new
-more_settled problem settled one new kept more asked p more_is h none s one_is new_is =
+pub more_settled : (problem : Problem) (settled one new : Settling) (kept : List LinkId) (more : ℕ) (reply : Reply) → IsProblem problem → more ≡ problem.bounds.k + 1 → IsReply (allowing problem more) reply → kept ≡ []
+    → IsSettled problem settled → one ≡ none_noted settled reply kept → new ≡ noted one reply → IsSettled problem new
+more_settled problem settled one new kept more reply p more_is h none s one_is new_is =
     subst (λ (x : Settling). IsSettled problem x) (sym new_is)
-    (noted_settled problem (allowing problem more).bounds one asked (within_self problem.bounds.down) (within_self problem.bounds.up) h
+    (noted_settled problem (allowing problem more).bounds one reply (within_self problem.bounds.down) (within_self problem.bounds.up) h
     (subst (λ (x : Settling). IsSettled problem x) (sym one_is)
-    (none_noted_settled problem (allowing problem more) settled kept asked
+    (none_noted_settled problem (allowing problem more) settled kept reply
     (λ none_there. subst (λ (x : List LinkId). IsNoneBesides problem x) (sym none) (none_at_one_more problem p (subst (λ (k : ℕ). HasTrace (allowing problem k) → ⊥) more_is none_there))) h s)))
 
 -- one may fail, and others are kept up
-pub kept_settled : (problem : Problem) (bounds : Bounds) (settled one new : Settling) (asked : Asked) → IsProblem problem → problem.bounds.k ≡ 0 → AreKept problem bounds → IsAsked (within problem bounds) asked
-    → IsSettled problem settled → one ≡ none_noted settled asked bounds.up → new ≡ noted one asked → IsSettled problem new
-kept_settled problem bounds settled one new asked p zero kept h s one_is new_is =
+pub kept_settled : (problem : Problem) (bounds : Bounds) (settled one new : Settling) (reply : Reply) → IsProblem problem → problem.bounds.k ≡ 0 → AreKept problem bounds → IsReply (within problem bounds) reply
+    → IsSettled problem settled → one ≡ none_noted settled reply bounds.up → new ≡ noted one reply → IsSettled problem new
+kept_settled problem bounds settled one new reply p zero kept h s one_is new_is =
     subst (λ (x : Settling). IsSettled problem x) (sym new_is)
-    (noted_settled problem bounds one asked (ap (λ (down : List LinkId). is_within problem.bounds.down down) kept.down ∙ within_self problem.bounds.down) kept.up h
+    (noted_settled problem bounds one reply (ap (λ (down : List LinkId). is_within problem.bounds.down down) kept.down ∙ within_self problem.bounds.down) kept.up h
     (subst (λ (x : Settling). IsSettled problem x) (sym one_is)
-    (none_noted_settled problem (within problem bounds) settled bounds.up asked (none_kept problem bounds p zero kept) h s)))
+    (none_noted_settled problem (within problem bounds) settled bounds.up reply (none_kept problem bounds p zero kept) h s)))

@@ -1,73 +1,68 @@
-//! Of an answer no more is kept than the links that failed and those that the run uses: its tree is let go at once.
+//! Of an answer no more is kept than the links that failed and those that the run uses.
 ghost use Rattle.std.specs.Prelude.{◌≡◌, ◌≢◌, Some, IfOk, OnOk};
-ghost use Rattle.wi_settle.specs.private.Asking.{IsAsked, asked_by};
+ghost use Rattle.wi_settle.specs.private.Asking.{IsReply, reply_by};
 
-use crate::settled::{Asked, Witness};
+use crate::settled::{Reply, Witness};
 use crate::used::used_by;
 use std::alloc::Global;
 use wi_base::NoMemory;
-use wi_branch::{ExactRefused, exact};
+use wi_branch::{ExactRefused, exact_answer};
 use wi_build::Problem;
+use wi_cert::NODE_LIMIT;
 use wi_net::{FailSet, Network};
 use wi_trace::Answer;
 use wi_world::{Run, Verdict};
 
-// How many nodes a tree may have.
-const NODE_LIMIT: u32 = 10_000;
-
 /// Asks for the exact answer to a problem.
-pub(crate) fn ask(alloc: Global, problem: &Problem<'_>) -> Result<Asked, NoMemory>
-    ensures { IfOk result (IsAsked problem.now) }
+pub(crate) fn ask(alloc: Global, problem: &Problem<'_>) -> Result<Reply, NoMemory>
+    ensures { IfOk result (IsReply problem.now) }
 {
-    match exact(alloc, problem, problem.bounds().k, NODE_LIMIT) {
-        Ok((answer, tree)) => {
-            drop(tree);
-            told(alloc, problem.net(), answer)
-        }
+    match exact_answer(alloc, problem, problem.bounds().k, NODE_LIMIT) {
+        Ok((answer, _nodes)) => reply_of(alloc, problem.net(), answer),
         Err(cause) => open_for(cause),
     }
 }
 
 // What an exact answer tells.
-fn told(alloc: Global, net: &Network, answer: Answer) -> Result<Asked, NoMemory>
-    ensures { IfOk result (λ asked. asked ≡ asked_by net.now answer.run answer.verdict) }
+fn reply_of(alloc: Global, net: &Network, answer: Answer) -> Result<Reply, NoMemory>
+    ensures { IfOk result (λ reply. reply ≡ reply_by net.now answer.run answer.verdict) }
 {
     let Answer { run, verdict, .. } = answer;
     match run {
-        Some(run) => told_by(alloc, net, run, verdict),
+        Some(run) => reply_by(alloc, net, run, verdict),
         None => {
             drop(verdict);
-            Ok(Asked::No)
+            Ok(Reply::No)
         }
     }
 }
 
 // What an exact answer with a run tells.
-fn told_by(
+fn reply_by(
     alloc: Global,
     net: &Network,
     run: Run,
     verdict: Option<Verdict>,
-) -> Result<Asked, NoMemory>
-    ensures { IfOk result (λ asked. asked ≡ asked_by net.now (Some run) verdict) }
+) -> Result<Reply, NoMemory>
+    ensures { IfOk result (λ reply. reply ≡ reply_by net.now (Some run) verdict) }
 {
     match verdict {
         Some(Verdict::Fits(fails)) => seen(alloc, net, run, fails),
         Some(Verdict::Exceeds(_) | Verdict::UsesFailed(_)) | None => {
             drop(run);
-            Ok(Asked::No)
+            Ok(Reply::No)
         }
     }
 }
 
 // A run that was found, while these links have failed.
-fn seen(alloc: Global, net: &Network, run: Run, fails: FailSet) -> Result<Asked, NoMemory>
-    ensures { IfOk result (λ asked. asked ≡ asked_by net.now (Some run) (Some (Verdict.Fits fails))) }
+fn seen(alloc: Global, net: &Network, run: Run, fails: FailSet) -> Result<Reply, NoMemory>
+    ensures { IfOk result (λ reply. reply ≡ reply_by net.now (Some run) (Some (Verdict.Fits fails))) }
 {
     let used = used_by(alloc, net, &run);
     drop(run);
     match used {
-        Ok(used) => Ok(Asked::Yes(Witness { fails, used })),
+        Ok(used) => Ok(Reply::Yes(Witness { fails, used })),
         Err(error) => {
             drop(fails);
             Err(error)
@@ -76,15 +71,12 @@ fn seen(alloc: Global, net: &Network, run: Run, fails: FailSet) -> Result<Asked,
 }
 
 // No exact answer, for this reason. Want of memory is none.
-fn open_for(cause: ExactRefused) -> Result<Asked, NoMemory>
-    ensures open { IfOk result (λ asked. asked ≡ Asked.Open) }
+fn open_for(cause: ExactRefused) -> Result<Reply, NoMemory>
+    ensures open { IfOk result (λ reply. reply ≡ Reply.Open) }
     ensures decided { OnOk result (cause ≢ ExactRefused.Memory) }
 {
     match cause {
         ExactRefused::Memory => Err(NoMemory::Memory),
-        other => {
-            drop(other);
-            Ok(Asked::Open)
-        }
+        _ => Ok(Reply::Open),
     }
 }

@@ -4,11 +4,11 @@ ghost use Rattle.wi_outage.specs.Survival.{with_down};
 ghost use Rattle.wi_world.specs.Moves.{AreBounds};
 ghost use Rattle.wi_build.specs.Problems.{Problem};
 ghost use Rattle.wi_settle.specs.Findings.{AskAlike, IsFound, IsSettled, during};
-ghost use Rattle.wi_settle.specs.private.Asking.{IsAsked};
+ghost use Rattle.wi_settle.specs.private.Asking.{IsReply};
 
 use crate::asking::ask;
 use crate::found::Found;
-use crate::settled::{Asked, Settled};
+use crate::settled::{Reply, Settled};
 use std::alloc::Global;
 use wi_base::NoMemory;
 use wi_build::Problem;
@@ -27,19 +27,19 @@ pub fn ask_during(
     ensures found { IfOk result (IsFound (during problem.now outage.now)) }
     ensures settled { (known : Problem) → AskAlike known problem.now → IsSettled known settled.old → IsSettled known settled.new }
 {
-    let asked = asked_during(alloc, problem, outage)?;
-    settled.note(asked)
+    let reply = reply_during(alloc, problem, outage)?;
+    settled.note(reply)
 }
 
 // Asks while these links are down, too.
-fn asked_during(alloc: Global, problem: &Problem<'_>, outage: &FailSet) -> Result<Asked, NoMemory>
+fn reply_during(alloc: Global, problem: &Problem<'_>, outage: &FailSet) -> Result<Reply, NoMemory>
     requires { AreBounds problem.now.net (with_down problem.now.bounds outage.now) }
-    ensures { IfOk result (IsAsked (during problem.now outage.now)) }
+    ensures { IfOk result (IsReply (during problem.now outage.now)) }
 {
     let bounds = bounds_during(problem.bounds(), outage)?;
-    let asked = ask(alloc, &problem.within(&bounds));
+    let reply = ask(alloc, &problem.within(&bounds));
     drop(bounds);
-    asked
+    reply
 }
 
 // The bounds, with these links known to be down, too.

@@ -23,7 +23,7 @@ pub struct Witness {
 
 /// What an exact answer gives.
 #[derive(Drop)]
-pub(crate) enum Asked {
+pub(crate) enum Reply {
     Yes(Witness),
     No,
     Open,
@@ -51,16 +51,16 @@ impl Model for Settled {
 
 impl Settled {
     /// What is known of a question that was asked while nothing is out.
-    pub(crate) fn of(alloc: Global, asked: Asked) -> Result<Settled, NoMemory>
-        ensures { IfOk result (λ settled. settled ≡ begun asked) }
+    pub(crate) fn of(alloc: Global, reply: Reply) -> Result<Settled, NoMemory>
+        ensures { IfOk result (λ settled. settled ≡ begun reply) }
     {
         let mut settled = Settled {
             searches: 0,
-            own: found_of(&asked),
+            own: found_of(&reply),
             witnesses: Vec::new(alloc),
             none: None,
         };
-        match settled.note(asked) {
+        match settled.note(reply) {
             Ok(_) => Ok(settled),
             Err(error) => {
                 drop(settled);
@@ -70,15 +70,15 @@ impl Settled {
     }
 
     /// Takes in what else was asked, and answers what was found.
-    pub(crate) fn note(&mut self, asked: Asked) -> Result<Found, NoMemory>
-        ensures found { IfOk result (λ found. found ≡ found_of asked) }
-        ensures ok { OnOk result (self.new ≡ noted self.old asked) }
+    pub(crate) fn note(&mut self, reply: Reply) -> Result<Found, NoMemory>
+        ensures found { IfOk result (λ found. found ≡ found_of reply) }
+        ensures ok { OnOk result (self.new ≡ noted self.old reply) }
         ensures err { OnErr result (self.new ≡ self.old) }
     {
-        let found = found_of(&asked);
-        match asked {
-            Asked::Yes(witness) => self.witnesses.push(witness)?,
-            Asked::No | Asked::Open => {}
+        let found = found_of(&reply);
+        match reply {
+            Reply::Yes(witness) => self.witnesses.push(witness)?,
+            Reply::No | Reply::Open => {}
         }
         self.searches = counted(self.searches);
         Ok(found)
@@ -92,12 +92,12 @@ impl Settled {
     }
 
     /// Takes in that there is none, where that was asked of each risk group without these links.
-    pub(crate) fn keep_where_none(&mut self, asked: &Asked, kept: &FailSet) -> Result<(), NoMemory>
-        ensures { OnOk result (self.new ≡ none_noted self.old asked.now kept.now) }
+    pub(crate) fn keep_where_none(&mut self, reply: &Reply, kept: &FailSet) -> Result<(), NoMemory>
+        ensures { OnOk result (self.new ≡ none_noted self.old reply.now kept.now) }
     {
-        match asked {
-            Asked::No => self.keep(kept.twin()?),
-            Asked::Yes(_) | Asked::Open => {}
+        match reply {
+            Reply::No => self.keep(kept.twin()?),
+            Reply::Yes(_) | Reply::Open => {}
         }
         Ok(())
     }
@@ -146,12 +146,12 @@ fn counted(searches: u64) -> u64
 }
 
 // What was found.
-fn found_of(asked: &Asked) -> Found
-    ensures { result ≡ found_of asked.now }
+fn found_of(reply: &Reply) -> Found
+    ensures { result ≡ found_of reply.now }
 {
-    match asked {
-        Asked::Yes(_) => Found::Yes,
-        Asked::No => Found::No,
-        Asked::Open => Found::Open,
+    match reply {
+        Reply::Yes(_) => Found::Yes,
+        Reply::No => Found::No,
+        Reply::Open => Found::Open,
     }
 }

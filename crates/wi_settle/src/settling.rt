@@ -5,13 +5,13 @@ ghost use Rattle.std.specs.Prelude.{◌≡◌, ◌<◌, ◌+◌, IfOk, OnOk};
 ghost use Rattle.wi_branch.specs.Tolerance.{HasTrace};
 ghost use Rattle.wi_build.specs.Problems.{allowing};
 ghost use Rattle.wi_settle.specs.Findings.{IsSettled};
-ghost use Rattle.wi_settle.specs.private.Asking.{AreKept, IsAsked, kept_by};
+ghost use Rattle.wi_settle.specs.private.Asking.{AreKept, IsReply, kept_by};
 
 use crate::asking::ask;
 use crate::found::Found;
 use crate::free::free_groups;
 use crate::sets::insert_outside;
-use crate::settled::{Asked, Settled};
+use crate::settled::{Reply, Settled};
 use std::alloc::Global;
 use wi_base::NoMemory;
 use wi_build::Problem;
@@ -37,8 +37,8 @@ pub fn settle(alloc: Global, problem: &Problem<'_>, single: bool) -> Result<Sett
 fn begun(alloc: Global, problem: &Problem<'_>) -> Result<Settled, NoMemory>
     ensures { IfOk result (IsSettled problem.now) }
 {
-    let asked = ask(alloc, problem)?;
-    Settled::of(alloc, asked)
+    let reply = ask(alloc, problem)?;
+    Settled::of(alloc, reply)
 }
 
 // After a no, outages of single risk groups are settled, too.
@@ -95,20 +95,20 @@ fn settle_at_one_more(
     ensures { OnOk result (IsSettled problem.now settled.new) }
 {
     problem.keeps();
-    let asked = ask_allowing(alloc, problem, more)?;
-    settled.keep_where_none(&asked, &FailSet::new(alloc))?;
-    settled.note(asked)?;
+    let reply = ask_allowing(alloc, problem, more)?;
+    settled.keep_where_none(&reply, &FailSet::new(alloc))?;
+    settled.note(reply)?;
     Ok(())
 }
 
 // Asks where so many risk groups may fail.
-fn ask_allowing(alloc: Global, problem: &Problem<'_>, k: u32) -> Result<Asked, NoMemory>
-    ensures { IfOk result (IsAsked (allowing problem.now k)) }
+fn ask_allowing(alloc: Global, problem: &Problem<'_>, k: u32) -> Result<Reply, NoMemory>
+    ensures { IfOk result (IsReply (allowing problem.now k)) }
 {
     let bounds = problem.bounds_allowing(k)?;
-    let asked = ask(alloc, &problem.within(&bounds));
+    let reply = ask(alloc, &problem.within(&bounds));
     drop(bounds);
-    asked
+    reply
 }
 
 // The same, where no risk group may fail: each that is found to break something is kept up, at most so many.
@@ -164,22 +164,22 @@ fn keep_up_one(
     ensures kept { OnOk result (AreKept problem.now bounds.new) }
 {
     problem.keeps();
-    let asked = ask(alloc, &problem.within(bounds))?;
-    settled.keep_where_none(&asked, &bounds.up)?;
-    let goes_on = keep_failed(&asked, bounds)?;
-    settled.note(asked)?;
+    let reply = ask(alloc, &problem.within(bounds))?;
+    settled.keep_where_none(&reply, &bounds.up)?;
+    let goes_on = keep_failed(&reply, bounds)?;
+    settled.note(reply)?;
     Ok(goes_on)
 }
 
 // Keeps up what has failed besides what is known to be down, where a run was found.
-fn keep_failed(asked: &Asked, bounds: &mut Bounds) -> Result<bool, NoMemory>
-    ensures { OnOk result (bounds.new ≡ kept_by bounds.old asked.now) }
+fn keep_failed(reply: &Reply, bounds: &mut Bounds) -> Result<bool, NoMemory>
+    ensures { OnOk result (bounds.new ≡ kept_by bounds.old reply.now) }
 {
-    match asked {
-        Asked::Yes(witness) => {
+    match reply {
+        Reply::Yes(witness) => {
             insert_outside(&mut bounds.up, &witness.fails, &bounds.down)?;
             Ok(true)
         }
-        Asked::No | Asked::Open => Ok(false),
+        Reply::No | Reply::Open => Ok(false),
     }
 }

@@ -1,24 +1,20 @@
 -- How far branches were opened.
-use Rattle.std.specs.Prelude.{◌≡◌, ℕ, ◌^◌, ◌<◌, ◌≤◌, true, false, List, [], ◌∷◌, ◌++◌, length, Option, Some, None, IfSome, option_map}
+use Rattle.std.specs.Prelude.{◌≡◌, ℕ, ◌^◌, ◌+◌, ◌<◌, ◌≤◌, Bool, true, false, List, [], ◌∷◌, ◌++◌, length, Option, Some, None, IfSome, option_map}
 use Rattle.wi_net.specs.declared.bounds.Bounds.{Bounds}
 use Rattle.wi_net.specs.Net.{Net}
 use Rattle.wi_world.specs.declared.answer.Word.TheVariants.{Yes, No}
 use Rattle.wi_world.specs.Runs.{verdict_of}
 use Rattle.wi_quantity.specs.Weighing.{components}
 use Rattle.wi_trace.specs.declared.answer.Answer.{Answer}
-use Rattle.wi_cert.specs.declared.closed.Closed.{Closed as Leaf}
 use Rattle.wi_trees.specs.Branches.{IsBranch, CanSplit, with_down, with_up, split_of}
 use Rattle.wi_build.specs.Problems.{Problem, IsAnswering, within}
 use Rattle.wi_weight.specs.Weights.{EachBelow}
 use Rattle.wi_decide.specs.Showing.{IsSmallRun}
 use Rattle.wi_decide.specs.declared.searching.LeastRun.{LeastRun}
-use Rattle.wi_decide.specs.declared.refused.SearchRefused.{SearchRefused}
-use Rattle.wi_decide.specs.declared.refused.SearchRefused.TheVariants as search
-use Rattle.wi_decide.specs.Searches.{IsSearchRefused}
+use Rattle.wi_decide.specs.declared.searching.Evidence.{Evidence}
+use Rattle.wi_decide.specs.Searches.{IsEvidence, IsWrittenDown}
 use Rattle.wi_branch.specs.declared.opened.Opened.{Opened}
 use Rattle.wi_branch.specs.declared.opened.Opened.TheVariants as opened
-use Rattle.wi_branch.specs.declared.refused.ExactRefused.{ExactRefused}
-use Rattle.wi_branch.specs.declared.refused.ExactRefused.TheVariants.{Overflow, TooLong, NodeLimit, Memory}
 use Rattle.wi_branch.specs.declared.finding.Told.{Told}
 use Rattle.wi_branch.specs.declared.finding.Told.TheVariants.{Nothing, Fitting, Splitting}
 use Rattle.wi_branch.specs.Walks.{is_fitting, IsNode, IsWalk}
@@ -47,11 +43,11 @@ IsJudged net branch found (Fitting shown leaf) = (shown ≡ found) × (is_fittin
 IsJudged net branch found (Splitting e) =
     (is_fitting (verdict_of net branch found.run) ≡ false) × (split_of net branch found.run ≡ Some e) × CanSplit net branch e
 
--- where a run fits, its leaf is this
-abbrev pub KeepsLeaf : Leaf → Told → Type 0
-KeepsLeaf closed (Nothing leaf) = ⊥
-KeepsLeaf closed (Fitting found leaf) = leaf ≡ closed
-KeepsLeaf closed (Splitting e) = Unit {0}
+-- where a run fits, its leaf is what the evidence is written down as
+abbrev pub KeepsLeaf : Problem → Evidence → Told → Type 0
+KeepsLeaf problem evidence (Nothing leaf) = ⊥
+KeepsLeaf problem evidence (Fitting found leaf) = (bound : Option (List ℕ)) → IsEvidence problem bound evidence → IsWrittenDown problem bound leaf
+KeepsLeaf problem evidence (Splitting e) = Unit {0}
 
 -- a branch that is split may have one more risk group fail
 abbrev pub MaySplit : Bounds → Told → Type 0
@@ -59,21 +55,30 @@ MaySplit branch (Nothing leaf) = Unit {0}
 MaySplit branch (Fitting found leaf) = Unit {0}
 MaySplit branch (Splitting e) = 0 < branch.k
 
--- the best run so far, the nodes, and the branches left, the next one first
+-- the best run so far, how many nodes were opened, these, where they are kept, and the branches left, the next one first
 pub record Opening : Type 0 where
   pub best : Option LeastRun
-  pub opened : List Opened
+  pub count : ℕ
+  pub nodes : Option (List Opened)
   pub left : List Bounds
+
+-- the nodes, where they are kept
+abbrev pub kept : Bool → List Opened → Option (List Opened)
+kept true nodes = Some nodes
+kept false nodes = None
 
 abbrev pub cut_of : Option LeastRun → Option (List ℕ)
 cut_of best = option_map (λ found. components found.weight) best
 
+-- with one node more
+abbrev pub with_node : Opening → Opened → Opening
+with_node now node = record now { count = now.count + 1; nodes = option_map (λ nodes. nodes ++ node ∷ []) now.nodes }
+
 -- once a branch was opened
 abbrev pub after_told : Net → Opening → Bounds → Told → Opening
-after_told net now branch (Nothing leaf) = record now { opened = now.opened ++ opened.Closed leaf ∷ [] }
-after_told net now branch (Fitting found leaf) = record now { best = Some found; opened = now.opened ++ opened.Fits found.weight leaf ∷ [] }
-after_told net now branch (Splitting e) =
-    record now { opened = now.opened ++ opened.Split e ∷ []; left = with_down net branch e ∷ with_up net branch e ∷ now.left }
+after_told net now branch (Nothing leaf) = with_node now (opened.Closed leaf)
+after_told net now branch (Fitting found leaf) = record (with_node now (opened.Fits found.weight leaf)) { best = Some found }
+after_told net now branch (Splitting e) = record (with_node now (opened.Split e)) { left = with_down net branch e ∷ with_up net branch e ∷ now.left }
 
 -- each is a branch of the whole
 abbrev pub AreBranches : Net → Bounds → List Bounds → Type 0
@@ -81,15 +86,18 @@ AreBranches net whole [] = Unit {0}
 AreBranches net whole (branch ∷ left) = IsBranch net whole branch × AreBranches net whole left
 
 -- what holds as long as branches are opened
-pub record IsOpening (problem : Problem) (limit : ℕ) (now : Opening) : Type 0 where
-  pub walk : IsWalk problem None now.opened (problem.bounds ∷ []) (cut_of now.best) now.left
+pub record IsOpening (problem : Problem) (limit : ℕ) (keeps : Bool) (now : Opening) : Type 0 where
+  pub opened : List Opened
+  pub count : now.count ≡ length opened
+  pub nodes : now.nodes ≡ kept keeps opened
+  pub walk : IsWalk problem None opened (problem.bounds ∷ []) (cut_of now.best) now.left
   pub branches : AreBranches problem.net problem.bounds now.left
   pub best : IfSome now.best (λ found. (branch : Bounds) × IsBranch problem.net problem.bounds branch × IsBest (within problem branch) found)
-  pub few : length now.opened ≤ limit
+  pub few : length opened ≤ limit
 
 -- and once none is left
-abbrev pub IsDone : Problem → ℕ → Opening → Type 0
-IsDone problem limit now = IsOpening problem limit now × (now.left ≡ [])
+abbrev pub IsDone : Problem → ℕ → Bool → Opening → Type 0
+IsDone problem limit keeps now = IsOpening problem limit keeps now × (now.left ≡ [])
 
 -- once a branch was opened: what it told
 pub record IsOpenedAt (problem : Problem) (branch : Bounds) (now after : Opening) : Type 0 where
@@ -97,19 +105,6 @@ pub record IsOpenedAt (problem : Problem) (branch : Bounds) (now after : Opening
   pub after_is : after ≡ after_told problem.net now branch told
   pub node : IsNode (within problem branch) (cut_of now.best) (node_of told)
   pub well : IsToldWell (within problem branch) told
-
--- why a branch can't be opened, after these nodes
-abbrev pub IsStoppedAt : Problem → Option (List ℕ) → List Opened → ExactRefused → Type 0
-IsStoppedAt problem cut nodes (Overflow opened head target w) = (opened ≡ nodes) × IsSearchRefused problem cut (search.Overflow head target w)
-IsStoppedAt problem cut nodes (TooLong opened n) = (opened ≡ nodes) × IsSearchRefused problem cut (search.TooLong n)
-IsStoppedAt problem cut nodes (NodeLimit opened) = ⊥
-IsStoppedAt problem cut nodes Memory = Unit {0}
-
--- the refusal of a search, with the nodes before it
-abbrev pub stopped_by : List Opened → SearchRefused → ExactRefused
-stopped_by opened (search.Overflow head target w) = Overflow opened head target w
-stopped_by opened (search.TooLong n) = TooLong opened n
-stopped_by opened search.Memory = Memory
 
 -- the answer with a best run, or without one
 abbrev pub answer_with : Net → Bounds → Option LeastRun → Answer
@@ -121,6 +116,6 @@ answer_with net whole (Some found) = record {
   verdict = Some (verdict_of net whole found.run);
 }
 
--- a best run that can be shown, if there is one
-abbrev pub CanBeShown : Option LeastRun → Type 0
-CanBeShown best = IfSome best (λ found. EachBelow (2 ^ 64) (components found.weight) × IsSmallRun found.run)
+-- an answer that can be shown: its weight and its run are of small numbers
+abbrev pub CanBeShown : Answer → Type 0
+CanBeShown answer = IfSome answer.weight (λ w. EachBelow (2 ^ 64) (components w)) × IfSome answer.run IsSmallRun

@@ -27,13 +27,13 @@ pub record HasTable (problem : Problem) (cut : Option (Pair Terms Effort)) (tabl
 
 -- why there is no table: a summary doesn't fit
 abbrev pub IsNoTable : Problem → List (ℕ × ℕ) → Option (Pair Terms Effort) → SearchRefused → Type 0
-IsNoTable problem heads cut (Overflow head target w) =
-    IsOverflow scale components (rules_by (encoding_of problem)) heads (0, 0, 1) (option_map components cut) head.0 head.1 target (components w)
+IsNoTable problem heads cut (Overflow o) =
+    IsOverflow scale components (rules_by (encoding_of problem)) heads (0, 0, 1) (option_map components cut) o.head.0 o.head.1 o.target (components o.weight)
 IsNoTable problem heads cut (TooLong n) = ⊥
 IsNoTable problem heads cut Memory = Unit {0}
 
 -- why no run is shown: the effort is over the limit
 abbrev pub IsNotShown : ℕ → SearchRefused → Type 0
-IsNotShown effort (Overflow head target w) = ⊥
+IsNotShown effort (Overflow o) = ⊥
 IsNotShown effort (TooLong n) = (n ≡ effort) × (4096 < effort)
 IsNotShown effort Memory = Unit {0}

@@ -14,23 +14,23 @@ use Rattle.wi_build.specs.Problems.{Problem}
 use Rattle.wi_branch.specs.Tolerance.{HasTrace}
 use Rattle.wi_settle.specs.declared.found.Found.{Found}
 use Rattle.wi_settle.specs.declared.found.Found.TheVariants as found
-use Rattle.wi_settle.specs.declared.settled.Asked.{Asked}
-use Rattle.wi_settle.specs.declared.settled.Asked.TheVariants.{Yes, No, Open}
+use Rattle.wi_settle.specs.declared.settled.Reply.{Reply}
+use Rattle.wi_settle.specs.declared.settled.Reply.TheVariants.{Yes, No, Open}
 use Rattle.wi_settle.specs.Findings.{IsFound, IsWitness, Settling}
 
 -- what an exact answer gives: a trace under links that may fail; that there is none; or that there is no exact answer
-abbrev pub IsAsked : Problem → Asked → Type 0
-IsAsked problem (Yes witness) = HasTrace problem × IsWitness problem witness
-IsAsked problem No = HasTrace problem → ⊥
-IsAsked problem Open = IsFound problem found.Open
+abbrev pub IsReply : Problem → Reply → Type 0
+IsReply problem (Yes witness) = HasTrace problem × IsWitness problem witness
+IsReply problem No = HasTrace problem → ⊥
+IsReply problem Open = IsFound problem found.Open
 
 -- an exact answer is a yes where it shows a run and the links that have to fail, and else a no
-abbrev pub asked_by : Net → Option Run → Option Verdict → Asked
-asked_by net (Some run) (Some (verdicts.Fits fails)) = Yes (record { fails = fails; used = used_by net run })
-asked_by net run verdict = No
+abbrev pub reply_by : Net → Option Run → Option Verdict → Reply
+reply_by net (Some run) (Some (verdicts.Fits fails)) = Yes (record { fails = fails; used = used_by net run })
+reply_by net run verdict = No
 
 -- what was found then
-abbrev pub found_of : Asked → Found
+abbrev pub found_of : Reply → Found
 found_of (Yes witness) = found.Yes
 found_of No = found.No
 found_of Open = found.Open
@@ -40,20 +40,20 @@ abbrev pub counted : ℕ → ℕ
 counted n = if nat_lt n (2 ^ 64 - 1) then n + 1 else n
 
 -- what is known once it was asked besides: a trace, where one was found
-abbrev pub noted : Settling → Asked → Settling
+abbrev pub noted : Settling → Reply → Settling
 noted settled (Yes witness) = record settled { searches = counted settled.searches; witnesses = settled.witnesses ++ witness ∷ [] }
 noted settled No = record settled { searches = counted settled.searches }
 noted settled Open = record settled { searches = counted settled.searches }
 
 -- what is known once no trace was found while any risk group without these links may have failed
-abbrev pub none_noted : Settling → Asked → List LinkId → Settling
+abbrev pub none_noted : Settling → Reply → List LinkId → Settling
 none_noted settled No kept = record settled { none = Some kept }
 none_noted settled (Yes witness) kept = settled
 none_noted settled Open kept = settled
 
 -- what is known of a problem that was asked while nothing is out
-abbrev pub begun : Asked → Settling
-begun asked = noted (record { searches = 0; own = found_of asked; witnesses = []; none = None }) asked
+abbrev pub begun : Reply → Settling
+begun reply = noted (record { searches = 0; own = found_of reply; witnesses = []; none = None }) reply
 
 -- how many risk groups are neither known to be down nor known to be up
 abbrev pub free_groups : Net → Bounds → ℕ
@@ -67,7 +67,7 @@ pub record AreKept (problem : Problem) (bounds : Bounds) : Type 0 where
   pub up : is_within problem.bounds.up bounds.up ≡ true
 
 -- the bounds, with what has failed while a run was found kept up
-abbrev pub kept_by : Bounds → Asked → Bounds
+abbrev pub kept_by : Bounds → Reply → Bounds
 kept_by bounds (Yes witness) = record bounds { up = union bounds.up (outside witness.fails bounds.down) }
 kept_by bounds No = bounds
 kept_by bounds Open = bounds

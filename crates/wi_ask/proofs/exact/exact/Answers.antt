@@ -1,23 +1,8 @@
-use Rattle.std.proofs.Common.{inl, refl}
-use Rattle.wi_files.proofs.Causes.{err_as}
-use Rattle.wi_ask.proofs.Exactly.{exact_known, shown_refused, shown_reported}
+use Rattle.wi_ask.proofs.Exactly.{reported_at, unanswered}
 use Rattle.wi_ask.proofs.exact.exact.Goals as goal
 
-pub stored-printed-requires-clause-run : goal.stored-printed-requires-clause-run
-stored-printed-requires-clause-run g c = exact_known c.args.problem.now c.in_ok-answer.answer c.in_ok-answer.ensures.shown.exact.holds
+pub returns-in-None-clause-reported : goal.returns-in-None-clause-reported
+returns-in-None-clause-reported g c = rw c.in-None.is (reported_at c.reported.result c.args.problem.now (g.S.Shelf.seen c.args.shelf.now) c.reported.ensures.reported)
 
-pub stored-printed-requires-clause-tree : goal.stored-printed-requires-clause-tree
-stored-printed-requires-clause-tree g c = c.in_ok-answer.ensures.shown.exact.made.writable
-
-pub returns-in_err-answer-clause-refused : goal.returns-in_err-answer-clause-refused
-returns-in_err-answer-clause-refused g c = err_as _ _ _ c.from_residual.ensures.1 (inl (c.in_err-answer.ensures.refused, refl))
-
-pub returns-clause-reported : goal.returns-clause-reported
-returns-clause-reported g c =
-    shown_reported c.stored-printed.result c.args.problem.now _ (g.S.Shelf.seen c.stored-printed.new.shelf) c.in_ok-answer.answer c.in_ok-answer.tree
-    c.in_ok-answer.ensures.shown c.stored-printed.ensures.status c.stored-printed.ensures.text c.stored-printed.ensures.kept
-
-pub returns-clause-refused : goal.returns-clause-refused
-returns-clause-refused g c =
-    shown_refused c.stored-printed.result (g.S.Shelf.seen c.args.shelf.now) (g.S.Shelf.seen c.stored-printed.new.shelf) c.args.problem.now _ c.in_ok-answer.answer c.in_ok-answer.tree
-    c.in_ok-answer.ensures.shown c.stored-printed.ensures.refused
+pub returns-in-None-clause-refused : goal.returns-in-None-clause-refused
+returns-in-None-clause-refused g c = unanswered c.reported.result (g.S.Shelf.seen c.args.shelf.now) c.args.problem.now _ c.reported.ensures.refused

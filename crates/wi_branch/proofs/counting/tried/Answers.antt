@@ -4,7 +4,7 @@ use Rattle.wi_branch.proofs.counting.tried.Goals as goal
 
 pub returns-in-Ok-clause-tried : goal.returns-in-Ok-clause-tried
 returns-in-Ok-clause-tried c =
-    rw c.told.ensures
+    rw c.trial_by.ensures
     (tried_tells (allowing c.args.problem.now) c.args.limit c.args.k c.in-Ok.answer c.in-Ok.tree c.args.below c.requires.fewer c.requires.below c.in-Ok.ensures.exact c.in-Ok.ensures.accepted)
 
 pub returns-in-Err-clause-refused : goal.returns-in-Err-clause-refused

@@ -1,29 +1,24 @@
 use Rattle.std.proofs.lemmas.Result.{err_from_is_err_and}
 use Rattle.wi_decide.specs.private.Tables.{HasTable}
 use Rattle.wi_decide.proofs.AnswerLemmas.{all_fit, no_table}
-use Rattle.wi_decide.proofs.MakerLemmas.{few_terms, found_small, written_by}
-use Rattle.wi_decide.proofs.RowLemmas.{rows_fit}
+use Rattle.wi_decide.proofs.MakerLemmas.{bound_is, found_small}
 use Rattle.wi_decide.proofs.searching.search_by.Goals as goal
 
 pub found_of-requires : goal.found_of-requires
 found_of-requires c = (c.args.cut, record { heads = c.in_ok-heads.heads.heads; pairs = c.in_ok-heads.heads.pairs; closed = c.in_ok-heads.ensures; least = c.in_ok-table.ensures.table })
-
-pub closed_of-requires-clause-few : goal.closed_of-requires-clause-few
-closed_of-requires-clause-few c = rw c.terms.ensures (few_terms c.args.system.now.vector c.keeps.ensures.vector)
-
-pub closed_of-requires-clause-fits : goal.closed_of-requires-clause-fits
-closed_of-requires-clause-fits c = rows_fit c.args.system.now c.in_ok-heads.heads.heads c.args.cut c.in_ok-table.table c.in_ok-table.ensures.table
 
 pub returns-clause-found : goal.returns-clause-found
 returns-clause-found c =
     let has : HasTable c.args.system.now c.args.cut c.in_ok-table.table = record { heads = c.in_ok-heads.heads.heads; pairs = c.in_ok-heads.heads.pairs; closed = c.in_ok-heads.ensures; least = c.in_ok-table.ensures.table } in
     c.in_ok-found.ensures.found c.args.cut has
 
-pub returns-clause-closed : goal.returns-clause-closed
-returns-clause-closed c =
-    written_by c.args.system.now c.in_ok-heads.heads.heads c.in_ok-heads.heads.pairs c.args.cut c.in_ok-table.table c.in_ok-found.found c.in_ok-closed.closed c.terms.result
-    c.keeps.ensures.problem c.keeps.ensures.vector c.terms.ensures c.in_ok-heads.ensures c.in_ok-table.ensures.table c.in_ok-found.ensures.weight
-    c.in_ok-closed.ensures.heads c.in_ok-closed.ensures.pairs c.in_ok-closed.ensures.heads_rise c.in_ok-closed.ensures.pairs_rise c.in_ok-closed.ensures.rows c.in_ok-closed.ensures.sorted
+pub returns-clause-evidence : goal.returns-clause-evidence
+returns-clause-evidence c = record {
+  closed = c.in_ok-heads.ensures;
+  cut = c.args.cut;
+  table = c.in_ok-table.ensures.table;
+  bound_is = bound_is c.args.cut c.in_ok-found.found c.in_ok-table.table.best c.in_ok-found.ensures.weight;
+}
 
 pub returns-clause-fits : goal.returns-clause-fits
 returns-clause-fits c =

@@ -168,7 +168,7 @@ fn wrong_with(
 {
     match read_strictly(alloc, net, text) {
         Ok(query) => torn_by(query, given),
-        Err(fault) => told(fault),
+        Err(fault) => in_query(fault),
     }
 }
 
@@ -198,7 +198,7 @@ fn torn_by(query: Query, given: &Bounds) -> Result<Option<LineFault>, NoMemory>
 }
 
 // The fault of a query's text, unless it is that memory was wanting.
-fn told(fault: StrictFault) -> Result<Option<LineFault>, NoMemory>
+fn in_query(fault: StrictFault) -> Result<Option<LineFault>, NoMemory>
     ensures told { IfOk result (λ wrong. wrong ≡ Some (InQuery fault)) }
     ensures fault { IfOk result (λ wrong. is_want fault ≡ false) }
 {

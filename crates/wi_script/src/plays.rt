@@ -16,9 +16,8 @@ use crate::script::{Script, ScriptCause, ScriptRefused};
 use crate::sets::remove_all;
 use std::alloc::Global;
 use wi_base::{Listed, NoMemory};
-use wi_labels::Header;
 use wi_net::{FailSet, LinkId, Network};
-use wi_trace::{Cause, Location, hop_under, insert_all};
+use wi_trace::{Cause, Location, hop_under, insert_all, twin_of};
 use wi_world::{Event, State, Step};
 
 // Where the packet is, and which links are down.
@@ -48,16 +47,6 @@ pub fn play(
     };
     let states = states_from(alloc, net, k, begin, script.events.as_slice())?;
     Ok(Listed::of(states))
-}
-
-// An equal header.
-fn twin_of(header: &Header) -> Result<Header, NoMemory>
-    ensures { IfOk result (λ twin. twin ≡ header.now) }
-{
-    match header.twin() {
-        Ok(header) => Ok(header),
-        Err(_) => Err(NoMemory::Memory),
-    }
 }
 
 // The states from a moment on.

@@ -12,7 +12,9 @@ use wi_quantity::{Weight, read_weights};
 use wi_query::Query;
 use wi_questions::query_of;
 use wi_rules::{Origin, Spot};
-use wi_samples::{N1, N1_FIBER, N1_NEAR, N2, N2_FIBER, N3, N4, N5, Sample, network};
+use wi_samples::{
+    N1, N1_FIBER, N1_NEAR, N2, N2_FIBER, N3, N4, N5, Sample, TestCase, are_met, network,
+};
 use wi_world::{End, Step};
 
 // What a rule is to be: where it leads, what it writes, what it adds to each term, and what it stands for.
@@ -179,7 +181,8 @@ fn system_is(
 }
 
 // A query, what runs are weighed by, and the rules of some heads.
-type Case<'a> = (&'a str, &'a str, &'a [HeadCase<'a>]);
+#[derive(Clone, Copy)]
+struct Case<'a>(&'a str, &'a str, &'a [HeadCase<'a>]);
 
 fn weighed_is(
     rt: &impl Abort,
@@ -197,18 +200,13 @@ fn weighed_is(
 }
 
 // The rules of some heads for a query, and that the listed rules are those on demand.
-fn case_is(rt: &impl Abort, alloc: Global, net: &Network, case: &Case) -> Result<(), Fail> {
-    let query = query_of(alloc, net, case.0)?;
-    let outcome = weighed_is(rt, alloc, net, &query, case);
-    drop(query);
-    outcome
-}
-
-fn cases_are(rt: &impl Abort, alloc: Global, net: &Network, cases: &[Case]) -> Result<(), Fail> {
-    for case in cases {
-        case_is(rt, alloc, net, case)?;
+impl<R: Abort> TestCase<R> for Case<'_> {
+    fn is_met(&self, rt: &R, alloc: Global, net: &Network) -> Result<(), Fail> {
+        let query = query_of(alloc, net, self.0)?;
+        let outcome = weighed_is(rt, alloc, net, &query, self);
+        drop(query);
+        outcome
     }
-    Ok(())
 }
 
 // First s10 ip1, then the link from a to b again and again. The automata have 3, 2 and 3 states.
@@ -280,49 +278,36 @@ const AROUND_HEADS: &[HeadCase] = &[
 ];
 
 const SMALL_CASES: &[Case] = &[
-    (AGAIN, "Hops", AGAIN_HEADS),
-    ("<ip1> [x#a] .* [b#y] <ip1> 0", "Hops", &[]),
-    ("<ip1> [x#a] [a#c] .* [b#y] <ip1> 0", "Hops", &[(7, 3, &[])]),
-    (
+    Case(AGAIN, "Hops", AGAIN_HEADS),
+    Case("<ip1> [x#a] .* [b#y] <ip1> 0", "Hops", &[]),
+    Case("<ip1> [x#a] [a#c] .* [b#y] <ip1> 0", "Hops", &[(7, 3, &[])]),
+    Case(
         "<ip1> [x#a] [a#c] .* [b#y] <ip1> 1",
         "Hops, Distance+3*Tunnels",
         AROUND_HEADS,
     ),
-    ("<30 ip1> .* <.*> 0", "Links", &[]),
+    Case("<30 ip1> .* <.*> 0", "Links", &[]),
     // Known to be down, the link to b is neither counted nor taken; known to be up, it can't have failed.
-    (
+    Case(
         "<ip1> [x#a] .* [b#y] <ip1> 0 down [a#b]",
         "Failures",
         &[(7, 3, &[(56, Word2::Two(2, 3), [1, 0, 0, 0, 0], SECOND)])],
     ),
-    (
+    Case(
         "<ip1> [x#a] [a#c] .* [b#y] <ip1> 5 up [a#b]",
         "Hops",
         &[(7, 3, &[])],
     ),
-    (
+    Case(
         "<ip1> [x#a] .* [b#y] <ip1> 0 down [x#a]",
         "Hops",
         &[(2, 3, &[])],
     ),
 ];
 
-// The rules that a network has for some queries.
-fn network_has(
-    rt: &impl Abort,
-    alloc: Global,
-    sample: &Sample,
-    cases: &[Case],
-) -> Result<(), Fail> {
-    let net = network(alloc, sample)?;
-    let outcome = cases_are(rt, alloc, &net, cases);
-    drop(net);
-    outcome
-}
-
 #[test]
 fn rules_are_made_head_by_head(rt: HostRuntime) -> Result<(), Fail> {
-    network_has(&rt, rt.alloc(), &N1, SMALL_CASES)
+    are_met(&rt, rt.alloc(), &N1, SMALL_CASES)
 }
 
 // Numbers, and the spots that have them.
@@ -394,23 +379,23 @@ const TO_Z_HEADS: &[HeadCase] = &[
 ];
 
 const LARGE_CASES: &[Case] = &[
-    (
+    Case(
         "<ip1> [x#a] [a#c] .* [b#z] <ip1> 0",
         "Failures",
         &[(7, 3, &[])],
     ),
-    ("<ip1> [x#a] [a#c] .* [b#z] <ip1> 1", "Failures", TO_Z_HEADS),
-    ("<ip1> [x#a] [a#c] .* [b#z] <ip1> 2", "Failures", TO_Z_HEADS),
+    Case("<ip1> [x#a] [a#c] .* [b#z] <ip1> 1", "Failures", TO_Z_HEADS),
+    Case("<ip1> [x#a] [a#c] .* [b#z] <ip1> 2", "Failures", TO_Z_HEADS),
 ];
 
-const KNOWN_CASES: &[Case] = &[(
+const KNOWN_CASES: &[Case] = &[Case(
     "<ip1> [x#a] [a#c] .* [b#z] <ip1> 1 down [a#b]",
     "Failures",
     TO_Z_HEADS,
 )];
 
 // Where the links to b and to y are one risk group, both are known to be down.
-const DOWN_CASES: &[Case] = &[(
+const DOWN_CASES: &[Case] = &[Case(
     "<ip1> [x#a] [a#c] .* [b#z] <ip1> 0 down [a#b]",
     "Failures",
     &[
@@ -428,19 +413,19 @@ const DOWN_CASES: &[Case] = &[(
 
 #[test]
 fn what_stands_before_must_have_failed(rt: HostRuntime) -> Result<(), Fail> {
-    network_has(&rt, rt.alloc(), &N2, LARGE_CASES)?;
-    network_has(&rt, rt.alloc(), &N2, KNOWN_CASES)?;
-    network_has(&rt, rt.alloc(), &N2_FIBER, LARGE_CASES)?;
-    network_has(&rt, rt.alloc(), &N2_FIBER, DOWN_CASES)
+    are_met(&rt, rt.alloc(), &N2, LARGE_CASES)?;
+    are_met(&rt, rt.alloc(), &N2, KNOWN_CASES)?;
+    are_met(&rt, rt.alloc(), &N2_FIBER, LARGE_CASES)?;
+    are_met(&rt, rt.alloc(), &N2_FIBER, DOWN_CASES)
 }
 
-const FIBER_CASES: &[Case] = &[(
+const FIBER_CASES: &[Case] = &[Case(
     "<ip1> [x#a] [a#c] .* [b#y] <ip1> 1",
     "Failures",
     &[(7, 3, &[(68, Word2::Two(2, 3), [1, 0, 0, 0, 0], SECOND)])],
 )];
 
-const NEAR_CASES: &[Case] = &[(
+const NEAR_CASES: &[Case] = &[Case(
     "<ip1> [x#a] [a#c] .* [b#y] <ip1> 5",
     "Failures",
     &[(7, 3, &[])],
@@ -448,11 +433,11 @@ const NEAR_CASES: &[Case] = &[(
 
 #[test]
 fn a_risk_group_fails_once_and_as_a_whole(rt: HostRuntime) -> Result<(), Fail> {
-    network_has(&rt, rt.alloc(), &N1_FIBER, FIBER_CASES)?;
-    network_has(&rt, rt.alloc(), &N1_NEAR, NEAR_CASES)
+    are_met(&rt, rt.alloc(), &N1_FIBER, FIBER_CASES)?;
+    are_met(&rt, rt.alloc(), &N1_NEAR, NEAR_CASES)
 }
 
-const SAME_LINK_CASES: &[Case] = &[(
+const SAME_LINK_CASES: &[Case] = &[Case(
     "<ip1> [x#a] [a#b] <s10 ip1> 5",
     "Failures",
     &[(8, 3, &[(12, Word2::One(3), NO_TERM, FIRST)])],
@@ -460,11 +445,11 @@ const SAME_LINK_CASES: &[Case] = &[(
 
 #[test]
 fn a_member_needs_its_link_up(rt: HostRuntime) -> Result<(), Fail> {
-    network_has(&rt, rt.alloc(), &N4, SAME_LINK_CASES)
+    are_met(&rt, rt.alloc(), &N4, SAME_LINK_CASES)
 }
 
 const RETURNING_CASES: &[Case] = &[
-    (
+    Case(
         "<ip1> [x#a] [a#c] [c#a] [a#b] .* <ip1> 5",
         "Hops",
         &[
@@ -472,7 +457,7 @@ const RETURNING_CASES: &[Case] = &[
             (39, 2, &[(16, Word2::Empty, [1, 0, 0, 0, 0], FIRST)]),
         ],
     ),
-    (
+    Case(
         "<ip1> [x#a] [a#c] [c#a] [a#b] .* <ip1> 5 down [a#b]",
         "Hops",
         &[
@@ -484,7 +469,7 @@ const RETURNING_CASES: &[Case] = &[
 
 #[test]
 fn a_packet_may_return(rt: HostRuntime) -> Result<(), Fail> {
-    network_has(&rt, rt.alloc(), &N3, RETURNING_CASES)
+    are_met(&rt, rt.alloc(), &N3, RETURNING_CASES)
 }
 
 const PUSH_S10: Op = Op::Push(Label(1), Class::Smpls);
@@ -504,7 +489,7 @@ const BACKUP_ENDS: Origin = Origin::Ending(End::Undefined(Step {
 const INACTIVE_ENDS: Origin = Origin::Ending(End::Inactive);
 
 const DROPPED_CASES: &[Case] = &[
-    (
+    Case(
         "<ip1> [x#a] drop 0 down [a#b]",
         "Failures",
         &[
@@ -523,8 +508,8 @@ const DROPPED_CASES: &[Case] = &[
         ],
     ),
     // None may fail, or both.
-    ("<ip1> [x#a] drop 0", "Failures", &[(7, 3, &[])]),
-    (
+    Case("<ip1> [x#a] drop 0", "Failures", &[(7, 3, &[])]),
+    Case(
         "<ip1> [x#a] drop 2",
         "Failures",
         &[(
@@ -537,12 +522,12 @@ const DROPPED_CASES: &[Case] = &[
         )],
     ),
     // There is no entry where the packet comes to b.
-    (
+    Case(
         "<ip1> [x#a] .* drop 0",
         "Failures",
         &[(11, 2, &[(4, Word2::One(2), NO_TERM, INACTIVE_ENDS)])],
     ),
-    (
+    Case(
         "<ip1> [x#a] <.*> 2",
         "Failures",
         &[(7, 3, &[(4, Word2::One(3), NO_TERM, ARRIVES)])],
@@ -551,17 +536,17 @@ const DROPPED_CASES: &[Case] = &[
 
 #[test]
 fn a_row_ends_where_a_packet_is_dropped(rt: HostRuntime) -> Result<(), Fail> {
-    network_has(&rt, rt.alloc(), &UNDEFINED_BACKUP, DROPPED_CASES)
+    are_met(&rt, rt.alloc(), &UNDEFINED_BACKUP, DROPPED_CASES)
 }
 
 const UNDEFINED_CASES: &[Case] = &[
-    ("<ip1> [x#a] [a#c] .* [b#y] <ip1> 0", "Hops", &[(7, 3, &[])]),
-    (
+    Case("<ip1> [x#a] [a#c] .* [b#y] <ip1> 0", "Hops", &[(7, 3, &[])]),
+    Case(
         "<ip1> [x#a] [a#c] .* [b#y] <ip1> 1",
         "Tunnels",
         &[(7, 3, &[(68, Word2::Two(2, 3), [2, 0, 0, 0, 0], SECOND)])],
     ),
-    (
+    Case(
         "<ip1> .* <ip1> 1",
         "Failures",
         &[(
@@ -577,5 +562,5 @@ const UNDEFINED_CASES: &[Case] = &[
 
 #[test]
 fn an_undefined_operation_gives_no_rule(rt: HostRuntime) -> Result<(), Fail> {
-    network_has(&rt, rt.alloc(), &N5, UNDEFINED_CASES)
+    are_met(&rt, rt.alloc(), &N5, UNDEFINED_CASES)
 }

@@ -6,13 +6,13 @@ use std::alloc::Global;
 use std::process::Abort;
 use std::test::Fail;
 use wi_build::Problem;
-use wi_decide::{DecideRefused, decide};
+use wi_decide::{SearchRefused, decide};
 use wi_labels::{Class, Header, Label};
 use wi_net::{FailSet, LinkId, Network};
 use wi_quantity::{Vector, Weight};
 use wi_query::Query;
 use wi_questions::{query_of, vector_of};
-use wi_samples::{N1, N1_FIBER, N1_NEAR, N2, N2_FIBER, N3, N4, N5, Sample, doubling, network};
+use wi_samples::{N1, N1_FIBER, N1_NEAR, N2, N2_FIBER, N3, N4, N5, TestCase, are_met, doubling};
 use wi_trace::Answer;
 use wi_weight::{Effort, Pair, Terms};
 use wi_world::{Run, Verdict, Word};
@@ -40,7 +40,8 @@ struct Shown<'a> {
 }
 
 // A query, what runs are weighed by, and what the answer shows, unless it is a no.
-type Case<'a> = (&'a str, Option<&'a str>, Option<Shown<'a>>);
+#[derive(Clone, Copy)]
+struct Case<'a>(&'a str, Option<&'a str>, Option<Shown<'a>>);
 
 fn header_is(rt: &impl Abort, header: &Header, labels: &[(Label, Class)]) {
     assert_eq!(rt; header.len(), labels.len());
@@ -137,31 +138,13 @@ fn weighed_is(
     Ok(())
 }
 
-fn case_is(rt: &impl Abort, alloc: Global, net: &Network, case: &Case) -> Result<(), Fail> {
-    let query = query_of(alloc, net, case.0)?;
-    let outcome = weighed_is(rt, alloc, net, &query, case);
-    drop(query);
-    outcome
-}
-
-fn cases_are(rt: &impl Abort, alloc: Global, net: &Network, cases: &[Case]) -> Result<(), Fail> {
-    for case in cases {
-        case_is(rt, alloc, net, case)?;
+impl<R: Abort> TestCase<R> for Case<'_> {
+    fn is_met(&self, rt: &R, alloc: Global, net: &Network) -> Result<(), Fail> {
+        let query = query_of(alloc, net, self.0)?;
+        let outcome = weighed_is(rt, alloc, net, &query, self);
+        drop(query);
+        outcome
     }
-    Ok(())
-}
-
-// The answers to some queries of a network.
-fn network_answers(
-    rt: &impl Abort,
-    alloc: Global,
-    sample: &Sample,
-    cases: &[Case],
-) -> Result<(), Fail> {
-    let net = network(alloc, sample)?;
-    let outcome = cases_are(rt, alloc, &net, cases);
-    drop(net);
-    outcome
 }
 
 const IP1: &[(Label, Class)] = &[(Label(2), Class::Ip)];
@@ -176,7 +159,7 @@ const AROUND: &[(u32, u32)] = &[(1, 0), (0, 0), (0, 0)];
 const AROUND_TO_Z: &[(u32, u32)] = &[(1, 0), (0, 0), (1, 0)];
 
 const SMALL_CASES: &[Case] = &[
-    (
+    Case(
         "<ip1> [x#a] .* [b#y] <ip1> 0",
         Some("Hops"),
         Some(Shown {
@@ -190,8 +173,8 @@ const SMALL_CASES: &[Case] = &[
         }),
     ),
     // The backup needs a failure.
-    ("<ip1> [x#a] [a#c] .* [b#y] <ip1> 0", None, None),
-    (
+    Case("<ip1> [x#a] [a#c] .* [b#y] <ip1> 0", None, None),
+    Case(
         "<ip1> [x#a] [a#c] .* [b#y] <ip1> 1",
         Some("Hops, Distance+3*Tunnels"),
         Some(Shown {
@@ -204,7 +187,7 @@ const SMALL_CASES: &[Case] = &[
             verdict: Judged::Fits(&[1]),
         }),
     ),
-    (
+    Case(
         "<s10 ip1> [a#b]+ <smpls ip> 0",
         None,
         Some(Shown {
@@ -218,9 +201,9 @@ const SMALL_CASES: &[Case] = &[
         }),
     ),
     // The word is in the expression, but it is no valid header.
-    ("<30 ip1> .* <.*> 0", None, None),
+    Case("<30 ip1> .* <.*> 0", None, None),
     // Known to be down, the link to b isn't counted; known to be up, it can't have failed.
-    (
+    Case(
         "<ip1> [x#a] .* [b#y] <ip1> 0 down [a#b]",
         None,
         Some(Shown {
@@ -233,13 +216,13 @@ const SMALL_CASES: &[Case] = &[
             verdict: Judged::Fits(&[1]),
         }),
     ),
-    ("<ip1> [x#a] [a#c] .* [b#y] <ip1> 5 up [a#b]", None, None),
-    ("<ip1> [x#a] .* [b#y] <ip1> 0 down [x#a]", None, None),
+    Case("<ip1> [x#a] [a#c] .* [b#y] <ip1> 5 up [a#b]", None, None),
+    Case("<ip1> [x#a] .* [b#y] <ip1> 0 down [x#a]", None, None),
 ];
 
 #[test]
 fn a_least_run_that_fits_is_a_yes(rt: HostRuntime) -> Result<(), Fail> {
-    network_answers(&rt, rt.alloc(), &N1, SMALL_CASES)
+    are_met(&rt, rt.alloc(), &N1, SMALL_CASES)
 }
 
 const TO_Z_AT_2: Shown = Shown {
@@ -253,7 +236,7 @@ const TO_Z_AT_2: Shown = Shown {
 };
 
 const LARGE_CASES: &[Case] = &[
-    (
+    Case(
         "<ip1> [x#a] [a#c] .* [b#z] <ip1> 1",
         None,
         Some(Shown {
@@ -266,9 +249,9 @@ const LARGE_CASES: &[Case] = &[
             verdict: Judged::Exceeds(2),
         }),
     ),
-    ("<ip1> [x#a] [a#c] .* [b#z] <ip1> 2", None, Some(TO_Z_AT_2)),
-    ("<ip1> [x#a] [a#c] .* [b#z] <ip1> 0", None, None),
-    (
+    Case("<ip1> [x#a] [a#c] .* [b#z] <ip1> 2", None, Some(TO_Z_AT_2)),
+    Case("<ip1> [x#a] [a#c] .* [b#z] <ip1> 0", None, None),
+    Case(
         "<ip1> [x#a] [a#c] .* [b#z] <ip1> 1 down [a#b]",
         None,
         Some(TO_Z_AT_2),
@@ -276,7 +259,7 @@ const LARGE_CASES: &[Case] = &[
 ];
 
 const RETURNING_CASES: &[Case] = &[
-    (
+    Case(
         "<ip1> [x#a] [a#c] [c#a] [a#b] .* <ip1> 5",
         None,
         Some(Shown {
@@ -289,7 +272,7 @@ const RETURNING_CASES: &[Case] = &[
             verdict: Judged::UsesFailed(1),
         }),
     ),
-    (
+    Case(
         "<ip1> [x#a] [a#c] [c#a] [a#b] .* <ip1> 5 down [a#b]",
         None,
         None,
@@ -298,15 +281,15 @@ const RETURNING_CASES: &[Case] = &[
 
 #[test]
 fn a_least_run_that_does_not_fit_is_inconclusive(rt: HostRuntime) -> Result<(), Fail> {
-    network_answers(&rt, rt.alloc(), &N2, LARGE_CASES)?;
-    network_answers(&rt, rt.alloc(), &N3, RETURNING_CASES)
+    are_met(&rt, rt.alloc(), &N2, LARGE_CASES)?;
+    are_met(&rt, rt.alloc(), &N3, RETURNING_CASES)
 }
 
-const SAME_LINK_CASES: &[Case] = &[("<ip1> [x#a] [a#b] <s10 ip1> 5", None, None)];
+const SAME_LINK_CASES: &[Case] = &[Case("<ip1> [x#a] [a#b] <s10 ip1> 5", None, None)];
 
 const UNDEFINED_CASES: &[Case] = &[
-    ("<ip1> [x#a] [a#c] .* [b#y] <ip1> 0", None, None),
-    (
+    Case("<ip1> [x#a] [a#c] .* [b#y] <ip1> 0", None, None),
+    Case(
         "<ip1> [x#a] [a#c] .* [b#y] <ip1> 1",
         None,
         Some(Shown {
@@ -323,11 +306,11 @@ const UNDEFINED_CASES: &[Case] = &[
 
 #[test]
 fn a_member_that_can_never_be_used_is_not(rt: HostRuntime) -> Result<(), Fail> {
-    network_answers(&rt, rt.alloc(), &N4, SAME_LINK_CASES)?;
-    network_answers(&rt, rt.alloc(), &N5, UNDEFINED_CASES)
+    are_met(&rt, rt.alloc(), &N4, SAME_LINK_CASES)?;
+    are_met(&rt, rt.alloc(), &N5, UNDEFINED_CASES)
 }
 
-const FIBER_CASES: &[Case] = &[(
+const FIBER_CASES: &[Case] = &[Case(
     "<ip1> [x#a] [a#c] .* [b#y] <ip1> 1",
     None,
     Some(Shown {
@@ -341,7 +324,7 @@ const FIBER_CASES: &[Case] = &[(
     }),
 )];
 
-const LARGE_FIBER_CASES: &[Case] = &[(
+const LARGE_FIBER_CASES: &[Case] = &[Case(
     "<ip1> [x#a] [a#c] .* [b#z] <ip1> 1",
     Some("Failures"),
     Some(Shown {
@@ -355,22 +338,41 @@ const LARGE_FIBER_CASES: &[Case] = &[(
     }),
 )];
 
-const NEAR_CASES: &[Case] = &[("<ip1> [x#a] [a#c] .* [b#y] <ip1> 5", None, None)];
+const NEAR_CASES: &[Case] = &[Case("<ip1> [x#a] [a#c] .* [b#y] <ip1> 5", None, None)];
 
 #[test]
 fn a_risk_group_fails_once_and_as_a_whole(rt: HostRuntime) -> Result<(), Fail> {
-    network_answers(&rt, rt.alloc(), &N1_FIBER, FIBER_CASES)?;
-    network_answers(&rt, rt.alloc(), &N2_FIBER, LARGE_FIBER_CASES)?;
-    network_answers(&rt, rt.alloc(), &N1_NEAR, NEAR_CASES)
+    are_met(&rt, rt.alloc(), &N1_FIBER, FIBER_CASES)?;
+    are_met(&rt, rt.alloc(), &N2_FIBER, LARGE_FIBER_CASES)?;
+    are_met(&rt, rt.alloc(), &N1_NEAR, NEAR_CASES)
 }
 
-fn refuses(rt: &impl Abort, alloc: Global, problem: &Problem<'_>, expected: DecideRefused) {
+// Why a problem isn't decided: a weight that doesn't fit, or the effort of a run that is too long.
+#[derive(Clone, Copy)]
+enum Undecided {
+    Overflow(Weight),
+    TooLong(u64),
+}
+
+fn refused_is(rt: &impl Abort, refused: SearchRefused, expected: Undecided) {
+    match (refused, expected) {
+        (SearchRefused::Overflow(overflow), Undecided::Overflow(weight)) => {
+            assert!(rt; overflow.weight == weight);
+        }
+        (SearchRefused::TooLong(effort), Undecided::TooLong(wanted)) => {
+            assert_eq!(rt; effort, wanted);
+        }
+        _ => assert!(rt; false),
+    }
+}
+
+fn refuses(rt: &impl Abort, alloc: Global, problem: &Problem<'_>, expected: Undecided) {
     match decide(alloc, problem) {
         Ok(found) => {
             drop(found);
             assert!(rt; false);
         }
-        Err(refused) => assert!(rt; refused == expected),
+        Err(refused) => refused_is(rt, refused, expected),
     }
 }
 
@@ -379,7 +381,7 @@ fn doubling_refuses(
     alloc: Global,
     net: &Network,
     text: &str,
-    expected: DecideRefused,
+    expected: Undecided,
 ) -> Result<(), Fail> {
     let query = query_of(alloc, net, text)?;
     let vector = Vector::new(alloc);
@@ -410,7 +412,7 @@ const TOO_LONG: &[(&str, u64)] = &[
 
 fn too_long(rt: &impl Abort, alloc: Global, net: &Network) -> Result<(), Fail> {
     for (text, effort) in TOO_LONG {
-        doubling_refuses(rt, alloc, net, text, DecideRefused::TooLong(*effort))?;
+        doubling_refuses(rt, alloc, net, text, Undecided::TooLong(*effort))?;
     }
     Ok(())
 }
@@ -424,9 +426,9 @@ fn a_run_that_is_too_long_is_not_shown(rt: HostRuntime) -> Result<(), Fail> {
 }
 
 fn large_refuses(rt: &impl Abort, alloc: Global, net: &Network) -> Result<(), Fail> {
-    let longest = DecideRefused::TooLong(13_835_058_055_282_163_719);
+    let longest = Undecided::TooLong(13_835_058_055_282_163_719);
     doubling_refuses(rt, alloc, net, "<d62 s1 ip1> .* <s1 ip1> 0", longest)?;
-    let expected = DecideRefused::Overflow(OVERFLOW);
+    let expected = Undecided::Overflow(OVERFLOW);
     doubling_refuses(rt, alloc, net, "<d63 s1 ip1> .* <s1 ip1> 0", expected)
 }
 

@@ -18,7 +18,7 @@ use wi_report::{
     network_fault_text, overflow_text, query_fault_text, report, script_fault_text, states,
     too_long_text, weight_fault_text,
 };
-use wi_samples::{N1_WITH_31, N2_WITH_31, N3, QUOTED, Sample, network};
+use wi_samples::{N1_WITH_31, N2_WITH_31, N3, QUOTED, TestCase, are_met, network};
 use wi_script::{ScriptCause, ScriptRefused, play, read_script};
 use wi_text::Text;
 use wi_trace::Answer;
@@ -274,7 +274,8 @@ struct Shown<'a> {
 }
 
 // A query, what runs are weighed by, what the answer shows, unless it is a no, and the report.
-type Case<'a> = (&'a str, Option<&'a str>, Option<Shown<'a>>, &'a str);
+#[derive(Clone, Copy)]
+struct Case<'a>(&'a str, Option<&'a str>, Option<Shown<'a>>, &'a str);
 
 fn steps_of(alloc: Global, steps: &[(u32, u32)]) -> Result<Listed<Step>, Fail> {
     let mut all = Vec::new(alloc);
@@ -387,31 +388,13 @@ fn weighed_is(
     outcome
 }
 
-fn report_is(rt: &impl Abort, alloc: Global, net: &Network, case: &Case) -> Result<(), Fail> {
-    let query = query_of(alloc, net, case.0)?;
-    let outcome = weighed_is(rt, alloc, net, &query, case);
-    drop(query);
-    outcome
-}
-
-fn reports_are(rt: &impl Abort, alloc: Global, net: &Network, cases: &[Case]) -> Result<(), Fail> {
-    for case in cases {
-        report_is(rt, alloc, net, case)?;
+impl<R: Abort> TestCase<R> for Case<'_> {
+    fn is_met(&self, rt: &R, alloc: Global, net: &Network) -> Result<(), Fail> {
+        let query = query_of(alloc, net, self.0)?;
+        let outcome = weighed_is(rt, alloc, net, &query, self);
+        drop(query);
+        outcome
     }
-    Ok(())
-}
-
-// The reports on answers to queries of a network.
-fn network_reports(
-    rt: &impl Abort,
-    alloc: Global,
-    sample: &Sample,
-    cases: &[Case],
-) -> Result<(), Fail> {
-    let net = network(alloc, sample)?;
-    let are = reports_are(rt, alloc, &net, cases);
-    drop(net);
-    are
 }
 
 const NO_TERM: [u128; 5] = [0; 5];
@@ -424,7 +407,7 @@ const AROUND: &[(u32, u32)] = &[(1, 0), (0, 0), (0, 0)];
 const AROUND_TO_Z: &[(u32, u32)] = &[(1, 0), (0, 0), (1, 0)];
 
 const SMALL_CASES: &[Case] = &[
-    (
+    Case(
         "<ip1> [x#a] .* [b#y] <ip1> 0",
         Some("Hops"),
         Some(Shown {
@@ -437,13 +420,13 @@ const SMALL_CASES: &[Case] = &[
         }),
         "answer: yes\nweight: 3\neffort: 8\nfailed: none\nmoving: yes\nlinks: 3\nx.o#a.x | ip1\na.b#b.a | s10 ip1 | group 1 member 1\nb.y#y.b | ip1 | group 1 member 1\n",
     ),
-    (
+    Case(
         "<ip1> [x#a] [a#c] .* [b#y] <ip1> 0",
         None,
         None,
         "answer: no\nmoving: no\n",
     ),
-    (
+    Case(
         "<ip1> [x#a] [a#c] .* [b#y] <ip1> 1",
         Some("Hops, Distance+3*Tunnels"),
         Some(Shown {
@@ -456,7 +439,7 @@ const SMALL_CASES: &[Case] = &[
         }),
         "answer: yes\nweight: 4 12\neffort: 10\nfailed: a.b#b.a\nmoving: yes\nlinks: 4\nx.o#a.x | ip1\na.c#c.a | 30 s10 ip1 | group 2 member 1\nc.b#b.c | s10 ip1 | group 1 member 1\nb.y#y.b | ip1 | group 1 member 1\n",
     ),
-    (
+    Case(
         "<s10 ip1> [a#b]+ <smpls ip> 0",
         None,
         Some(Shown {
@@ -470,7 +453,7 @@ const SMALL_CASES: &[Case] = &[
         "answer: yes\nweight: none\neffort: 8\nfailed: none\nmoving: yes\nlinks: 1\na.b#b.a | s10 ip1\n",
     ),
     // The link to b is known to be down.
-    (
+    Case(
         "<ip1> [x#a] .* [b#y] <ip1> 0 down [a#b]",
         None,
         Some(Shown {
@@ -487,11 +470,11 @@ const SMALL_CASES: &[Case] = &[
 
 #[test]
 fn a_yes_shows_what_must_fail_and_a_no_shows_nothing(rt: HostRuntime) -> Result<(), Fail> {
-    network_reports(&rt, rt.alloc(), &N1_WITH_31, SMALL_CASES)
+    are_met(&rt, rt.alloc(), &N1_WITH_31, SMALL_CASES)
 }
 
 const LARGE_CASES: &[Case] = &[
-    (
+    Case(
         "<ip1> [x#a] [a#c] .* [b#z] <ip1> 1",
         None,
         Some(Shown {
@@ -504,7 +487,7 @@ const LARGE_CASES: &[Case] = &[
         }),
         "answer: inconclusive\nweight: none\neffort: 10\nneeds: a.b#b.a b.y#y.b\ncause: needs 2, allowed 1\nmoving: yes\nlinks: 4\nx.o#a.x | ip1\na.c#c.a | 30 s10 ip1 | group 2 member 1\nc.b#b.c | s10 ip1 | group 1 member 1\nb.z#z.b | ip1 | group 2 member 1\n",
     ),
-    (
+    Case(
         "<ip1> [x#a] [a#c] .* [b#z] <ip1> 2",
         None,
         Some(Shown {
@@ -519,7 +502,7 @@ const LARGE_CASES: &[Case] = &[
     ),
 ];
 
-const RETURNING_CASES: &[Case] = &[(
+const RETURNING_CASES: &[Case] = &[Case(
     "<ip1> [x#a] [a#c] [c#a] [a#b] .* <ip1> 5",
     None,
     Some(Shown {
@@ -535,8 +518,8 @@ const RETURNING_CASES: &[Case] = &[(
 
 #[test]
 fn an_inconclusive_shows_why(rt: HostRuntime) -> Result<(), Fail> {
-    network_reports(&rt, rt.alloc(), &N2_WITH_31, LARGE_CASES)?;
-    network_reports(&rt, rt.alloc(), &N3, RETURNING_CASES)
+    are_met(&rt, rt.alloc(), &N2_WITH_31, LARGE_CASES)?;
+    are_met(&rt, rt.alloc(), &N3, RETURNING_CASES)
 }
 
 // 2^64

@@ -11,14 +11,15 @@ use wi_net::{Bounds, Network};
 use wi_quantity::{Vector, Weight};
 use wi_query::Query;
 use wi_questions::query_of;
-use wi_samples::{N1, network};
+use wi_samples::{N1, TestCase, are_met};
 use wi_weight::{Effort, Pair, Terms};
 
 // The effort and the steps of a least run.
 type Least<'a> = (u128, &'a [(u32, u32)]);
 
 // A query, one within whose bounds is searched, the effort of the cut, and what is found.
-type Case<'a> = (&'a str, &'a str, Option<u128>, Option<Least<'a>>);
+#[derive(Clone, Copy)]
+struct Case<'a>(&'a str, &'a str, Option<u128>, Option<Least<'a>>);
 
 fn by_effort(count: u128) -> Weight {
     Pair {
@@ -70,18 +71,13 @@ fn bounded_is(
     Ok(())
 }
 
-fn case_is(rt: &impl Abort, alloc: Global, net: &Network, case: &Case) -> Result<(), Fail> {
-    let query = query_of(alloc, net, case.0)?;
-    let outcome = bounded_is(rt, alloc, net, &query, case);
-    drop(query);
-    outcome
-}
-
-fn cases_are(rt: &impl Abort, alloc: Global, net: &Network) -> Result<(), Fail> {
-    for case in CASES {
-        case_is(rt, alloc, net, case)?;
+impl<R: Abort> TestCase<R> for Case<'_> {
+    fn is_met(&self, rt: &R, alloc: Global, net: &Network) -> Result<(), Fail> {
+        let query = query_of(alloc, net, self.0)?;
+        let outcome = bounded_is(rt, alloc, net, &query, self);
+        drop(query);
+        outcome
     }
-    Ok(())
 }
 
 const TO_Y: &str = "<ip1> [x#a] .* [b#y] <ip1> 0";
@@ -94,18 +90,15 @@ const STRAIGHT: &[(u32, u32)] = &[(0, 0), (0, 0)];
 const AROUND: &[(u32, u32)] = &[(1, 0), (0, 0), (0, 0)];
 
 const CASES: &[Case] = &[
-    (TO_Y, TO_Y, None, Some((8, STRAIGHT))),
-    (TO_Y, TO_Y, Some(9), Some((8, STRAIGHT))),
-    (TO_Y, TO_Y, Some(8), None),
+    Case(TO_Y, TO_Y, None, Some((8, STRAIGHT))),
+    Case(TO_Y, TO_Y, Some(9), Some((8, STRAIGHT))),
+    Case(TO_Y, TO_Y, Some(8), None),
     // The link to b is down in the bounds that are searched, though not in the query's own.
-    (TO_Y, TO_Y_WITHOUT_B, None, Some((10, AROUND))),
-    (TO_Y, TO_Y_WITHOUT_B, Some(10), None),
+    Case(TO_Y, TO_Y_WITHOUT_B, None, Some((10, AROUND))),
+    Case(TO_Y, TO_Y_WITHOUT_B, Some(10), None),
 ];
 
 #[test]
 fn the_least_run_below_a_cut_is_found(rt: HostRuntime) -> Result<(), Fail> {
-    let net = network(rt.alloc(), &N1)?;
-    let outcome = cases_are(&rt, rt.alloc(), &net);
-    drop(net);
-    outcome
+    are_met(&rt, rt.alloc(), &N1, CASES)
 }

@@ -11,10 +11,11 @@ use wi_audit::{Fulfilment, Test, audited, plan_text};
 use wi_net::{Bounds, Network};
 use wi_policy::{Policy, read_policies};
 use wi_query::read_given;
-use wi_samples::{N1, N3, Sample, network};
+use wi_samples::{N1, N3, TestCase, are_met};
 
 // A text that gives links as down and up, a line of a policy, and what is printed of it; whether it is as expected.
-type Case<'a> = (&'a str, &'a [u8], Fulfilment, &'a str);
+#[derive(Clone, Copy)]
+struct Case<'a>(&'a str, &'a [u8], Fulfilment, &'a str);
 
 fn is_told(
     rt: &impl Abort,
@@ -67,50 +68,38 @@ fn file_is(
     outcome
 }
 
-fn case_is(rt: &impl Abort, alloc: Global, net: &Network, case: &Case) -> Result<(), Fail> {
-    let Ok(given) = read_given(alloc, net, case.0) else {
-        assert!(rt; false);
-        return Ok(());
-    };
-    let outcome = file_is(rt, alloc, net, &given, case);
-    drop(given);
-    outcome
-}
-
-fn all_are(rt: &impl Abort, alloc: Global, net: &Network, cases: &[Case]) -> Result<(), Fail> {
-    for case in cases {
-        case_is(rt, alloc, net, case)?;
+impl<R: Abort> TestCase<R> for Case<'_> {
+    fn is_met(&self, rt: &R, alloc: Global, net: &Network) -> Result<(), Fail> {
+        let Ok(given) = read_given(alloc, net, self.0) else {
+            assert!(rt; false);
+            return Ok(());
+        };
+        let outcome = file_is(rt, alloc, net, &given, self);
+        drop(given);
+        outcome
     }
-    Ok(())
-}
-
-fn cases_are(rt: &impl Abort, alloc: Global, sample: &Sample, cases: &[Case]) -> Result<(), Fail> {
-    let net = network(alloc, sample)?;
-    let outcome = all_are(rt, alloc, &net, cases);
-    drop(net);
-    outcome
 }
 
 const ON_THE_FIRST_NETWORK: &[Case] = &[
-    (
+    Case(
         "",
         b"yes it arrives <ip1> [x#a] .* [b#y] <ip1> 0",
         Fulfilment::AsExpected,
         "ok 3 - it arrives\n",
     ),
-    (
+    Case(
         "",
         b"# c\n\nno <ip1> [x#a] .* [b#y] <ip1> 0",
         Fulfilment::Unexpected,
         "not ok 3 - line 3\n# line 3: no is expected\n# answer: yes\n# weight: none\n# effort: 8\n# failed: none\n# nodes: 1\n# links: 3\n# x.o#a.x | ip1\n# a.b#b.a | s10 ip1 | group 1 member 1\n# b.y#y.b | ip1 | group 1 member 1\n",
     ),
-    (
+    Case(
         "down [a#b]",
         b"yes a#\\ <ip1> [x#a] [a#b] .* <ip1> 0",
         Fulfilment::Unexpected,
         "not ok 3 - a__\n# line 1: yes is expected\n# answer: no\n# nodes: 1\n",
     ),
-    (
+    Case(
         "up [a#b]",
         b"no detour <ip1> [x#a] [a#c] .* <ip1> 1",
         Fulfilment::AsExpected,
@@ -120,11 +109,11 @@ const ON_THE_FIRST_NETWORK: &[Case] = &[
 
 #[test]
 fn policies_of_the_first_network(rt: HostRuntime) -> Result<(), Fail> {
-    cases_are(&rt, rt.alloc(), &N1, ON_THE_FIRST_NETWORK)
+    are_met(&rt, rt.alloc(), &N1, ON_THE_FIRST_NETWORK)
 }
 
 // For links that fail and are repaired this is inconclusive.
-const ON_THE_DETOUR: &[Case] = &[(
+const ON_THE_DETOUR: &[Case] = &[Case(
     "",
     b"no <ip1> [x#a] [a#c] [c#a] [a#b] .* <ip1> 5",
     Fulfilment::AsExpected,
@@ -133,7 +122,7 @@ const ON_THE_DETOUR: &[Case] = &[(
 
 #[test]
 fn a_policy_is_asked_exactly(rt: HostRuntime) -> Result<(), Fail> {
-    cases_are(&rt, rt.alloc(), &N3, ON_THE_DETOUR)
+    are_met(&rt, rt.alloc(), &N3, ON_THE_DETOUR)
 }
 
 #[test]

@@ -2,14 +2,14 @@
 use std::alloc::Global;
 use std::process::Abort;
 use std::test::Fail;
-use wi_branch::{ExactRefused, Opened, exact};
+use wi_branch::{ExactRefused, exact, exact_answer};
 use wi_build::Problem;
 use wi_cert::Node as TreeNode;
 use wi_net::{FailSet, LinkId, Network};
 use wi_quantity::Vector;
 use wi_query::Query;
 use wi_questions::query_of;
-use wi_samples::{N1, N1_FIBER, N2, N3, Sample, network};
+use wi_samples::{N1, N1_FIBER, N2, N3, TestCase, are_met};
 use wi_trace::Answer;
 use wi_world::{Verdict, Word};
 
@@ -28,7 +28,7 @@ enum Outcome<'a> {
     OverLimit,
 }
 
-// A query, how many risk groups may fail, the most nodes, the outcome, and the nodes that are opened.
+// A query, how many risk groups may fail, the most nodes, the outcome, and the nodes of the tree that shows an answer.
 #[derive(Clone, Copy)]
 struct Case<'a> {
     text: &'a str,
@@ -43,21 +43,6 @@ pub fn set_is(rt: &impl Abort, set: &FailSet, links: &[u32]) {
     assert_eq!(rt; set.len(), links.len());
     for (i, link) in links.iter().enumerate() {
         assert_eq!(rt; set.at(i), Some(LinkId(*link)));
-    }
-}
-
-fn opened_is(node: &Opened, expected: Node) -> bool {
-    match (node, expected) {
-        (Opened::Closed(_) | Opened::Fits(_, _), Node::Leaf) => true,
-        (Opened::Split(link), Node::Split(number)) => *link == LinkId(number),
-        _ => false,
-    }
-}
-
-fn opened_are(rt: &impl Abort, opened: &[Opened], expected: &[Node]) {
-    assert_eq!(rt; opened.len(), expected.len());
-    for (node, wanted) in opened.iter().zip(expected) {
-        assert!(rt; opened_is(node, *wanted));
     }
 }
 
@@ -95,17 +80,14 @@ fn answer_is(rt: &impl Abort, answer: &Answer, outcome: Outcome) {
     }
 }
 
-fn refused_is(rt: &impl Abort, refused: &ExactRefused, case: &Case) {
+fn refused_is(rt: &impl Abort, refused: ExactRefused, case: &Case) {
     match (refused, case.outcome) {
-        (ExactRefused::NodeLimit { opened }, Outcome::OverLimit) => {
-            assert_eq!(rt; opened.as_slice().len(), case.limit as usize);
-            opened_are(rt, opened.as_slice(), case.nodes);
-        }
+        (ExactRefused::NodeLimit, Outcome::OverLimit) => {}
         _ => assert!(rt; false),
     }
 }
 
-fn answers(rt: &impl Abort, alloc: Global, problem: &Problem<'_>, case: &Case) {
+fn is_shown(rt: &impl Abort, alloc: Global, problem: &Problem<'_>, case: &Case) {
     match exact(alloc, problem, case.k, case.limit.min(LIMIT)) {
         Ok((answer, tree)) => {
             answer_is(rt, &answer, case.outcome);
@@ -113,39 +95,32 @@ fn answers(rt: &impl Abort, alloc: Global, problem: &Problem<'_>, case: &Case) {
             drop(answer);
             drop(tree);
         }
-        Err(refused) => {
-            refused_is(rt, &refused, case);
-            drop(refused);
+        Err(refused) => refused_is(rt, refused, case),
+    }
+}
+
+fn is_answered(rt: &impl Abort, alloc: Global, problem: &Problem<'_>, case: &Case) {
+    match exact_answer(alloc, problem, case.k, case.limit.min(LIMIT)) {
+        Ok((answer, count)) => {
+            answer_is(rt, &answer, case.outcome);
+            assert_eq!(rt; count as usize, case.nodes.len());
+            drop(answer);
         }
+        Err(refused) => refused_is(rt, refused, case),
     }
 }
 
-fn case_is(rt: &impl Abort, alloc: Global, net: &Network, case: &Case) -> Result<(), Fail> {
-    let query = query_of(alloc, net, case.text)?;
-    let vector = Vector::new(alloc);
-    answers(rt, alloc, &Problem::of(net, &query, &vector), case);
-    drop(vector);
-    drop(query);
-    Ok(())
-}
-
-fn cases_are(rt: &impl Abort, alloc: Global, net: &Network, cases: &[Case]) -> Result<(), Fail> {
-    for case in cases {
-        case_is(rt, alloc, net, case)?;
+impl<R: Abort> TestCase<R> for Case<'_> {
+    fn is_met(&self, rt: &R, alloc: Global, net: &Network) -> Result<(), Fail> {
+        let query = query_of(alloc, net, self.text)?;
+        let vector = Vector::new(alloc);
+        let problem = Problem::of(net, &query, &vector);
+        is_shown(rt, alloc, &problem, self);
+        is_answered(rt, alloc, &problem, self);
+        drop(vector);
+        drop(query);
+        Ok(())
     }
-    Ok(())
-}
-
-fn network_answers(
-    rt: &impl Abort,
-    alloc: Global,
-    sample: &Sample,
-    cases: &[Case],
-) -> Result<(), Fail> {
-    let net = network(alloc, sample)?;
-    let outcome = cases_are(rt, alloc, &net, cases);
-    drop(net);
-    outcome
 }
 
 const LIMIT: u32 = 10_000;
@@ -179,7 +154,7 @@ const RETURNING: &[Case] = &[
         k: 5,
         limit: 2,
         outcome: Outcome::OverLimit,
-        nodes: &[Node::Split(1), Node::Leaf],
+        nodes: &[],
     },
 ];
 
@@ -237,20 +212,20 @@ const PLAIN: &[Case] = &[
 
 #[test]
 fn a_run_that_returns_is_a_no(rt: HostRuntime) -> Result<(), Fail> {
-    network_answers(&rt, rt.alloc(), &N3, RETURNING)
+    are_met(&rt, rt.alloc(), &N3, RETURNING)
 }
 
 #[test]
 fn two_failures_are_a_yes_where_one_is_a_no(rt: HostRuntime) -> Result<(), Fail> {
-    network_answers(&rt, rt.alloc(), &N2, TO_Z_CASES)
+    are_met(&rt, rt.alloc(), &N2, TO_Z_CASES)
 }
 
 #[test]
 fn a_risk_group_fails_as_one(rt: HostRuntime) -> Result<(), Fail> {
-    network_answers(&rt, rt.alloc(), &N1_FIBER, FIBER)
+    are_met(&rt, rt.alloc(), &N1_FIBER, FIBER)
 }
 
 #[test]
 fn one_node_where_nothing_is_split(rt: HostRuntime) -> Result<(), Fail> {
-    network_answers(&rt, rt.alloc(), &N1, PLAIN)
+    are_met(&rt, rt.alloc(), &N1, PLAIN)
 }

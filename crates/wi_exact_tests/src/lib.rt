@@ -7,6 +7,8 @@ mod audits;
 #[cfg(test)]
 mod exact;
 #[cfg(test)]
+mod large;
+#[cfg(test)]
 mod settling;
 #[cfg(test)]
 mod tolerance;

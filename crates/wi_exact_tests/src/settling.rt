@@ -14,7 +14,7 @@ use wi_net::{FailSet, Network};
 use wi_outage::{Outage, group_outages, outages_keep_bounds, router_outages};
 use wi_quantity::Vector;
 use wi_questions::query_of;
-use wi_samples::{N1, N2, N3, Sample, network};
+use wi_samples::{N1, N2, N3, Sample, TestCase, are_met};
 use wi_settle::{Found, Settled, ask_during, settle, settled_for};
 
 // What is found of an outage: it is known without a search, or is asked for.
@@ -33,7 +33,8 @@ enum Taken {
 
 // A query, what is taken out, what is found while nothing is, and what is told of each outage, one after the other, each by the least
 // link of it; and how many searches that takes in all.
-type Case<'a> = (&'a str, Taken, Found, &'a [(u32, Told)], u64);
+#[derive(Clone, Copy)]
+struct Case<'a>(&'a str, Taken, Found, &'a [(u32, Told)], u64);
 
 const YES: Told = Told::Known(Found::Yes);
 
@@ -133,33 +134,21 @@ fn searches_are(rt: &impl Abort, settled: &Settled, searches: u64) {
     assert_eq!(rt; settled.searches(), searches);
 }
 
-fn case_is(rt: &impl Abort, alloc: Global, net: &Network, case: &Case) -> Result<(), Fail> {
-    let query = query_of(alloc, net, case.0)?;
-    let vector = Vector::new(alloc);
-    let done = problem_is(rt, alloc, &Problem::of(net, &query, &vector), case);
-    drop((query, vector));
-    done
-}
-
-fn cases_are(rt: &impl Abort, alloc: Global, net: &Network, cases: &[Case]) -> Result<(), Fail> {
-    for case in cases {
-        case_is(rt, alloc, net, case)?;
+impl<R: Abort> TestCase<R> for Case<'_> {
+    fn is_met(&self, rt: &R, alloc: Global, net: &Network) -> Result<(), Fail> {
+        let query = query_of(alloc, net, self.0)?;
+        let vector = Vector::new(alloc);
+        let done = problem_is(rt, alloc, &Problem::of(net, &query, &vector), self);
+        drop((query, vector));
+        done
     }
-    Ok(())
-}
-
-fn cases_in(rt: &impl Abort, alloc: Global, sample: &Sample, cases: &[Case]) -> Result<(), Fail> {
-    let net = network(alloc, sample)?;
-    let done = cases_are(rt, alloc, &net, cases);
-    drop(net);
-    done
 }
 
 const ARRIVES: &str = "<ip1> [x#a] .* [b#y] <ip1> 0";
 
 // A packet that arrives on its way or on its detour: only what is on the way is asked for, and the detour tells the rest.
 const ARRIVING: &[Case] = &[
-    (
+    Case(
         ARRIVES,
         Taken::Groups,
         Found::Yes,
@@ -172,14 +161,14 @@ const ARRIVING: &[Case] = &[
         ],
         4,
     ),
-    (
+    Case(
         "<ip1> [x#a] .* [b#y] <ip1> 0 up [x#a, b#y]",
         Taken::Groups,
         Found::Yes,
         &[(1, ASKED_YES), (2, YES), (3, YES)],
         2,
     ),
-    (
+    Case(
         ARRIVES,
         Taken::Routers,
         Found::Yes,
@@ -192,7 +181,7 @@ const ARRIVING: &[Case] = &[
         ],
         5,
     ),
-    (
+    Case(
         "<ip1> [x#a] .* [b#y] <ip1> 0 down [a#b]",
         Taken::Groups,
         Found::Yes,
@@ -203,21 +192,21 @@ const ARRIVING: &[Case] = &[
 
 // A packet that is lost before it is at y: one cable by itself loses it, and all others are known to do no harm.
 const LOST: &[Case] = &[
-    (
+    Case(
         "<ip1> [x#a] [^ .#y]* drop 0",
         Taken::Groups,
         Found::No,
         &[(0, NO), (1, NO), (2, NO), (3, NO), (4, YES)],
         3,
     ),
-    (
+    Case(
         "<ip1> [x#a] [^ .#y]* drop 0 up [b#y]",
         Taken::Groups,
         Found::No,
         &[(0, NO), (1, NO), (2, NO), (3, NO)],
         2,
     ),
-    (
+    Case(
         "<ip1> [x#a] [^ .#y]* drop 0 up [b#y]",
         Taken::Routers,
         Found::No,
@@ -228,21 +217,21 @@ const LOST: &[Case] = &[
 
 // The detour is taken where the link from a to b fails. Where all links but one are known to be up, no more than that one can fail.
 const DETOURS: &[Case] = &[
-    (
+    Case(
         "<ip1> [x#a] [a#c] .* [b#y] <ip1> 0",
         Taken::Groups,
         Found::No,
         &[(0, NO), (1, YES), (2, NO), (3, NO), (4, NO)],
         3,
     ),
-    (
+    Case(
         "<ip1> [x#a] [a#c] .* <ip1> 1 up [x#a, a#b, a#c, c#b]",
         Taken::Groups,
         Found::No,
         &[(4, NO)],
         1,
     ),
-    (
+    Case(
         "<ip1> [x#a] [b#y] <ip1> 2",
         Taken::Groups,
         Found::No,
@@ -253,25 +242,25 @@ const DETOURS: &[Case] = &[
 
 #[test]
 fn a_yes_settles_what_is_off_its_way(rt: HostRuntime) -> Result<(), Fail> {
-    cases_in(&rt, rt.alloc(), &N1, ARRIVING)
+    are_met(&rt, rt.alloc(), &N1, ARRIVING)
 }
 
 #[test]
 fn cables_that_break_something_are_found_one_by_one(rt: HostRuntime) -> Result<(), Fail> {
-    cases_in(&rt, rt.alloc(), &N1, LOST)?;
-    cases_in(&rt, rt.alloc(), &N1, DETOURS)
+    are_met(&rt, rt.alloc(), &N1, LOST)?;
+    are_met(&rt, rt.alloc(), &N1, DETOURS)
 }
 
 // It takes two failures to come to z.
 const TO_Z: &[Case] = &[
-    (
+    Case(
         "<ip1> [x#a] [a#c] .* [b#z] <ip1> 0 down [b#y]",
         Taken::Groups,
         Found::No,
         &[(0, NO), (1, YES), (2, NO), (3, NO), (5, NO)],
         3,
     ),
-    (
+    Case(
         "<ip1> [x#a] [a#c] .* [b#z] <ip1> 1",
         Taken::Groups,
         Found::No,
@@ -285,7 +274,7 @@ const TO_Z: &[Case] = &[
         ],
         6,
     ),
-    (
+    Case(
         "<ip1> [x#a] [a#c] .* [b#z] <ip1> 0 down [b#y]",
         Taken::Routers,
         Found::No,
@@ -295,7 +284,7 @@ const TO_Z: &[Case] = &[
 ];
 
 // What comes back to a takes the link that it needed to have failed.
-const RETURNING: &[Case] = &[(
+const RETURNING: &[Case] = &[Case(
     "<ip1> [x#a] [a#c] [c#a] [a#b] .* <ip1> 5",
     Taken::Groups,
     Found::No,
@@ -305,8 +294,8 @@ const RETURNING: &[Case] = &[(
 
 #[test]
 fn one_risk_group_more_settles_what_takes_two(rt: HostRuntime) -> Result<(), Fail> {
-    cases_in(&rt, rt.alloc(), &N2, TO_Z)?;
-    cases_in(&rt, rt.alloc(), &N3, RETURNING)
+    are_met(&rt, rt.alloc(), &N2, TO_Z)?;
+    are_met(&rt, rt.alloc(), &N3, RETURNING)
 }
 
 const D0: Op = Op::Push(Label(0), Class::Mpls);
@@ -344,7 +333,7 @@ const ROUNDS: Sample = Sample {
 
 // A run that is too long to be shown settles nothing, and is as long while a link off its way is out; without its own link it can't
 // begin.
-const TOO_LONG: &[Case] = &[(
+const TOO_LONG: &[Case] = &[Case(
     "<d4 s1 ip1> [r.o#r]* <s1 ip1> 0",
     Taken::Groups,
     Found::Open,
@@ -354,5 +343,5 @@ const TOO_LONG: &[Case] = &[(
 
 #[test]
 fn no_exact_answer_settles_nothing(rt: HostRuntime) -> Result<(), Fail> {
-    cases_in(&rt, rt.alloc(), &ROUNDS, TOO_LONG)
+    are_met(&rt, rt.alloc(), &ROUNDS, TOO_LONG)
 }

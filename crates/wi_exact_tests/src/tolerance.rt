@@ -11,7 +11,7 @@ use wi_net::Network;
 use wi_quantity::Vector;
 use wi_query::Query;
 use wi_questions::query_of;
-use wi_samples::{N1, N1_FIBER, N2, N3, Sample, network};
+use wi_samples::{N1, N1_FIBER, N2, N3, N6, TestCase, are_met};
 use wi_trace::Answer;
 use wi_world::Verdict;
 
@@ -27,7 +27,8 @@ enum Outcome<'a> {
 }
 
 // A query, the most failures, the most nodes, and the outcome.
-type Case<'a> = (&'a str, u32, u32, Outcome<'a>);
+#[derive(Clone, Copy)]
+struct Case<'a>(&'a str, u32, u32, Outcome<'a>);
 
 fn failed_are(rt: &impl Abort, answer: &Answer, links: &[u32]) {
     match &answer.verdict {
@@ -74,7 +75,7 @@ fn found_is(rt: &impl Abort, found: &Tolerance, outcome: Outcome) {
 
 fn refused_is(rt: &impl Abort, refused: &TolerateRefused, outcome: Outcome) {
     match (refused, outcome) {
-        (TolerateRefused::Exact(k, ExactRefused::NodeLimit { .. }), Outcome::OverLimit(number)) => {
+        (TolerateRefused::Exact(k, ExactRefused::NodeLimit), Outcome::OverLimit(number)) => {
             assert_eq!(rt; *k, number);
         }
         _ => assert!(rt; false),
@@ -94,68 +95,51 @@ fn tells(rt: &impl Abort, alloc: Global, problem: &Problem<'_>, case: &Case) {
     }
 }
 
-fn case_is(rt: &impl Abort, alloc: Global, net: &Network, case: &Case) -> Result<(), Fail> {
-    let query = query_of(alloc, net, case.0)?;
-    let vector = Vector::new(alloc);
-    tells(rt, alloc, &Problem::of(net, &query, &vector), case);
-    drop(vector);
-    drop(query);
-    Ok(())
-}
-
-fn cases_are(rt: &impl Abort, alloc: Global, net: &Network, cases: &[Case]) -> Result<(), Fail> {
-    for case in cases {
-        case_is(rt, alloc, net, case)?;
+impl<R: Abort> TestCase<R> for Case<'_> {
+    fn is_met(&self, rt: &R, alloc: Global, net: &Network) -> Result<(), Fail> {
+        let query = query_of(alloc, net, self.0)?;
+        let vector = Vector::new(alloc);
+        tells(rt, alloc, &Problem::of(net, &query, &vector), self);
+        drop(vector);
+        drop(query);
+        Ok(())
     }
-    Ok(())
-}
-
-fn network_tells(
-    rt: &impl Abort,
-    alloc: Global,
-    sample: &Sample,
-    cases: &[Case],
-) -> Result<(), Fail> {
-    let net = network(alloc, sample)?;
-    let outcome = cases_are(rt, alloc, &net, cases);
-    drop(net);
-    outcome
 }
 
 // Two links have to fail on the way to z; the query's own number isn't used.
 const TO_Z: &[Case] = &[
-    (
+    Case(
         "<ip1> [x#a] [a#c] .* [b#z] <ip1> 0",
         3,
         LIMIT,
         Outcome::Takes(2, &[1, 4]),
     ),
-    (
+    Case(
         "<ip1> [x#a] [a#c] .* [b#z] <ip1> 65535",
         2,
         LIMIT,
         Outcome::Takes(2, &[1, 4]),
     ),
-    (
+    Case(
         "<ip1> [x#a] [a#c] .* [b#z] <ip1> 0",
         1,
         LIMIT,
         Outcome::TakesMore,
     ),
-    (
+    Case(
         "<ip1> [x#a] [a#c] .* [b#z] <ip1> 2",
         0,
         LIMIT,
         Outcome::TakesMore,
     ),
     // One that is known to be down isn't counted, and one that stays up doesn't fail.
-    (
+    Case(
         "<ip1> [x#a] [a#c] .* [b#z] <ip1> 0 down [a#b]",
         65535,
         LIMIT,
         Outcome::Takes(1, &[1, 4]),
     ),
-    (
+    Case(
         "<ip1> [x#a] [a#c] .* [b#z] <ip1> 0 up [a#b]",
         65535,
         LIMIT,
@@ -165,20 +149,20 @@ const TO_Z: &[Case] = &[
 
 // What comes back takes the link that it needed to have failed, however many fail.
 const RETURNING: &[Case] = &[
-    (
+    Case(
         "<ip1> [x#a] [a#c] [c#a] [a#b] .* <ip1> 5",
         5,
         LIMIT,
         Outcome::TakesMore,
     ),
     // With none that may fail there is one node, and with one there are three.
-    (
+    Case(
         "<ip1> [x#a] [a#c] [c#a] [a#b] .* <ip1> 5",
         5,
         2,
         Outcome::OverLimit(1),
     ),
-    (
+    Case(
         "<ip1> [x#a] [a#c] [c#a] [a#b] .* <ip1> 5",
         5,
         0,
@@ -188,13 +172,13 @@ const RETURNING: &[Case] = &[
 
 // Without a failure the packet goes straight on, and with one around.
 const STRAIGHT: &[Case] = &[
-    (
+    Case(
         "<ip1> [x#a] [a#b] [b#y] <ip1> 5",
         5,
         LIMIT,
         Outcome::Takes(0, &[]),
     ),
-    (
+    Case(
         "<ip1> [x#a] [a#c] .* [b#y] <ip1> 0",
         65535,
         LIMIT,
@@ -203,29 +187,51 @@ const STRAIGHT: &[Case] = &[
 ];
 
 // The link to y fails with the one to b.
-const FIBER: &[Case] = &[(
+const FIBER: &[Case] = &[Case(
     "<ip1> [x#a] [a#c] .* [b#y] <ip1> 0",
     65535,
     LIMIT,
     Outcome::TakesMore,
 )];
 
+// The last way out of a is taken once the three before it are down.
+const LAST_WAY: &[Case] = &[
+    Case(
+        "<ip1> [x#a] [a#c] <ip1> 0",
+        65535,
+        LIMIT,
+        Outcome::Takes(3, &[1, 2, 3]),
+    ),
+    Case(
+        "<ip1> [x#a] [a#c] <ip1> 0",
+        3,
+        LIMIT,
+        Outcome::Takes(3, &[1, 2, 3]),
+    ),
+    Case("<ip1> [x#a] [a#c] <ip1> 0", 2, LIMIT, Outcome::TakesMore),
+];
+
 #[test]
 fn two_failures_lead_to_z(rt: HostRuntime) -> Result<(), Fail> {
-    network_tells(&rt, rt.alloc(), &N2, TO_Z)
+    are_met(&rt, rt.alloc(), &N2, TO_Z)
 }
 
 #[test]
 fn no_number_of_failures_lets_it_return(rt: HostRuntime) -> Result<(), Fail> {
-    network_tells(&rt, rt.alloc(), &N3, RETURNING)
+    are_met(&rt, rt.alloc(), &N3, RETURNING)
 }
 
 #[test]
 fn none_or_one_failure_is_enough(rt: HostRuntime) -> Result<(), Fail> {
-    network_tells(&rt, rt.alloc(), &N1, STRAIGHT)
+    are_met(&rt, rt.alloc(), &N1, STRAIGHT)
+}
+
+#[test]
+fn three_failures_lead_to_the_last_way(rt: HostRuntime) -> Result<(), Fail> {
+    are_met(&rt, rt.alloc(), &N6, LAST_WAY)
 }
 
 #[test]
 fn a_risk_group_is_one_failure(rt: HostRuntime) -> Result<(), Fail> {
-    network_tells(&rt, rt.alloc(), &N1_FIBER, FIBER)
+    are_met(&rt, rt.alloc(), &N1_FIBER, FIBER)
 }

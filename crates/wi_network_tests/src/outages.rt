@@ -6,7 +6,7 @@ use std::test::Fail;
 use wi_base::{Listed, NoMemory};
 use wi_net::{Bounds, LinkId, Network, RouterId};
 use wi_outage::{Outage, group_outages, is_survived, router_outages};
-use wi_samples::{BESIDE_Y, N1, N1_FIBER, Sample, network};
+use wi_samples::{BESIDE_Y, N1, N1_FIBER, Sample, TestCase, are_met, network};
 
 // Links that are given as down, and as up.
 type Given<'a> = (&'a [u32], &'a [u32]);
@@ -32,10 +32,11 @@ fn outages_are(rt: &impl Abort, outages: &[Outage], wanted: &[Wanted]) {
     }
 }
 
-// What is given, and the outages that are left.
-type Case<'a> = (Given<'a>, &'a [Wanted<'a>]);
+// What is taken out, what is given, and the outages that are left.
+#[derive(Clone, Copy)]
+struct Case<'a>(Taken, Given<'a>, &'a [Wanted<'a>]);
 
-// What is taken out.
+// Risk groups, or routers.
 #[derive(Clone, Copy)]
 enum Taken {
     Groups,
@@ -54,52 +55,22 @@ fn outages(
     }
 }
 
-fn case_is(
-    rt: &impl Abort,
-    alloc: Global,
-    network: &Network,
-    taken: Taken,
-    case: Case,
-) -> Result<(), Fail> {
-    let (given, wanted) = case;
-    let given = bounds(alloc, 0, given)?;
-    let found = outages(alloc, network, &given, taken);
-    drop(given);
-    let outages = found?;
-    outages_are(rt, outages.as_slice(), wanted);
-    drop(outages);
-    Ok(())
-}
-
-fn cases_are(
-    rt: &impl Abort,
-    alloc: Global,
-    network: &Network,
-    taken: Taken,
-    cases: &[Case],
-) -> Result<(), Fail> {
-    for case in cases {
-        case_is(rt, alloc, network, taken, *case)?;
+impl<R: Abort> TestCase<R> for Case<'_> {
+    fn is_met(&self, rt: &R, alloc: Global, net: &Network) -> Result<(), Fail> {
+        let given = bounds(alloc, 0, self.1)?;
+        let found = outages(alloc, net, &given, self.0);
+        drop(given);
+        let outages = found?;
+        outages_are(rt, outages.as_slice(), self.2);
+        drop(outages);
+        Ok(())
     }
-    Ok(())
-}
-
-fn cases_in(
-    rt: &impl Abort,
-    alloc: Global,
-    sample: &Sample,
-    taken: Taken,
-    cases: &[Case],
-) -> Result<(), Fail> {
-    let network = network(alloc, sample)?;
-    let done = cases_are(rt, alloc, &network, taken, cases);
-    drop(network);
-    done
 }
 
 // Each link is a risk group of its own; one of them is given as down, and one as up.
 const SINGLE: &[Case] = &[
-    (
+    Case(
+        Taken::Groups,
         NOTHING,
         &[
             (None, &[0]),
@@ -109,23 +80,36 @@ const SINGLE: &[Case] = &[
             (None, &[4]),
         ],
     ),
-    ((&[1], &[3]), &[(None, &[0]), (None, &[2]), (None, &[4])]),
+    Case(
+        Taken::Groups,
+        (&[1], &[3]),
+        &[(None, &[0]), (None, &[2]), (None, &[4])],
+    ),
 ];
 
 // The links from a to b and from b to y fail together, so either takes both out.
 const PAIR: &[Case] = &[
-    (
+    Case(
+        Taken::Groups,
         NOTHING,
         &[(None, &[0]), (None, &[1, 4]), (None, &[2]), (None, &[3])],
     ),
-    ((&[4], &[]), &[(None, &[0]), (None, &[2]), (None, &[3])]),
-    ((&[], &[1]), &[(None, &[0]), (None, &[2]), (None, &[3])]),
+    Case(
+        Taken::Groups,
+        (&[4], &[]),
+        &[(None, &[0]), (None, &[2]), (None, &[3])],
+    ),
+    Case(
+        Taken::Groups,
+        (&[], &[1]),
+        &[(None, &[0]), (None, &[2]), (None, &[3])],
+    ),
 ];
 
 #[test]
 fn each_risk_group_is_an_outage_unless_a_link_of_it_is_given(rt: HostRuntime) -> Result<(), Fail> {
-    cases_in(&rt, rt.alloc(), &N1, Taken::Groups, SINGLE)?;
-    cases_in(&rt, rt.alloc(), &N1_FIBER, Taken::Groups, PAIR)
+    are_met(&rt, rt.alloc(), &N1, SINGLE)?;
+    are_met(&rt, rt.alloc(), &N1_FIBER, PAIR)
 }
 
 // All links in one duct.
@@ -152,17 +136,24 @@ const TWO_DUCTS: Sample = Sample {
     ..N1
 };
 
-const WHOLE: &[Case] = &[(NOTHING, &[(None, &[0, 1, 2, 3, 4])]), ((&[], &[2]), &[])];
+const WHOLE: &[Case] = &[
+    Case(Taken::Groups, NOTHING, &[(None, &[0, 1, 2, 3, 4])]),
+    Case(Taken::Groups, (&[], &[2]), &[]),
+];
 
 const BY_TURNS: &[Case] = &[
-    (NOTHING, &[(None, &[0, 3]), (None, &[1, 4]), (None, &[2])]),
-    ((&[3], &[]), &[(None, &[1, 4]), (None, &[2])]),
+    Case(
+        Taken::Groups,
+        NOTHING,
+        &[(None, &[0, 3]), (None, &[1, 4]), (None, &[2])],
+    ),
+    Case(Taken::Groups, (&[3], &[]), &[(None, &[1, 4]), (None, &[2])]),
 ];
 
 #[test]
 fn risk_groups_come_whole_in_the_order_of_their_least_links(rt: HostRuntime) -> Result<(), Fail> {
-    cases_in(&rt, rt.alloc(), &ONE_DUCT, Taken::Groups, WHOLE)?;
-    cases_in(&rt, rt.alloc(), &TWO_DUCTS, Taken::Groups, BY_TURNS)
+    are_met(&rt, rt.alloc(), &ONE_DUCT, WHOLE)?;
+    are_met(&rt, rt.alloc(), &TWO_DUCTS, BY_TURNS)
 }
 
 const X: Option<RouterId> = Some(RouterId(0));
@@ -177,7 +168,8 @@ const Y: Option<RouterId> = Some(RouterId(4));
 
 // The links that leave and reach each router; then with one given as down, and with the first and the last given as up.
 const ROUTERS: &[Case] = &[
-    (
+    Case(
+        Taken::Routers,
         NOTHING,
         &[
             (X, &[0]),
@@ -187,13 +179,18 @@ const ROUTERS: &[Case] = &[
             (Y, &[4]),
         ],
     ),
-    ((&[2], &[]), &[(X, &[0]), (B, &[1, 3, 4]), (Y, &[4])]),
-    ((&[], &[0, 4]), &[(C, &[2, 3])]),
+    Case(
+        Taken::Routers,
+        (&[2], &[]),
+        &[(X, &[0]), (B, &[1, 3, 4]), (Y, &[4])],
+    ),
+    Case(Taken::Routers, (&[], &[0, 4]), &[(C, &[2, 3])]),
 ];
 
 // With a duct that x and c share: each of them takes the other's link out, and a and b take both.
 const TURNED: &[Case] = &[
-    (
+    Case(
+        Taken::Routers,
         NOTHING,
         &[
             (X, &[0, 3]),
@@ -203,15 +200,17 @@ const TURNED: &[Case] = &[
             (Y, &[1, 4]),
         ],
     ),
-    (
+    Case(
+        Taken::Routers,
         (&[], &[2]),
         &[(X, &[0, 3]), (B, &[0, 1, 3, 4]), (Y, &[1, 4])],
     ),
-    ((&[3], &[]), &[(Y, &[1, 4])]),
+    Case(Taken::Routers, (&[3], &[]), &[(Y, &[1, 4])]),
 ];
 
 // The link 5 leaves y and reaches it.
-const LOOPED: &[Case] = &[(
+const LOOPED: &[Case] = &[Case(
+    Taken::Routers,
     NOTHING,
     &[
         (X, &[0]),
@@ -224,9 +223,9 @@ const LOOPED: &[Case] = &[(
 
 #[test]
 fn a_router_takes_out_the_risk_groups_of_all_its_links(rt: HostRuntime) -> Result<(), Fail> {
-    cases_in(&rt, rt.alloc(), &N1, Taken::Routers, ROUTERS)?;
-    cases_in(&rt, rt.alloc(), &TWO_DUCTS, Taken::Routers, TURNED)?;
-    cases_in(&rt, rt.alloc(), &BESIDE_Y, Taken::Routers, LOOPED)
+    are_met(&rt, rt.alloc(), &N1, ROUTERS)?;
+    are_met(&rt, rt.alloc(), &TWO_DUCTS, TURNED)?;
+    are_met(&rt, rt.alloc(), &BESIDE_Y, LOOPED)
 }
 
 // Routers without links: the first of all, and one in the middle.
@@ -235,7 +234,8 @@ const LONELY: Sample = Sample {
     ..N1
 };
 
-const LINKED: &[Case] = &[(
+const LINKED: &[Case] = &[Case(
+    Taken::Routers,
     NOTHING,
     &[
         (Some(RouterId(1)), &[4]),
@@ -248,7 +248,7 @@ const LINKED: &[Case] = &[(
 
 #[test]
 fn routers_with_links_come_in_the_order_of_their_numbers(rt: HostRuntime) -> Result<(), Fail> {
-    cases_in(&rt, rt.alloc(), &LONELY, Taken::Routers, LINKED)
+    are_met(&rt, rt.alloc(), &LONELY, LINKED)
 }
 
 // The way over b, and the one over c.

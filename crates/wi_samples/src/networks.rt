@@ -172,6 +172,20 @@ pub const N5: Sample = Sample {
     ..N1
 };
 
+/// The labels of `N1`. Links 0 to 4: from x to a, three from a to y, and from a to c. At a they are ways out in that order.
+pub const N6: Sample = Sample {
+    routers: &["x", "a", "y", "c"],
+    links: &[
+        X_TO_A,
+        ("a", "y1", "y", "a1", 1, None),
+        ("a", "y2", "y", "a2", 1, None),
+        ("a", "y3", "y", "a3", 1, None),
+        A_TO_C,
+    ],
+    rows: &[(0, 2, &[&[(1, &[])], &[(2, &[])], &[(3, &[])], &[(4, &[])]])],
+    ..N1
+};
+
 /// `N1_FIBER` with link 5 from y to y, of distance 7, and without tables.
 pub const BESIDE_Y: Sample = Sample {
     links: &[

@@ -9,7 +9,7 @@ use std::alloc::Global;
 use wi_labels::{Class, Label};
 use wi_net::{BuildRefused, LinkId, Network, NetworkBuilder};
 
-// Of so many links that are no ways between a and b.
+// The number of the first link from a to b.
 const FIRST_WAY: u32 = 4;
 
 /// Links from x to a, from a to c, from c to a, and from b to y, by the numbers 0 to 3; then so many from a to b. A packet with the label

@@ -3,6 +3,7 @@ use Rattle.std.specs.Prelude.{◌≡◌, ℕ, ◌+◌, ◌-◌, ◌%◌, ◌^◌
 use Rattle.std.specs.List.{All, flat_map}
 use Rattle.std.specs.Option.{option_map_or}
 use Rattle.std.specs.Str.{bytes_eq}
+use Rattle.wi_cert.specs.declared.tree.TheConstants.{NODE_LIMIT}
 use Rattle.wi_cert.specs.declared.shown.Claim.{Claim}
 use Rattle.wi_cert.specs.declared.shown.Claim.TheVariants.{Yes, No, Inconclusive}
 use Rattle.wi_cert.specs.declared.shown.Shown.{Shown}
@@ -57,7 +58,7 @@ IsLeafOf s (kinds.Closed leaf) = IsClosed s leaf
 pub record IsTreeWritable (t : TreeCertificate) : Type 0 where
   pub shown : IsShown t.shown
   pub decided : is_inconclusive t.shown.claim ≡ false
-  pub few : length t.nodes < 10000
+  pub few : length t.nodes < NODE_LIMIT
   pub whole : makes_trees 1 t.nodes ≡ true
   pub leaves : All (IsLeafOf t.shown) t.nodes
 
@@ -112,7 +113,7 @@ leaf_left left due t None leaf = tree_sheet (nodes_left left due) (record t { no
 abbrev pub asked_tree : TreePlace → TreeCertificate → Closed → List ℕ → Option TreeSheet
 asked_tree places.Title t leaf line = option_map (λ dropped. tree_sheet (places.Shown Terms) (record t { shown = record t.shown { dropped = dropped } }) leaf) (titled tree_front line)
 asked_tree (places.Shown place) t leaf line = option_map (λ s. tree_sheet s.0 (record t { shown = s.1 }) leaf) (asked_decided place t.shown line)
-asked_tree places.NodeCount t leaf line = option_and_then (λ n. if can_make n 1 && nat_lt n 10000 then Some (tree_sheet (places.Node n 1) t leaf) else None) (count_after (codes "nodes ") line)
+asked_tree places.NodeCount t leaf line = option_and_then (λ n. if can_make n 1 && nat_lt n NODE_LIMIT then Some (tree_sheet (places.Node n 1) t leaf) else None) (count_after (codes "nodes ") line)
 asked_tree (places.Node left due) t leaf line = option_map (λ s. tree_sheet s.0 (record t { nodes = s.1 }) leaf) (asked_node left due t.nodes line)
 asked_tree (places.Leaf left due place) t leaf line = option_map (λ s. leaf_left left due t s.0 s.1) (asked_closed t.shown place leaf line)
 asked_tree places.End t leaf line = if bytes_eq line (codes "end") then Some (tree_sheet places.Done t leaf) else None

@@ -1,5 +1,7 @@
-//! What holds of the texts of certificates and of tree certificates, whatever runs.
+//! What holds of the texts of certificates and of tree certificates, whatever runs; and the number of a limit, since what is said
+//! by its name holds with any.
 ghost use Rattle.std.specs.Prelude.{◌≡◌, ℕ, true, ◌++◌, List, length, Ok, Err};
+ghost use Rattle.wi_cert.specs.declared.tree.TheConstants.{NODE_LIMIT};
 ghost use Rattle.wi_cert.specs.declared.certificate.Certificate.{Certificate};
 ghost use Rattle.wi_cert.specs.declared.tree.Node.{Node};
 ghost use Rattle.wi_cert.specs.declared.tree.TreeCertificate.{TreeCertificate};
@@ -45,4 +47,9 @@ pub fn a_text_has_one_tree()
 pub fn nodes_can_make_trees()
     ensures some { (count trees : ℕ) → can_make count trees ≡ true → (nodes : List Node) × (length nodes ≡ count) × (makes_trees trees nodes ≡ true) }
     ensures each { (count trees : ℕ) (nodes : List Node) → length nodes ≡ count → makes_trees trees nodes ≡ true → can_make count trees ≡ true }
+{}
+
+/// A tree has so many nodes at most.
+pub fn limits_have_these_numbers()
+    ensures { NODE_LIMIT ≡ 10000 }
 {}

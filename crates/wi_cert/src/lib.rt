@@ -27,8 +27,8 @@ pub use decode_refused::DecodeRefused;
 pub use encode_refused::EncodeRefused;
 pub use feeder::{Feeder, decode};
 pub use laws::{
-    a_text_has_one_certificate, a_text_has_one_tree, bad_lines_are_told, nodes_can_make_trees,
-    pieces_are_bytes, texts_are_read, trees_are_read,
+    a_text_has_one_certificate, a_text_has_one_tree, bad_lines_are_told, limits_have_these_numbers,
+    nodes_can_make_trees, pieces_are_bytes, texts_are_read, trees_are_read,
 };
 pub use row::{Numbers, Row};
 pub use shown::{Claim, Dropped, Shown};

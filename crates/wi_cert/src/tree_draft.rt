@@ -153,9 +153,9 @@ fn node_line_count(node: &Node) -> u128
 
 // How many lines the nodes have.
 fn nodes_line_count(nodes: &[Node]) -> u128
-    requires { length nodes.now < 10000 }
+    requires { length nodes.now < NODE_LIMIT }
     ensures count { result ≡ nodes_line_count nodes.now }
-    ensures small { result ≤ 10000 * 2 ^ 66 }
+    ensures small { result ≤ NODE_LIMIT * 2 ^ 66 }
 {
     let mut count = 0;
     for node in nodes {
@@ -251,7 +251,7 @@ fn can_make(nodes: u64, trees: u64) -> bool
 }
 
 fn take_node_count(line: &[u8], numbers: &mut Vec<u64>) -> Result<Option<TreePlace>, NoMemory>
-    ensures { IfOk result (λ found. found ≡ option_and_then (λ n. if can_make n 1 && nat_lt n 10000 then Some (TreePlace.Node n 1) else None) (count_after (codes "nodes ") line.now)) }
+    ensures { IfOk result (λ found. found ≡ option_and_then (λ n. if can_make n 1 && nat_lt n NODE_LIMIT then Some (TreePlace.Node n 1) else None) (count_after (codes "nodes ") line.now)) }
 {
     let Some(count) = count_after(b"nodes ", line, numbers)? else {
         return Ok(None);
@@ -270,7 +270,7 @@ fn take_node(
     line: &[u8],
     numbers: &mut Vec<u64>,
 ) -> Result<Option<TreePlace>, NoMemory>
-    requires { due < 10000 }
+    requires { due < NODE_LIMIT }
     ensures ok { IfOk result (λ found. option_map (λ next. (next, nodes.new.items)) found ≡ asked_node left due nodes.old.items line.now) }
     ensures kept { Keeps result nodes.old.items nodes.new.items }
 {

@@ -3,6 +3,7 @@ use Rattle.std.specs.Prelude.{ℕ, ◌≤◌, List, None, IfSome}
 use Rattle.wi_world.specs.Runs.{effort_of}
 use Rattle.wi_trace.specs.declared.answer.Answer.{Answer}
 use Rattle.wi_build.specs.Problems.{Problem}
+use Rattle.wi_decide.specs.declared.searching.TheConstants.{EFFORT_LIMIT}
 use Rattle.wi_decide.specs.Searches.{IsOverflowingBelow, AllFitBelow, IsTooLongBelow}
 
 -- a summary of the least closed heads that doesn't fit and that no run to the goal is lighter than; none of these is lighter
@@ -22,4 +23,4 @@ IsTooLong problem n = IsTooLongBelow problem None n
 -- neither refusal is due
 pub record IsUnrefused (problem : Problem) (a : Answer) : Type 0 where
   pub fits : AllFit problem
-  pub short : IfSome a.run (λ run. effort_of problem.net run ≤ 4096)
+  pub short : IfSome a.run (λ run. effort_of problem.net run ≤ EFFORT_LIMIT)

@@ -20,6 +20,7 @@ use Rattle.wi_cert.specs.Closed.{IsClosed, is_lighter}
 use Rattle.wi_accept.specs.Causes.{bound_of}
 use Rattle.wi_accept.specs.Makers.{AreLeast}
 use Rattle.wi_trees.specs.Trees.{IsBelow, NoRunBelow}
+use Rattle.wi_decide.specs.declared.searching.TheConstants.{EFFORT_LIMIT}
 use Rattle.wi_decide.specs.declared.searching.LeastRun.{LeastRun}
 use Rattle.wi_decide.specs.declared.searching.Evidence.{Evidence}
 use Rattle.wi_decide.specs.declared.refused.SearchRefused.{SearchRefused}
@@ -49,13 +50,13 @@ pub record IsTooLongBelow (problem : Problem) (cut : Option (List ℕ)) (n : ℕ
   pub w : List ℕ
   pub least : IsLeastBelow problem cut w run
   pub effort : effort_of problem.net run ≡ n
-  pub long : 4096 < n
+  pub long : EFFORT_LIMIT < n
   pub fits : AllFitBelow problem cut
 
 -- a least run below the cut whose effort is within the limit, or that there is none
 abbrev pub IsFound : Problem → Option (List ℕ) → Option LeastRun → Type 0
 IsFound problem cut None = NoRunBelow problem.net (asks problem) (weighs problem) cut problem.bounds
-IsFound problem cut (Some found) = IsLeastBelow problem cut (components found.weight) found.run × (effort_of problem.net found.run ≤ 4096)
+IsFound problem cut (Some found) = IsLeastBelow problem cut (components found.weight) found.run × (effort_of problem.net found.run ≤ EFFORT_LIMIT)
 
 -- why it isn't known
 abbrev pub IsSearchRefused : Problem → Option (List ℕ) → SearchRefused → Type 0

@@ -11,7 +11,7 @@ mod spelling;
 
 pub use certificate::shown_of;
 pub use decision::decide;
-pub use laws::overflows_show;
+pub use laws::{limits_have_these_numbers, overflows_show};
 pub use refused::SearchRefused;
-pub use searching::{Evidence, LeastRun, Searched, search};
+pub use searching::{EFFORT_LIMIT, Evidence, LeastRun, Searched, search};
 pub use spelling::run_of;

@@ -30,7 +30,7 @@ use wi_witness::{UnfoldRefused, unfold};
 use wi_world::Run;
 
 /// The most rules that a goal run may have whose run is shown.
-const EFFORT_LIMIT: u64 = 4_096;
+pub const EFFORT_LIMIT: u64 = 4_096;
 
 /// A least matching moving run: what it weighs, and the run.
 #[derive(Drop)]
@@ -159,7 +159,7 @@ fn least_run(
     requires table { (cut : Option (Pair Terms Effort)) × HasTable system.now cut table.now }
     requires reached { IsSome table.now.best }
     ensures run { IfOk result (λ run. IfSome table.now.best (λ w. IsAnswering system.now (components w) run)) }
-    ensures short { OnOk result (IfSome table.now.best (λ w. w.second.count ≤ 4096)) }
+    ensures short { OnOk result (IfSome table.now.best (λ w. w.second.count ≤ EFFORT_LIMIT)) }
     ensures refused { IfErr result (λ refused. IfSome table.now.best (λ w. IsNotShown w.second.count refused)) }
 {
     system.keeps();
@@ -178,7 +178,7 @@ fn goal_run(alloc: Global, table: &Table<Weight>) -> Result<Vec<RuleId>, SearchR
     requires table { (problem : Problem) × (cut : Option (Pair Terms Effort)) × HasTable problem cut table.now }
     requires reached { IsSome table.now.best }
     ensures run { IfOk result (λ ids. (problem : Problem) (cut : Option (Pair Terms Effort)) → HasTable problem cut table.now → IfSome table.now.best (λ w. IsNamedRun scale components (rules_by (encoding_of problem)) 0 0 1 ids.items (components w))) }
-    ensures short { OnOk result (IfSome table.now.best (λ w. w.second.count ≤ 4096)) }
+    ensures short { OnOk result (IfSome table.now.best (λ w. w.second.count ≤ EFFORT_LIMIT)) }
     ensures refused { IfErr result (λ refused. IfSome table.now.best (λ w. IsNotShown w.second.count refused)) }
 {
     match unfold(alloc, table, EFFORT_LIMIT) {

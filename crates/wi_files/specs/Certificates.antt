@@ -7,6 +7,7 @@ use Rattle.wi_cert.specs.Text.{IsText, closed_text}
 use Rattle.wi_cert.specs.Trees.{IsTreeText, tree_text}
 use Rattle.wi_outcome.specs.declared.refusal.Refusal.{Refusal}
 use Rattle.wi_outcome.specs.declared.refusal.Refusal.TheVariants.{BadLine, CannotRead, CannotWrite, CannotWriteBelow, LargeCertificate, Memory, NoMemoryBelow, NotWritten, TreeNotWritten}
+use Rattle.wi_files.specs.declared.certificate_file.TheConstants.{READ_LIMIT, WRITTEN_LIMIT}
 use Rattle.wi_files.specs.Shelves.{FetchFailed, IsCalm, StoreFailed, below_name}
 
 -- ---- stored
@@ -17,12 +18,12 @@ IsNamed file = (name : List ℕ) × (file ≡ Some name)
 -- the certificate isn't too long to be written, and its text stands under the name, if there is one
 abbrev pub IsKept : Option (List ℕ) → ShelfSeen → Certificate → Type 0
 IsKept None shelf c = Unit {0}
-IsKept (Some name) shelf c = (bytes : List ℕ) × IsText c bytes × (length (closed_text c) ≤ 268000000) × (shelf.told ≡ true → shelf.file name ≡ Some bytes)
+IsKept (Some name) shelf c = (bytes : List ℕ) × IsText c bytes × (length (closed_text c) ≤ WRITTEN_LIMIT) × (shelf.told ≡ true → shelf.file name ≡ Some bytes)
 
 -- it is too long, or isn't and the call that was to store it failed
 abbrev pub FromKeeping : ShelfSeen → ShelfSeen → Option (List ℕ) → Certificate → Refusal → Type 0
-FromKeeping old new file c NotWritten = IsCalm old new × IsNamed file × (268000000 < length (closed_text c))
-FromKeeping old new file c (CannotWrite named said) = (file ≡ Some named.now) × (length (closed_text c) ≤ 268000000) × StoreFailed said named.now old new
+FromKeeping old new file c NotWritten = IsCalm old new × IsNamed file × (WRITTEN_LIMIT < length (closed_text c))
+FromKeeping old new file c (CannotWrite named said) = (file ≡ Some named.now) × (length (closed_text c) ≤ WRITTEN_LIMIT) × StoreFailed said named.now old new
 FromKeeping old new file c Memory = IsCalm old new
 FromKeeping old new file c refusal = ⊥
 
@@ -30,11 +31,11 @@ FromKeeping old new file c refusal = ⊥
 -- the tree's text stands under the name, if there is one
 abbrev pub IsTreeStored : Option (List ℕ) → ShelfSeen → TreeCertificate → Type 0
 IsTreeStored None shelf tree = Unit {0}
-IsTreeStored (Some name) shelf tree = (bytes : List ℕ) × IsTreeText tree bytes × (length bytes ≤ 268435456) × (shelf.told ≡ true → shelf.file name ≡ Some bytes)
+IsTreeStored (Some name) shelf tree = (bytes : List ℕ) × IsTreeText tree bytes × (length bytes ≤ READ_LIMIT) × (shelf.told ≡ true → shelf.file name ≡ Some bytes)
 
 -- a tree is too large to be written
 abbrev pub IsLarge : TreeCertificate → Type 0
-IsLarge tree = 268435456 < length (tree_text tree)
+IsLarge tree = READ_LIMIT < length (tree_text tree)
 
 -- the tree is too large, or isn't and the call that was to store it failed
 abbrev pub FromKeepingTree : ShelfSeen → ShelfSeen → Option (List ℕ) → TreeCertificate → Refusal → Type 0
@@ -74,12 +75,12 @@ FromKeepingTrees old new file first second refusal = ⊥
 -- bytes are the file's, if the shelf tells it, and they aren't too many
 pub record IsCertificateFile (shelf : ShelfSeen) (name bytes : List ℕ) : Type 0 where
   pub held : shelf.told ≡ true → shelf.file name ≡ Some bytes
-  pub short : length bytes ≤ 268435456
+  pub short : length bytes ≤ READ_LIMIT
 
 -- a file is the cause: it can't be read, is too large, or has a bad line
 abbrev pub FromLines : (List ℕ → ℕ → Type 0) → ShelfSeen → ShelfSeen → List ℕ → Refusal → Type 0
 FromLines IsBad old new name (CannotRead said) = FetchFailed said name old new
-FromLines IsBad old new name LargeCertificate = IsCalm old new × (old.told ≡ true → IsLonger (old.file name) 268435456)
+FromLines IsBad old new name LargeCertificate = IsCalm old new × (old.told ≡ true → IsLonger (old.file name) READ_LIMIT)
 FromLines IsBad old new name (BadLine n) = IsCalm old new × ((bytes : List ℕ) × IsCertificateFile old name bytes × IsBad bytes n)
 FromLines IsBad old new name Memory = IsCalm old new
 FromLines IsBad old new name refusal = ⊥

@@ -14,6 +14,7 @@ use Rattle.wi_policy.specs.declared.policy.PoliciesRefused.TheVariants as polici
 use Rattle.wi_policy.specs.Policies.{HasNoPolicies, HasPolicies}
 use Rattle.wi_report.specs.PolicyFaults.{policies_fault_text}
 use Rattle.wi_report.specs.QueryFaults.{given_fault_text}
+use Rattle.wi_files.specs.declared.fetch.TheConstants.{LINES_LIMIT}
 use Rattle.wi_outcome.specs.declared.refusal.Refusal.{Refusal}
 use Rattle.wi_outcome.specs.declared.refusal.Refusal.TheVariants.{CannotRead, Given as BadGiven, LongPolicies, Memory, Policies as BadPolicies}
 use Rattle.wi_files.specs.Networks.{FromNetwork, HoldsNetwork}
@@ -23,7 +24,7 @@ use Rattle.wi_files.specs.Shelves.{FetchFailed, IsCalm}
 pub record HoldsPolicies (shelf : ShelfSeen) (name : List ℕ) (net : Net) (given : Bounds) (policies : List Policy) : Type 0 where
   pub bytes : List ℕ
   pub held : shelf.told ≡ true → shelf.file name ≡ Some bytes
-  pub short : length bytes ≤ 1048576
+  pub short : length bytes ≤ LINES_LIMIT
   pub has : HasPolicies net given bytes policies
   pub some : 0 < length policies
 
@@ -57,9 +58,9 @@ pub record HavePoliciesFault (net : Net) (given : Bounds) (bytes said : List ℕ
 -- the file of policies is the cause: over the limit it is told so, whatever its lines are
 abbrev pub FromPoliciesFile : ShelfSeen → ShelfSeen → Net → Bounds → List ℕ → Refusal → Type 0
 FromPoliciesFile old new net given name (CannotRead said) = FetchFailed said name old new
-FromPoliciesFile old new net given name LongPolicies = IsCalm old new × (old.told ≡ true → IsLonger (old.file name) 1048576)
+FromPoliciesFile old new net given name LongPolicies = IsCalm old new × (old.told ≡ true → IsLonger (old.file name) LINES_LIMIT)
 FromPoliciesFile old new net given name (BadPolicies said) =
-    IsCalm old new × ((bytes : List ℕ) × (old.told ≡ true → old.file name ≡ Some bytes) × (length bytes ≤ 1048576) × HavePoliciesFault net given bytes said)
+    IsCalm old new × ((bytes : List ℕ) × (old.told ≡ true → old.file name ≡ Some bytes) × (length bytes ≤ LINES_LIMIT) × HavePoliciesFault net given bytes said)
 FromPoliciesFile old new net given name Memory = IsCalm old new
 FromPoliciesFile old new net given name refusal = ⊥
 

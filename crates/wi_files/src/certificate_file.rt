@@ -16,7 +16,7 @@ use wi_cert::{Certificate, DecodeRefused, EncodeRefused, Feeder, encode_within};
 use wi_outcome::{Refusal, cannot_read};
 
 /// The most bytes that a certificate's lines from `heads` on have where it is written.
-const WRITTEN_LIMIT: usize = 268_000_000;
+pub const WRITTEN_LIMIT: usize = 268_000_000;
 
 /// The most bytes of a certificate or a tree that is read.
 pub const READ_LIMIT: u64 = 268_435_456;

@@ -3,14 +3,16 @@
 
 mod certificate_file;
 mod fetch;
+mod laws;
 mod policies_file;
 mod store;
 mod texts;
 mod tree_file;
 mod trees_file;
 
-pub use certificate_file::{fetch_certificate, store_certificate};
+pub use certificate_file::{READ_LIMIT, WRITTEN_LIMIT, fetch_certificate, store_certificate};
 pub use fetch::{LINES_LIMIT, bytes_within, network, network_bytes};
+pub use laws::limits_have_these_numbers;
 pub use policies_file::{Policies, fetch_policies};
 pub use texts::{Asked, read_texts};
 pub use tree_file::{fetch_tree, store_tree};

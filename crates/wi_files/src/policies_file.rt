@@ -115,7 +115,7 @@ fn policies_bytes<'a, S: Shelf>(
     ensures told { (S.seen shelf.new).told ≡ (S.seen shelf.old).told }
     ensures files { AllStand (S.seen shelf.old) (S.seen shelf.new) }
     ensures calm { IfOk result (λ _. IsCalm (S.seen shelf.old) (S.seen shelf.new)) }
-    ensures short { IfOk result (λ bytes. length bytes.items ≤ 1048576) }
+    ensures short { IfOk result (λ bytes. length bytes.items ≤ LINES_LIMIT) }
     ensures found { (S.seen shelf.old).told ≡ true → IfOk result (λ bytes. (S.seen shelf.old).file name.now ≡ Some bytes.items) }
     ensures refused { (net : Net) (given : Bounds) → IfErr result (λ refusal. FromPoliciesFile (S.seen shelf.old) (S.seen shelf.new) net given name.now refusal) }
 {

@@ -4,6 +4,7 @@ use Rattle.wi_base.specs.Shelf.{ShelfSeen}
 use Rattle.wi_net.specs.declared.parts.LinkId.{LinkId}
 use Rattle.wi_net.specs.Net.{Net}
 use Rattle.wi_net.specs.Network.{IsNetwork}
+use Rattle.wi_netjson.specs.declared.file.TheConstants.{NETWORK_LIMIT}
 use Rattle.wi_netjson.specs.File.{network_of}
 use Rattle.wi_plan.specs.declared.plan.Bypass.{Bypass}
 use Rattle.wi_plan.specs.declared.plan.Plan.{Plan}
@@ -46,7 +47,7 @@ pub record IsBypassing (bytes text : List ℕ) (status : ℕ) : Type 0 where
   pub drafted : IsDrafted bytes net plan
   pub found_is : AreFound net (wanting plan) found
   pub text_is : text ≡ printed_plan net (with_found plan found)
-  pub short : length text ≤ 67108864
+  pub short : length text ≤ NETWORK_LIMIT
   pub again : IsPlanned text net (with_found plan found)
   pub status_is : status ≡ plan_status (left_unprotected net (with_found plan found))
   pub survives : status ≡ 0 → SurvivesEachGroup net (with_found plan found)
@@ -59,7 +60,7 @@ IsBypassed shelf name text status = (bytes : List ℕ) × (shelf.told ≡ true �
 abbrev pub FromDraft : List ℕ → Refusal → Type 0
 FromDraft bytes (BadPlan refused) = (net : Net) × (network_of bytes ≡ Ok net) × (refused ≡ plan.Memory → ⊥) × (draft_in net bytes ≡ Err refused)
 FromDraft bytes LargeNetwork =
-    (net : Net) × (p : Plan) × (found : List Bypass) × IsDrafted bytes net p × AreFound net (wanting p) found × (67108864 < length (printed_plan net (with_found p found)))
+    (net : Net) × (p : Plan) × (found : List Bypass) × IsDrafted bytes net p × AreFound net (wanting p) found × (NETWORK_LIMIT < length (printed_plan net (with_found p found)))
 FromDraft bytes Memory = Unit {0}
 FromDraft bytes refusal = ⊥
 

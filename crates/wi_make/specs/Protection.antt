@@ -3,6 +3,7 @@ use Rattle.std.specs.Prelude.{◌≡◌, ◌⊎◌, ◌<◌, ◌≤◌, ℕ, tru
 use Rattle.wi_base.specs.Shelf.{ShelfSeen}
 use Rattle.wi_net.specs.Net.{Net}
 use Rattle.wi_net.specs.Network.{IsNetwork}
+use Rattle.wi_netjson.specs.declared.file.TheConstants.{NETWORK_LIMIT}
 use Rattle.wi_netjson.specs.File.{network_of}
 use Rattle.wi_netjson.specs.Written.{text_of}
 use Rattle.wi_plan.specs.declared.plan.Plan.{Plan}
@@ -35,9 +36,9 @@ pub record IsProtecting (bytes text : List ℕ) : Type 0 where
   pub faultless : fault_of net plan ≡ None
   pub paths : AreProtected net plan
   pub names : AreNamed net plan
-  pub short : length (text_of (protected net plan)) ≤ 67108864
+  pub short : length (text_of (protected net plan)) ≤ NETWORK_LIMIT
   pub text_is : text ≡ text_of (protected net plan) ++ codes "\n"
-  pub again : length text ≤ 67108864 → network_of text ≡ Ok (protected net plan)
+  pub again : length text ≤ NETWORK_LIMIT → network_of text ≡ Ok (protected net plan)
 
 -- the same of the file that the shelf holds under a name
 abbrev pub IsProtected : ShelfSeen → List ℕ → List ℕ → Type 0
@@ -47,7 +48,7 @@ IsProtected shelf name text = (bytes : List ℕ) × (shelf.told ≡ true → she
 abbrev pub FromPlan : List ℕ → Refusal → Type 0
 FromPlan bytes (BadPlan refused) = (net : Net) × (network_of bytes ≡ Ok net) × (refused ≡ plan.Memory → ⊥) × (plan_in net bytes ≡ Err refused)
 FromPlan bytes (Unprotected refused) = (net : Net) × (p : Plan) × IsPlanned bytes net p × (refused ≡ protect.Memory → ⊥) × (fault_of net p ≡ Some refused)
-FromPlan bytes LargeNetwork = (net : Net) × (p : Plan) × IsPlanned bytes net p × (fault_of net p ≡ None) × (67108864 < length (text_of (protected net p)))
+FromPlan bytes LargeNetwork = (net : Net) × (p : Plan) × IsPlanned bytes net p × (fault_of net p ≡ None) × (NETWORK_LIMIT < length (text_of (protected net p)))
 FromPlan bytes Memory = Unit {0}
 FromPlan bytes refusal = ⊥
 

@@ -11,6 +11,7 @@ use Rattle.wi_script.specs.Plays.{begin, states_of, IsNotPlayed}
 use Rattle.wi_report.specs.States.{states_shown}
 use Rattle.wi_outcome.specs.declared.refusal.Refusal.{Refusal}
 use Rattle.wi_outcome.specs.declared.refusal.Refusal.TheVariants.{CannotRead, LongScript, Memory, Script as BadScript}
+use Rattle.wi_files.specs.declared.fetch.TheConstants.{LINES_LIMIT}
 use Rattle.wi_files.specs.Networks.{FromNetwork, HoldsNetwork}
 use Rattle.wi_files.specs.Shelves.{FetchFailed, IsCalm}
 
@@ -18,7 +19,7 @@ use Rattle.wi_files.specs.Shelves.{FetchFailed, IsCalm}
 -- groups failed
 pub record IsPlay (net : Net) (k : ℕ) (bytes text : List ℕ) : Type 0 where
   pub network : IsNetwork net
-  pub short : length bytes ≤ 1048576
+  pub short : length bytes ≤ LINES_LIMIT
   pub script : Script
   pub reads : IsScript net bytes script
   pub states : List State
@@ -37,9 +38,9 @@ IsBadScript net k bytes refused = IsNoScript net bytes refused ⊎ ((script : Sc
 -- the script's file is the cause: over the limit it is told so, whatever its lines are
 abbrev pub FromScript : ShelfSeen → ShelfSeen → Net → List ℕ → ℕ → Refusal → Type 0
 FromScript old new net name k (CannotRead said) = FetchFailed said name old new
-FromScript old new net name k LongScript = IsCalm old new × (old.told ≡ true → IsLonger (old.file name) 1048576)
+FromScript old new net name k LongScript = IsCalm old new × (old.told ≡ true → IsLonger (old.file name) LINES_LIMIT)
 FromScript old new net name k (BadScript refused) =
-    IsCalm old new × ((bytes : List ℕ) × (old.told ≡ true → old.file name ≡ Some bytes) × (length bytes ≤ 1048576) × IsBadScript net k bytes refused)
+    IsCalm old new × ((bytes : List ℕ) × (old.told ≡ true → old.file name ≡ Some bytes) × (length bytes ≤ LINES_LIMIT) × IsBadScript net k bytes refused)
 FromScript old new net name k Memory = IsCalm old new
 FromScript old new net name k refusal = ⊥
 

@@ -63,7 +63,7 @@ fn script_bytes<'a, S: Shelf>(
     ensures told { (S.seen shelf.new).told ≡ (S.seen shelf.old).told }
     ensures files { AllStand (S.seen shelf.old) (S.seen shelf.new) }
     ensures calm { IfOk result (λ _. IsCalm (S.seen shelf.old) (S.seen shelf.new)) }
-    ensures short { IfOk result (λ bytes. length bytes.items ≤ 1048576) }
+    ensures short { IfOk result (λ bytes. length bytes.items ≤ LINES_LIMIT) }
     ensures found { (S.seen shelf.old).told ≡ true → IfOk result (λ bytes. (S.seen shelf.old).file name.now ≡ Some bytes.items) }
     ensures refused { (net : Net) (k : ℕ) → IfErr result (λ refusal. FromScript (S.seen shelf.old) (S.seen shelf.new) net name.now k refusal) }
 {
@@ -75,7 +75,7 @@ fn script_bytes<'a, S: Shelf>(
 
 // The states, for the bytes of a script.
 fn played<'a>(alloc: Global, net: &Network, bytes: &[u8], k: u32) -> Result<Printed, Refusal<'a>>
-    requires { length bytes.now ≤ 1048576 }
+    requires { length bytes.now ≤ LINES_LIMIT }
     ensures status { IfOk result (λ printed. printed.status ≡ 0) }
     ensures played { IfOk result (λ printed. IsPlay net.now k bytes.now printed.text) }
     ensures refused { IfErr result (λ refusal. FromBytes net.now k bytes.now refusal) }

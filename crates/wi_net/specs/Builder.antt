@@ -7,6 +7,7 @@ use Rattle.wi_net.specs.declared.refused.BuildRefused.{BuildRefused}
 use Rattle.wi_net.specs.declared.refused.BuildRefused.TheVariants.{Memory, Repeated, Unknown, Taken, EmptyGroup, Limit, BadName}
 use Rattle.wi_net.specs.declared.refused.Part.TheVariants as part
 use Rattle.wi_net.specs.declared.refused.Limited.TheVariants as limited
+use Rattle.wi_net.specs.declared.limits.TheConstants.{LABEL_LIMIT, LINK_LIMIT, MEMBER_LIMIT, OPERATION_LIMIT, ROUTER_LIMIT, ROW_LIMIT}
 use Rattle.wi_net.specs.declared.parts.RouterId.{RouterId}
 use Rattle.wi_net.specs.declared.parts.LinkId.{LinkId}
 use Rattle.wi_net.specs.declared.parts.Member.{Member}
@@ -52,7 +53,7 @@ with_router draft name = record draft { net = record draft.net { routers = draft
 
 unfoldable pub add_router : Draft → List ℕ → Result Draft BuildRefused
 add_router draft name = do
-  _ ← rule (Limit limited.Routers 10000) (nat_lt (length draft.net.routers) 10000)
+  _ ← rule (Limit limited.Routers ROUTER_LIMIT) (nat_lt (length draft.net.routers) ROUTER_LIMIT)
   _ ← rule (BadName part.Name) (is_name name)
   _ ← rule Repeated (is_none (place draft.net.routers name))
   Ok (with_router draft name)
@@ -63,7 +64,7 @@ with_label draft class name = record draft { net = record draft.net { labels = d
 
 unfoldable pub add_label : Draft → Class → List ℕ → Result Draft BuildRefused
 add_label draft class name = do
-  _ ← rule (Limit limited.Labels 20000) (nat_lt (length draft.net.labels) 20000)
+  _ ← rule (Limit limited.Labels LABEL_LIMIT) (nat_lt (length draft.net.labels) LABEL_LIMIT)
   _ ← rule (BadName part.Name) (is_name name)
   _ ← rule Repeated (is_none (place draft.net.labels name))
   Ok (with_label draft class name)
@@ -103,7 +104,7 @@ is_group_name (Some group) = is_name group
 -- the routers of a new link, or the first rule that it breaks
 unfoldable pub link_ends : Draft → List ℕ → List ℕ → List ℕ → List ℕ → Option (List ℕ) → Result (RouterId × RouterId) BuildRefused
 link_ends draft from out to into group = do
-  _ ← rule (Limit limited.Links 20000) (nat_lt (length draft.net.links) 20000)
+  _ ← rule (Limit limited.Links LINK_LIMIT) (nat_lt (length draft.net.links) LINK_LIMIT)
   _ ← rule (BadName part.Group) (is_group_name group)
   _ ← rule (BadName part.Out) (is_name out)
   _ ← rule (BadName part.In) (is_name into)
@@ -121,9 +122,9 @@ add_link draft from out to into distance group = do
 -- the first rule that a member breaks, where so many stand before it; and how many there are with it
 unfoldable pub member_rules : Net → RouterId → ℕ → Member → Result ℕ BuildRefused
 member_rules net router so_far m = do
-  _ ← rule (Limit limited.Members 400000) (nat_lt so_far 400000)
+  _ ← rule (Limit limited.Members MEMBER_LIMIT) (nat_lt so_far MEMBER_LIMIT)
   _ ← rule (Unknown part.Out) (leaves net router m.link)
-  _ ← rule (Limit limited.Operations 8) (nat_le (length m.ops) 8)
+  _ ← rule (Limit limited.Operations OPERATION_LIMIT) (nat_le (length m.ops) OPERATION_LIMIT)
   _ ← rule (Unknown part.Name) (list_all (op_known net) m.ops)
   Ok (so_far + 1)
 
@@ -147,7 +148,7 @@ with_row draft row = record draft { net = record draft.net { rows = draft.net.ro
 
 unfoldable pub add_table : Draft → LinkId → Label → List (List Member) → Result Draft BuildRefused
 add_table draft link label groups = do
-  _ ← rule (Limit limited.Rows 200000) (nat_lt (length draft.net.rows) 200000)
+  _ ← rule (Limit limited.Rows ROW_LIMIT) (nat_lt (length draft.net.rows) ROW_LIMIT)
   l ← found_or (Unknown part.In) (slice_get draft.net.links link.0)
   _ ← rule (Unknown part.Name) (nat_lt label.0 (length draft.net.labels))
   _ ← rule Repeated (is_none (position (is_row link label) draft.net.rows))

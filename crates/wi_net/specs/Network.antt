@@ -6,6 +6,7 @@ use Rattle.wi_labels.specs.declared.label.Class.{Class}
 use Rattle.wi_labels.specs.declared.label.Class.TheVariants.{Mpls, Smpls, Ip}
 use Rattle.wi_labels.specs.declared.ops.Op.{Op}
 use Rattle.wi_labels.specs.declared.ops.Op.TheVariants.{Swap, Push, Pop}
+use Rattle.wi_net.specs.declared.limits.TheConstants.{LABEL_LIMIT, LINK_LIMIT, MEMBER_LIMIT, OPERATION_LIMIT, ROUTER_LIMIT, ROW_LIMIT}
 use Rattle.wi_net.specs.declared.parts.RouterId.{RouterId}
 use Rattle.wi_net.specs.declared.parts.LinkId.{LinkId}
 use Rattle.wi_net.specs.declared.parts.Link.{Link}
@@ -41,7 +42,7 @@ leaves net router e = option_map_or (λ l. l.from.0 == router.0) (slice_get net.
 
 -- a member that a table of a router may have
 abbrev pub is_member_at : Net → RouterId → Member → Bool
-is_member_at net router m = leaves net router m.link && (nat_le (length m.ops) 8 && list_all (op_known net) m.ops)
+is_member_at net router m = leaves net router m.link && (nat_le (length m.ops) OPERATION_LIMIT && list_all (op_known net) m.ops)
 
 -- such members, and at least one
 abbrev pub is_group_at : Net → RouterId → List Member → Bool
@@ -105,14 +106,14 @@ pub record IsNetwork (net : Net) : Type 0 where
   -- a link and a label have at most one entry
   pub rows_apart : are_rows_apart net.rows ≡ true
   -- the limits of the format: a router's number fits in 32 bits
-  pub few_routers : length net.routers ≤ 10000
+  pub few_routers : length net.routers ≤ ROUTER_LIMIT
   -- and so does a label's
-  pub few_labels : length net.labels ≤ 20000
+  pub few_labels : length net.labels ≤ LABEL_LIMIT
   -- and a link's
-  pub few_links : length net.links ≤ 20000
+  pub few_links : length net.links ≤ LINK_LIMIT
   -- a link names two, so these are bounded with the links
   pub few_interfaces : length net.interfaces ≤ 2 * length net.links
   -- a row's number fits in 32 bits
-  pub few_rows : length net.rows ≤ 200000
+  pub few_rows : length net.rows ≤ ROW_LIMIT
   -- a member's number over all rows fits in 32 bits
-  pub few_members : row_members net.rows ≤ 400000
+  pub few_members : row_members net.rows ≤ MEMBER_LIMIT

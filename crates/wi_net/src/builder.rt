@@ -11,6 +11,7 @@ ghost use Rattle.wi_net.specs.private.Network.{groups_of};
 ghost use Rattle.wi_net.specs.Builder.{empty, links_alone, add_router, add_label, link_ends, add_link, add_table, first_in, named_with, firsts_with, with_row, is_group_name, Gives};
 ghost use Rattle.wi_net.specs.private.Builder.{IsDraft};
 
+use crate::limits::{LABEL_LIMIT, LINK_LIMIT, MEMBER_LIMIT, ROUTER_LIMIT, ROW_LIMIT};
 use crate::links::Links;
 use crate::names::Names;
 use crate::network::Network;
@@ -137,8 +138,8 @@ impl NetworkBuilder {
         ensures err { OnErr result (self.new ≡ self.old) }
     {
         let number = self.routers.len();
-        if number >= 10000 {
-            return Err(BuildRefused::Limit(Limited::Routers, 10000));
+        if number >= ROUTER_LIMIT as usize {
+            return Err(BuildRefused::Limit(Limited::Routers, ROUTER_LIMIT));
         }
         if !is_name(name) {
             return Err(BuildRefused::BadName(Part::Name));
@@ -160,8 +161,8 @@ impl NetworkBuilder {
         ensures err { OnErr result (self.new ≡ self.old) }
     {
         let number = self.labels.len();
-        if number >= 20000 {
-            return Err(BuildRefused::Limit(Limited::Labels, 20000));
+        if number >= LABEL_LIMIT as usize {
+            return Err(BuildRefused::Limit(Limited::Labels, LABEL_LIMIT));
         }
         if !is_name(name) {
             return Err(BuildRefused::BadName(Part::Name));
@@ -188,10 +189,10 @@ impl NetworkBuilder {
         ensures answer { Gives (λ ends. ends) result (link_ends self.now from.now out_if.now to.now in_if.now (option_map (λ s. s.now) group.entry)) }
         ensures free_out { IfOk result (λ ends. out_place self.now.net ends.0 out_if.now ≡ None) }
         ensures free_in { IfOk result (λ ends. in_place self.now.net ends.1 in_if.now ≡ None) }
-        ensures room { OnOk result (length self.now.net.links < 20000) }
+        ensures room { OnOk result (length self.now.net.links < LINK_LIMIT) }
     {
-        if self.links.len() >= 20000 {
-            return Err(BuildRefused::Limit(Limited::Links, 20000));
+        if self.links.len() >= LINK_LIMIT as usize {
+            return Err(BuildRefused::Limit(Limited::Links, LINK_LIMIT));
         }
         if !is_group_name(group) {
             return Err(BuildRefused::BadName(Part::Group));
@@ -273,8 +274,8 @@ impl NetworkBuilder {
         ensures answer { Gives (λ _. self.new) result (add_table self.old link label groups.items) }
         ensures err { OnErr result (self.new ≡ self.old) }
     {
-        if self.row_count() >= 200000 {
-            return Err(BuildRefused::Limit(Limited::Rows, 200000));
+        if self.row_count() >= ROW_LIMIT as usize {
+            return Err(BuildRefused::Limit(Limited::Rows, ROW_LIMIT));
         }
         let Some(found) = self.link_at(link) else {
             return Err(BuildRefused::Unknown(Part::In));
@@ -343,7 +344,7 @@ impl NetworkBuilder {
     // The number of the link that leaves a router by an interface.
     fn out_place(&self, router: RouterId, interface: &str) -> Option<usize>
         ensures value { result ≡ out_place self.now.net router interface.now }
-        ensures few { IfSome result (λ n. n < 20000) }
+        ensures few { IfSome result (λ n. n < LINK_LIMIT) }
     {
         match self.interfaces.find(interface) {
             Some(number) => self.links.find_out(router, NameId(number as u32)),
@@ -354,7 +355,7 @@ impl NetworkBuilder {
     // The number of the link that reaches a router by an interface.
     fn in_place(&self, router: RouterId, interface: &str) -> Option<usize>
         ensures value { result ≡ in_place self.now.net router interface.now }
-        ensures few { IfSome result (λ n. n < 20000) }
+        ensures few { IfSome result (λ n. n < LINK_LIMIT) }
     {
         match self.interfaces.find(interface) {
             Some(number) => self.links.find_in(router, NameId(number as u32)),
@@ -392,7 +393,7 @@ impl NetworkBuilder {
     /// How many routers there are.
     pub fn router_count(&self) -> usize
         ensures count { result ≡ length self.now.net.routers }
-        ensures few { result ≤ 10000 }
+        ensures few { result ≤ ROUTER_LIMIT }
     {
         self.routers.len()
     }
@@ -400,7 +401,7 @@ impl NetworkBuilder {
     /// How many labels there are.
     pub fn label_count(&self) -> usize
         ensures count { result ≡ length self.now.net.labels }
-        ensures few { result ≤ 20000 }
+        ensures few { result ≤ LABEL_LIMIT }
     {
         self.labels.len()
     }
@@ -408,7 +409,7 @@ impl NetworkBuilder {
     /// How many links there are.
     pub fn link_count(&self) -> usize
         ensures count { result ≡ length self.now.net.links }
-        ensures few { result ≤ 20000 }
+        ensures few { result ≤ LINK_LIMIT }
     {
         self.links.len()
     }
@@ -416,7 +417,7 @@ impl NetworkBuilder {
     /// How many rows there are.
     pub fn row_count(&self) -> usize
         ensures count { result ≡ length self.now.net.rows }
-        ensures few { result ≤ 200000 }
+        ensures few { result ≤ ROW_LIMIT }
     {
         self.tables.len()
     }
@@ -424,7 +425,7 @@ impl NetworkBuilder {
     /// How many members all rows have.
     pub fn member_count(&self) -> usize
         ensures count { result ≡ row_members self.now.net.rows }
-        ensures few { result ≤ 400000 }
+        ensures few { result ≤ MEMBER_LIMIT }
     {
         self.tables.member_count()
     }

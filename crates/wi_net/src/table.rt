@@ -9,6 +9,7 @@ ghost use Rattle.wi_net.specs.Network.{op_known, leaves};
 ghost use Rattle.wi_net.specs.Builder.{member_rules, members_rules, group_rules, groups_rules, Gives};
 
 use crate::builder::NetworkBuilder;
+use crate::limits::{MEMBER_LIMIT, OPERATION_LIMIT};
 use crate::parts::{Group, LinkId, Member, RouterId};
 use crate::refused::{BuildRefused, Limited, Part};
 use wi_labels::{Class, Label, Op};
@@ -20,10 +21,10 @@ pub(crate) fn groups_total(
     so_far: usize,
     groups: &[Group],
 ) -> Result<usize, BuildRefused>
-    requires { so_far ≤ 400000 }
+    requires { so_far ≤ MEMBER_LIMIT }
     ensures answer { Gives (λ n. n) result (groups_rules builder.now.net router so_far groups.now) }
     ensures total { IfOk result (λ n. n ≡ so_far + group_members groups.now) }
-    ensures few { IfOk result (λ n. n ≤ 400000) }
+    ensures few { IfOk result (λ n. n ≤ MEMBER_LIMIT) }
 {
     let mut members = so_far;
     for group in groups {
@@ -39,10 +40,10 @@ fn group_total(
     so_far: usize,
     group: &[Member],
 ) -> Result<usize, BuildRefused>
-    requires { so_far ≤ 400000 }
+    requires { so_far ≤ MEMBER_LIMIT }
     ensures answer { Gives (λ n. n) result (group_rules builder.now.net router so_far group.now) }
     ensures total { IfOk result (λ n. n ≡ so_far + length group.now) }
-    ensures few { IfOk result (λ n. n ≤ 400000) }
+    ensures few { IfOk result (λ n. n ≤ MEMBER_LIMIT) }
 {
     if group.is_empty() {
         return Err(BuildRefused::EmptyGroup);
@@ -56,10 +57,10 @@ fn members_total(
     so_far: usize,
     group: &[Member],
 ) -> Result<usize, BuildRefused>
-    requires { so_far ≤ 400000 }
+    requires { so_far ≤ MEMBER_LIMIT }
     ensures answer { Gives (λ n. n) result (members_rules builder.now.net router so_far group.now) }
     ensures total { IfOk result (λ n. n ≡ so_far + length group.now) }
-    ensures few { IfOk result (λ n. n ≤ 400000) }
+    ensures few { IfOk result (λ n. n ≤ MEMBER_LIMIT) }
 {
     let mut members = so_far;
     for member in group {
@@ -75,19 +76,19 @@ fn member_total(
     so_far: usize,
     member: &Member,
 ) -> Result<usize, BuildRefused>
-    requires { so_far ≤ 400000 }
+    requires { so_far ≤ MEMBER_LIMIT }
     ensures answer { Gives (λ n. n) result (member_rules builder.now.net router so_far member.now) }
     ensures total { IfOk result (λ n. n ≡ so_far + 1) }
-    ensures few { IfOk result (λ n. n ≤ 400000) }
+    ensures few { IfOk result (λ n. n ≤ MEMBER_LIMIT) }
 {
-    if so_far >= 400000 {
-        return Err(BuildRefused::Limit(Limited::Members, 400000));
+    if so_far >= MEMBER_LIMIT as usize {
+        return Err(BuildRefused::Limit(Limited::Members, MEMBER_LIMIT));
     }
     if !leaves(builder, router, member.link) {
         return Err(BuildRefused::Unknown(Part::Out));
     }
-    if member.ops.as_slice().len() > 8 {
-        return Err(BuildRefused::Limit(Limited::Operations, 8));
+    if member.ops.as_slice().len() > OPERATION_LIMIT as usize {
+        return Err(BuildRefused::Limit(Limited::Operations, OPERATION_LIMIT));
     }
     if !are_known(builder, member.ops.as_slice()) {
         return Err(BuildRefused::Unknown(Part::Name));

@@ -6,6 +6,7 @@ use Rattle.serde_json.specs.Data.{Data}
 use Rattle.serde_json.specs.Find.{get}
 use Rattle.wi_net.specs.Net.{Net}
 use Rattle.wi_net.specs.Builder.{◌>>=◌, Draft, empty, rule, found_or}
+use Rattle.wi_netjson.specs.declared.file.TheConstants.{NETWORK_LIMIT}
 use Rattle.wi_netjson.specs.declared.fault.Place.TheVariants.{File, Format}
 use Rattle.wi_netjson.specs.declared.fault.NetFault.{NetFault}
 use Rattle.wi_netjson.specs.declared.fault.NetFault.TheVariants.{NotJson, UnknownFormat, OverLimit}
@@ -36,7 +37,7 @@ file_of draft d = do
   tables_of links file
 
 abbrev pub few_bytes : List ℕ → Result (Unit {0}) NetFault
-few_bytes bytes = rule (OverLimit File 67108864) (nat_le (length bytes) 67108864)
+few_bytes bytes = rule (OverLimit File NETWORK_LIMIT) (nat_le (length bytes) NETWORK_LIMIT)
 
 -- the network that bytes mean, or their first fault
 unfoldable pub network_of : List ℕ → Result Net NetFault

@@ -4,6 +4,7 @@ use Rattle.serde_json.specs.Data.{Data}
 use Rattle.serde_json.specs.Find.{get}
 use Rattle.wi_labels.specs.declared.label.Class.{Class}
 use Rattle.wi_labels.specs.declared.label.Class.TheVariants.{Mpls, Smpls, Ip}
+use Rattle.wi_net.specs.declared.limits.TheConstants.{LABEL_LIMIT}
 use Rattle.wi_net.specs.Names.{is_name, place}
 use Rattle.wi_net.specs.Builder.{◌>>=◌, Draft, with_label, rule}
 use Rattle.wi_netjson.specs.declared.fault.Place.TheVariants.{Labels, LabelList, LabelName}
@@ -23,7 +24,7 @@ label_at class draft i d = do
 unfoldable pub label_list : Class → Draft → Option Data → Result Draft NetFault
 label_list class draft found = do
   items ← list (LabelList class) found
-  _ ← limited (LabelList class) 20000 (length draft.net.labels) items
+  _ ← limited (LabelList class) LABEL_LIMIT (length draft.net.labels) items
   each (label_at class) draft 0 items
 
 unfoldable pub labels_of : Draft → Data → Result Draft NetFault

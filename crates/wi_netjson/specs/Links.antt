@@ -2,6 +2,7 @@
 use Rattle.std.specs.Prelude.{ℕ, Bool, true, false, List, length, is_none, codes, Option, Some, None, Result, Ok}
 use Rattle.serde_json.specs.Data.{Data}
 use Rattle.serde_json.specs.Find.{get}
+use Rattle.wi_net.specs.declared.limits.TheConstants.{LINK_LIMIT}
 use Rattle.wi_net.specs.Names.{is_name}
 use Rattle.wi_net.specs.Finding.{find_router, find_out, find_in}
 use Rattle.wi_net.specs.Builder.{◌>>=◌, Draft, with_new_link, is_group_name, rule, found_or}
@@ -43,5 +44,5 @@ link_at has_groups draft i d = do
 unfoldable pub links_of : Bool → Draft → Data → Result Draft NetFault
 links_of has_groups draft file = do
   items ← list Links (get (codes "links") file)
-  _ ← limited Links 20000 (length draft.net.links) items
+  _ ← limited Links LINK_LIMIT (length draft.net.links) items
   each (link_at has_groups) draft 0 items

@@ -2,6 +2,7 @@
 use Rattle.std.specs.Prelude.{ℕ, length, is_none, codes, Some, Result, Ok}
 use Rattle.serde_json.specs.Data.{Data}
 use Rattle.serde_json.specs.Find.{get}
+use Rattle.wi_net.specs.declared.limits.TheConstants.{ROUTER_LIMIT}
 use Rattle.wi_net.specs.Names.{is_name, place}
 use Rattle.wi_net.specs.Builder.{◌>>=◌, Draft, with_router, rule}
 use Rattle.wi_netjson.specs.declared.fault.Place.TheVariants.{Routers, Router}
@@ -20,5 +21,5 @@ router_at draft i d = do
 unfoldable pub routers_of : Draft → Data → Result Draft NetFault
 routers_of draft file = do
   items ← list Routers (get (codes "routers") file)
-  _ ← limited Routers 10000 (length draft.net.routers) items
+  _ ← limited Routers ROUTER_LIMIT (length draft.net.routers) items
   each router_at draft 0 items

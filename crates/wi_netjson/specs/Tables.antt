@@ -4,6 +4,7 @@ use Rattle.serde_json.specs.Data.{Data}
 use Rattle.serde_json.specs.Find.{get}
 use Rattle.serde_json.specs.Events.{items_len}
 use Rattle.wi_labels.specs.declared.label.Label.{Label as LabelId}
+use Rattle.wi_net.specs.declared.limits.TheConstants.{MEMBER_LIMIT, OPERATION_LIMIT, ROW_LIMIT}
 use Rattle.wi_net.specs.declared.parts.LinkId.{LinkId}
 use Rattle.wi_net.specs.declared.parts.RouterId.{RouterId}
 use Rattle.wi_net.specs.declared.parts.Member.{Member as Way}
@@ -25,9 +26,9 @@ way_at net router so_far i j m d = do
   o ← object (Member i j m) (Some d)
   out ← text (MemberPart i j m way.Out) (get (codes "out") o)
   items ← list (MemberPart i j m way.Ops) (get (codes "ops") o)
-  _ ← rule (OverLimit (Member i j m) 400000) (nat_lt so_far 400000)
+  _ ← rule (OverLimit (Member i j m) MEMBER_LIMIT) (nat_lt so_far MEMBER_LIMIT)
   link ← found_or (UnknownInterface (MemberPart i j m way.Out)) (find_out net router out)
-  _ ← limited (MemberPart i j m way.Ops) 8 0 items
+  _ ← limited (MemberPart i j m way.Ops) OPERATION_LIMIT 0 items
   ops ← each (operation_at net i j m) [] 0 items
   Ok (record { link = link; ops = ops })
 
@@ -70,5 +71,5 @@ table_at draft i d = do
 unfoldable pub tables_of : Draft → Data → Result Draft NetFault
 tables_of draft file = do
   items ← list Tables (get (codes "tables") file)
-  _ ← limited Tables 200000 (length draft.net.rows) items
+  _ ← limited Tables ROW_LIMIT (length draft.net.rows) items
   each table_at draft 0 items

@@ -1,5 +1,5 @@
-//! The parts of a file are read in one fixed order, so that of several faults the same one is told each time. The whole JSON
-//! value is in memory until the network is built; files over 64 MiB are refused before.
+//! The parts of a file are read in one fixed order, so that of several faults the same one is told each time. The JSON value takes far
+//! more memory than the network, so each of its tables is let go once it is read. Files over 64 MiB are refused before.
 ghost use Rattle.std.specs.Prelude.{◌≡◌, option_map};
 ghost use Rattle.serde_json.specs.View.{view};
 ghost use Rattle.wi_net.specs.Builder.{empty, found_or};
@@ -26,7 +26,7 @@ pub fn read_network(alloc: Global, bytes: &[u8]) -> Result<Network, NetFault>
 {
     few_bytes(bytes)?;
     let value = value_of(alloc, bytes)?;
-    let builder = file_of(alloc, &value)?;
+    let builder = file_of(alloc, value)?;
     Ok(builder.finish()?)
 }
 
@@ -57,8 +57,8 @@ fn value_of(alloc: Global, bytes: &[u8]) -> Result<Value, NetFault>
 }
 
 // The network that a value means.
-fn file_of(alloc: Global, value: &Value) -> Result<NetworkBuilder, NetFault>
-    ensures { Gives (λ b. b) result (file_of empty (view value.now)) }
+fn file_of(alloc: Global, value: Value) -> Result<NetworkBuilder, NetFault>
+    ensures { Gives (λ b. b) result (file_of empty (view value)) }
 {
     let mut builder = NetworkBuilder::new(alloc);
     match fill(alloc, &mut builder, value) {
@@ -72,16 +72,16 @@ fn file_of(alloc: Global, value: &Value) -> Result<NetworkBuilder, NetFault>
 
 // Adds all of a file.
 #[tactic(auto, unfolding(crate::specs::File::file_of))]
-fn fill(alloc: Global, builder: &mut NetworkBuilder, value: &Value) -> Result<(), NetFault>
+fn fill(alloc: Global, builder: &mut NetworkBuilder, value: Value) -> Result<(), NetFault>
     requires { builder.old ≡ empty }
-    ensures { Gives (λ _. builder.new) result (file_of builder.old (view value.now)) }
+    ensures { Gives (λ _. builder.new) result (file_of builder.old (view value)) }
 {
-    let file = object(Place::File, Some(value))?;
+    let file = object(Place::File, Some(&value))?;
     let has_groups = has_groups(file.get("format"))?;
     routers(builder, file)?;
     labels(builder, file)?;
     links(builder, has_groups, file)?;
-    tables(alloc, builder, file)
+    tables(alloc, builder, value)
 }
 
 // Whether links of the format name risk groups.

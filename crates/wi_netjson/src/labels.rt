@@ -12,7 +12,7 @@ use crate::fault::{NetFault, Place};
 use crate::shape::{limited, list, object, text};
 use serde_json::Value;
 use wi_labels::Class;
-use wi_net::{BuildRefused, NetworkBuilder};
+use wi_net::{BuildRefused, LABEL_LIMIT, NetworkBuilder};
 
 /// Adds the labels of a file.
 #[tactic(auto, unfolding(crate::specs::Labels::labels_of))]
@@ -39,7 +39,7 @@ fn label_list(
     let values = list(Place::LabelList(class), value)?;
     limited(
         Place::LabelList(class),
-        20000,
+        LABEL_LIMIT,
         builder.label_count(),
         values,
     )?;
@@ -47,7 +47,7 @@ fn label_list(
 }
 
 fn each_label(builder: &mut NetworkBuilder, class: Class, values: &[Value]) -> Result<(), NetFault>
-    requires few { length builder.old.net.labels + length values.now ≤ 20000 }
+    requires few { length builder.old.net.labels + length values.now ≤ LABEL_LIMIT }
     requires in_order { list_all (λ c. is_no_later c class) builder.old.net.classes ≡ true }
     ensures answer { Gives (λ _. builder.new) result (each (label_at class) builder.old 0 (items_view values.now)) }
     ensures in_order { OnOk result (list_all (λ c. is_no_later c class) builder.new.net.classes ≡ true) }
@@ -65,7 +65,7 @@ fn label(
     i: usize,
     value: &Value,
 ) -> Result<(), NetFault>
-    requires few { length builder.old.net.labels < 20000 }
+    requires few { length builder.old.net.labels < LABEL_LIMIT }
     requires in_order { list_all (λ c. is_no_later c class) builder.old.net.classes ≡ true }
     ensures answer { Gives (λ _. builder.new) result (label_at class builder.old i (view value.now)) }
     ensures count { OnOk result (length builder.new.net.labels ≡ length builder.old.net.labels + 1) }

@@ -15,5 +15,5 @@ mod written;
 
 pub use fault::{LinkPart, MemberPart, NetFault, Place, TablePart};
 pub use file::{NETWORK_LIMIT, read_network};
-pub use laws::a_line_feed_changes_nothing;
+pub use laws::{a_line_feed_changes_nothing, limits_have_these_numbers};
 pub use written::{network_members, write_network};

@@ -9,7 +9,7 @@ ghost use Rattle.wi_netjson.specs.Links.{link_rules, link_at, links_of, group_na
 use crate::fault::{LinkPart, NetFault, Place};
 use crate::shape::{limited, list, object, optional_text, text, whole};
 use serde_json::Value;
-use wi_net::{BuildRefused, NetworkBuilder, Part};
+use wi_net::{BuildRefused, LINK_LIMIT, NetworkBuilder, Part};
 
 /// Adds the links of a file, which name risk groups in some formats.
 #[tactic(auto, unfolding(crate::specs::Links::links_of))]
@@ -17,7 +17,7 @@ pub fn links(builder: &mut NetworkBuilder, has_groups: bool, file: &Value) -> Re
     ensures { Gives (λ _. builder.new) result (links_of has_groups builder.old (view file.now)) }
 {
     let values = list(Place::Links, file.get("links"))?;
-    limited(Place::Links, 20000, builder.link_count(), values)?;
+    limited(Place::Links, LINK_LIMIT, builder.link_count(), values)?;
     each_link(builder, has_groups, values)
 }
 
@@ -26,7 +26,7 @@ fn each_link(
     has_groups: bool,
     values: &[Value],
 ) -> Result<(), NetFault>
-    requires { length builder.old.net.links + length values.now ≤ 20000 }
+    requires { length builder.old.net.links + length values.now ≤ LINK_LIMIT }
     ensures { Gives (λ _. builder.new) result (each (link_at has_groups) builder.old 0 (items_view values.now)) }
 {
     for (i, value) in values.iter().enumerate() {
@@ -42,7 +42,7 @@ fn link(
     i: usize,
     value: &Value,
 ) -> Result<(), NetFault>
-    requires { length builder.old.net.links < 20000 }
+    requires { length builder.old.net.links < LINK_LIMIT }
     ensures answer { Gives (λ _. builder.new) result (link_at has_groups builder.old i (view value.now)) }
     ensures count { OnOk result (length builder.new.net.links ≡ length builder.old.net.links + 1) }
 {
@@ -67,7 +67,7 @@ fn add(
     distance: u32,
     group: Option<&str>,
 ) -> Result<(), NetFault>
-    requires { length builder.old.net.links < 20000 }
+    requires { length builder.old.net.links < LINK_LIMIT }
     ensures answer { Gives (λ _. builder.new) result (link_rules builder.old i from.now out_if.now to.now in_if.now distance (option_map (λ s. s.now) group.entry)) }
     ensures count { OnOk result (length builder.new.net.links ≡ length builder.old.net.links + 1) }
 {

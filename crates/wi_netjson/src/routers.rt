@@ -8,7 +8,7 @@ ghost use Rattle.wi_netjson.specs.Routers.{router_at, routers_of};
 use crate::fault::{NetFault, Place};
 use crate::shape::{limited, list, text};
 use serde_json::Value;
-use wi_net::{BuildRefused, NetworkBuilder};
+use wi_net::{BuildRefused, NetworkBuilder, ROUTER_LIMIT};
 
 /// Adds the routers of a file.
 #[tactic(auto, unfolding(crate::specs::Routers::routers_of))]
@@ -17,12 +17,12 @@ pub fn routers(builder: &mut NetworkBuilder, file: &Value) -> Result<(), NetFaul
     ensures classes { OnOk result (builder.new.net.classes ≡ builder.old.net.classes) }
 {
     let values = list(Place::Routers, file.get("routers"))?;
-    limited(Place::Routers, 10000, builder.router_count(), values)?;
+    limited(Place::Routers, ROUTER_LIMIT, builder.router_count(), values)?;
     each_router(builder, values)
 }
 
 fn each_router(builder: &mut NetworkBuilder, values: &[Value]) -> Result<(), NetFault>
-    requires { length builder.old.net.routers + length values.now ≤ 10000 }
+    requires { length builder.old.net.routers + length values.now ≤ ROUTER_LIMIT }
     ensures answer { Gives (λ _. builder.new) result (each router_at builder.old 0 (items_view values.now)) }
     ensures classes { OnOk result (builder.new.net.classes ≡ builder.old.net.classes) }
 {
@@ -34,7 +34,7 @@ fn each_router(builder: &mut NetworkBuilder, values: &[Value]) -> Result<(), Net
 
 #[tactic(auto, unfolding(crate::specs::Routers::router_at, wi_net::specs::Builder::add_router))]
 fn router(builder: &mut NetworkBuilder, i: usize, value: &Value) -> Result<(), NetFault>
-    requires { length builder.old.net.routers < 10000 }
+    requires { length builder.old.net.routers < ROUTER_LIMIT }
     ensures answer { Gives (λ _. builder.new) result (router_at builder.old i (view value.now)) }
     ensures count { OnOk result (length builder.new.net.routers ≡ length builder.old.net.routers + 1) }
     ensures classes { OnOk result (builder.new.net.classes ≡ builder.old.net.classes) }

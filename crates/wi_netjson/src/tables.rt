@@ -1,9 +1,10 @@
 //! A table's own checks come before those of its groups, and a member's before the next member's, as the format's order of
 //! faults has it. What was checked here isn't checked by the builder again: a member costs a look-up for each name.
-ghost use Rattle.std.specs.Prelude.{◌≡◌, ◌+◌, ◌≤◌, ◌<◌, [], length, OnOk, IfOk};
+ghost use Rattle.std.specs.Prelude.{◌≡◌, ◌+◌, ◌≤◌, ◌<◌, [], codes, length, OnOk, IfOk};
+ghost use Rattle.serde_json.specs.Find.{get};
 ghost use Rattle.serde_json.specs.View.{view, items_view};
 ghost use Rattle.wi_net.specs.Tables.{group_members};
-ghost use Rattle.wi_netjson.specs.Reading.{Gives, each};
+ghost use Rattle.wi_netjson.specs.Reading.{Gives, each, list};
 ghost use Rattle.wi_netjson.specs.Tables.{member_at, way_at, group_at, group_members_at, table_at, table_ends, tables_of};
 
 use crate::fault::{MemberPart, NetFault, Place, TablePart};
@@ -14,24 +15,53 @@ use serde_json::Value;
 use std::alloc::Global;
 use wi_base::Listed;
 use wi_labels::Label;
-use wi_net::{Group, LinkId, Member, NetworkBuilder, RouterId, TableRow};
+use wi_net::{
+    Group, LinkId, MEMBER_LIMIT, Member, NetworkBuilder, OPERATION_LIMIT, ROW_LIMIT, RouterId,
+    TableRow,
+};
 
 /// Adds the tables of a file.
 #[tactic(auto, unfolding(crate::specs::Tables::tables_of))]
-pub fn tables(alloc: Global, builder: &mut NetworkBuilder, file: &Value) -> Result<(), NetFault>
-    ensures { Gives (λ _. builder.new) result (tables_of builder.old (view file.now)) }
+pub fn tables(alloc: Global, builder: &mut NetworkBuilder, file: Value) -> Result<(), NetFault>
+    ensures { Gives (λ _. builder.new) result (tables_of builder.old (view file)) }
 {
-    let values = list(Place::Tables, file.get("tables"))?;
-    limited(Place::Tables, 200000, builder.row_count(), values)?;
+    let values = taken(file)?;
+    limited(
+        Place::Tables,
+        ROW_LIMIT,
+        builder.row_count(),
+        values.as_slice(),
+    )?;
     each_table(alloc, builder, values)
 }
 
-fn each_table(alloc: Global, builder: &mut NetworkBuilder, values: &[Value]) -> Result<(), NetFault>
-    requires { length builder.old.net.rows + length values.now ≤ 200000 }
-    ensures { Gives (λ _. builder.new) result (each table_at builder.old 0 (items_view values.now)) }
+// Takes the list of tables out of a file, and lets go of the rest.
+fn taken(mut file: Value) -> Result<Vec<Value>, NetFault>
+    ensures { Gives (λ values. items_view values.items) result (list Place.Tables (get (codes "tables") (view file))) }
 {
-    for (i, value) in values.iter().enumerate() {
-        table(alloc, builder, i, value)?;
+    let Some(value) = file.get_mut("tables") else {
+        return Err(NetFault::WrongShape(Place::Tables));
+    };
+    match value.take() {
+        Value::Array(values) => Ok(values),
+        _ => Err(NetFault::WrongShape(Place::Tables)),
+    }
+}
+
+// Reads each table, and lets it go.
+fn each_table(
+    alloc: Global,
+    builder: &mut NetworkBuilder,
+    values: Vec<Value>,
+) -> Result<(), NetFault>
+    requires { length builder.old.net.rows + length values.items ≤ ROW_LIMIT }
+    ensures { Gives (λ _. builder.new) result (each table_at builder.old 0 (items_view values.items)) }
+{
+    let mut i = 0;
+    for value in values {
+        table(alloc, builder, i, &value)?;
+        drop(value);
+        i += 1;
     }
     Ok(())
 }
@@ -43,7 +73,7 @@ fn table(
     i: usize,
     value: &Value,
 ) -> Result<(), NetFault>
-    requires { length builder.old.net.rows < 200000 }
+    requires { length builder.old.net.rows < ROW_LIMIT }
     ensures answer { Gives (λ _. builder.new) result (table_at builder.old i (view value.now)) }
     ensures count { OnOk result (length builder.new.net.rows ≡ length builder.old.net.rows + 1) }
 {
@@ -99,7 +129,7 @@ fn groups(
     i: usize,
     values: &[Value],
 ) -> Result<(Vec<Group>, usize), NetFault>
-    requires { so_far ≤ 400000 }
+    requires { so_far ≤ MEMBER_LIMIT }
     ensures answer { Gives (λ r. r.0.items) result (each (group_at builder.now.net router so_far i) [] 0 (items_view values.now)) }
     ensures members { IfOk result (λ r. r.1 ≡ so_far + group_members r.0.items) }
 {
@@ -125,9 +155,9 @@ fn group(
     j: usize,
     value: &Value,
 ) -> Result<Vec<Member>, NetFault>
-    requires { so_far ≤ 400000 }
+    requires { so_far ≤ MEMBER_LIMIT }
     ensures answer { Gives (λ v. v.items) result (group_members_at builder.now.net router so_far i j (view value.now)) }
-    ensures few { IfOk result (λ v. so_far + length v.items ≤ 400000) }
+    ensures few { IfOk result (λ v. so_far + length v.items ≤ MEMBER_LIMIT) }
 {
     let values = list(Place::Group(i, j), Some(value))?;
     if values.is_empty() {
@@ -145,9 +175,9 @@ fn members(
     j: usize,
     values: &[Value],
 ) -> Result<Vec<Member>, NetFault>
-    requires { so_far ≤ 400000 }
+    requires { so_far ≤ MEMBER_LIMIT }
     ensures answer { Gives (λ v. v.items) result (each (member_at builder.now.net router so_far i j) [] 0 (items_view values.now)) }
-    ensures few { IfOk result (λ v. so_far + length v.items ≤ 400000) }
+    ensures few { IfOk result (λ v. so_far + length v.items ≤ MEMBER_LIMIT) }
 {
     let mut members = Vec::new(alloc);
     for (m, value) in values.iter().enumerate() {
@@ -171,20 +201,20 @@ fn member(
     value: &Value,
 ) -> Result<Member, NetFault>
     ensures answer { Gives (λ member. member) result (way_at builder.now.net router so_far i j m (view value.now)) }
-    ensures few { OnOk result (so_far < 400000) }
+    ensures few { OnOk result (so_far < MEMBER_LIMIT) }
 {
     let member = object(Place::Member(i, j, m), Some(value))?;
     let out_place = Place::MemberPart(i, j, m, MemberPart::Out);
     let ops_place = Place::MemberPart(i, j, m, MemberPart::Ops);
     let out_if = text(out_place, member.get("out"))?;
     let values = list(ops_place, member.get("ops"))?;
-    if so_far >= 400000 {
-        return Err(NetFault::OverLimit(Place::Member(i, j, m), 400000));
+    if so_far >= MEMBER_LIMIT as usize {
+        return Err(NetFault::OverLimit(Place::Member(i, j, m), MEMBER_LIMIT));
     }
     let Some(link) = builder.find_out(router, out_if) else {
         return Err(NetFault::UnknownInterface(out_place));
     };
-    limited(ops_place, 8, 0, values)?;
+    limited(ops_place, OPERATION_LIMIT, 0, values)?;
     let ops = operations(alloc, builder, i, j, m, values)?;
     Ok(Member { link, ops })
 }

@@ -6,6 +6,7 @@ ghost use Rattle.serde_json.specs.Data.{string, number, unsigned, object, member
 ghost use Rattle.serde_json.specs.View.{view, members_view};
 ghost use Rattle.wi_net.specs.Network.{HasEnds, op_known, is_row_of};
 ghost use Rattle.wi_net.specs.private.Network.{is_member_of, are_groups_of};
+ghost use Rattle.wi_netjson.specs.declared.file.TheConstants.{NETWORK_LIMIT};
 ghost use Rattle.wi_netjson.specs.private.Written.{AreLarger};
 ghost use Rattle.wi_netjson.specs.Written.{has_larger, format_of, list_of, labels_in, labels_data, link_data, op_data, way_data, group_data, row_data, network_data, text_of};
 ghost use Rattle.wi_netjson.specs.File.{network_of};
@@ -20,7 +21,7 @@ use wi_net::{Group, Link, LinkId, Member, Network, RouterId};
 /// network where it is within the file limit.
 pub fn write_network(alloc: Global, network: &Network) -> Result<Vec<u8>, NoMemory>
     ensures text { IfOk result (λ bytes. bytes.items ≡ text_of network.now) }
-    ensures reads_back { IfOk result (λ bytes. length bytes.items ≤ 67108864 → network_of bytes.items ≡ Ok network.now) }
+    ensures reads_back { IfOk result (λ bytes. length bytes.items ≤ NETWORK_LIMIT → network_of bytes.items ≡ Ok network.now) }
 {
     network.keeps();
     let value = Value::Object(network_members(alloc, network)?);

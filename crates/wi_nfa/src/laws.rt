@@ -1,9 +1,11 @@
 //! States have numbers that others see, so a definition says which automaton an expression has, and that it accepts what the
-//! expression matches is a law. It holds for every automaton of that definition, whoever builds it. The functions run no code.
+//! expression matches is a law. It holds for every automaton of that definition, whoever builds it. What is
+//! said by the limit's name holds with any number, so another law has the number. The functions run no code.
 ghost use Rattle.std.specs.Prelude.{◌≡◌, ◌≤◌, ℕ, List, ◌↔◌, Contains};
 ghost use Rattle.std.specs.List.Sorted.{IsStrictlyIncreasing};
 ghost use Rattle.wi_regex.specs.declared.regex.Regex.{Regex};
 ghost use Rattle.wi_regex.specs.Matching.{Matches, position_count};
+ghost use Rattle.wi_nfa.specs.declared.nfa.TheConstants.{POSITION_LIMIT};
 ghost use Rattle.wi_nfa.specs.Automata.{Automaton, IsPositionAutomaton, AcceptsFrom};
 
 use wi_regex::Atom;
@@ -22,4 +24,9 @@ pub fn start_is_never_entered<A: Atom>()
 /// A set has one list in rising order: which list is given is settled by what it lists.
 pub fn rising_lists_are_equal()
     ensures { (xs ys : List ℕ) → IsStrictlyIncreasing xs → IsStrictlyIncreasing ys → ((t : ℕ) → Contains xs t ↔ Contains ys t) → xs ≡ ys }
+{}
+
+/// An expression has so many positions at most.
+pub fn limits_have_these_numbers()
+    ensures { POSITION_LIMIT ≡ 512 }
 {}

@@ -9,6 +9,8 @@ mod nfa;
 mod states;
 mod tables;
 
-pub use laws::{accepts_what_matches, rising_lists_are_equal, start_is_never_entered};
+pub use laws::{
+    accepts_what_matches, limits_have_these_numbers, rising_lists_are_equal, start_is_never_entered,
+};
 pub use nfa::{Nfa, NfaRefused, POSITION_LIMIT};
 pub use states::States;

@@ -1,5 +1,6 @@
 -- The texts on standard error, with their exit statuses.
 use Rattle.std.specs.Prelude.{ℕ, List, ◌++◌, codes}
+use Rattle.wi_cert.specs.declared.tree.TheConstants.{NODE_LIMIT}
 use Rattle.wi_netjson.specs.declared.fault.NetFault.TheVariants as fault
 use Rattle.wi_script.specs.declared.script.ScriptRefused.TheVariants as script
 use Rattle.wi_report.specs.NetworkFaults.{fault_text}
@@ -42,7 +43,7 @@ text_of LargeCertificate = codes "certificate: over the limit 268435456\n"
 text_of (BadLine n) = bad_line_text n
 text_of (NotAccepted f terms) = certificate_fault_text terms f
 text_of NotWritten = codes "certificate: over the limit 268000000, not written\n"
-text_of ManyNodes = nodes_over_limit_text 10000
+text_of ManyNodes = nodes_over_limit_text NODE_LIMIT
 text_of TreeNotWritten = codes "certificate: over the limit 268435456, not written\n"
 text_of (Plan refused) = plan_fault_text refused
 text_of (Unprotected refused) = protect_fault_text refused

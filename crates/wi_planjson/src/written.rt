@@ -5,6 +5,7 @@ ghost use Rattle.std.specs.List.{list_all};
 ghost use Rattle.serde_json.specs.Data.{object, string, member, no_members};
 ghost use Rattle.serde_json.specs.View.{view, members_view};
 ghost use Rattle.wi_net.specs.Net.{is_link};
+ghost use Rattle.wi_netjson.specs.declared.file.TheConstants.{NETWORK_LIMIT};
 ghost use Rattle.wi_netjson.specs.File.{network_of};
 ghost use Rattle.wi_netjson.specs.Written.{list_of, network_data};
 ghost use Rattle.wi_plan.specs.Plans.{is_path_of, is_bypass_of, IsPlan};
@@ -29,7 +30,7 @@ pub fn write_plan(
     requires plan { IsPlan net.now plan.now }
     requires known { list_all (is_link net.now) unprotected.now ≡ true }
     ensures text { IfOk result (λ bytes. bytes.items ≡ plan_text_of net.now plan.now unprotected.now) }
-    ensures network { IfOk result (λ bytes. length bytes.items ≤ 67108864 → network_of bytes.items ≡ Ok net.now) }
+    ensures network { IfOk result (λ bytes. length bytes.items ≤ NETWORK_LIMIT → network_of bytes.items ≡ Ok net.now) }
     ensures plan { IfOk result (λ bytes. plan_in net.now bytes.items ≡ Ok plan.now) }
 {
     net.keeps();

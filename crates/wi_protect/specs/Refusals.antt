@@ -1,6 +1,7 @@
 -- Why a plan's network can't be made, and what is answered.
 use Rattle.std.specs.Prelude.{◌≡◌, ℕ, ◌+◌, Bool, nat_lt, if◌then◌else◌, List, length, is_some, ◌++◌, Option, Some, None, Result, Ok, Err}
 use Rattle.std.specs.List.{list_any}
+use Rattle.wi_net.specs.declared.limits.TheConstants.{LABEL_LIMIT}
 use Rattle.wi_net.specs.Names.{place}
 use Rattle.wi_net.specs.Net.{Net}
 use Rattle.wi_protect.specs.declared.refused.ProtectRefused.{ProtectRefused}
@@ -19,7 +20,7 @@ has_taken net plan = list_any (is_taken net) (bypasses_names 1 plan.bypasses ++ 
 
 -- there would be more labels than a network may have
 abbrev pub has_too_many : Net → Plan → Bool
-has_too_many net plan = nat_lt 20000 (length net.labels + new_labels plan)
+has_too_many net plan = nat_lt LABEL_LIMIT (length net.labels + new_labels plan)
 
 -- the first fault of the new labels
 abbrev pub fault_of : Net → Plan → Option ProtectRefused

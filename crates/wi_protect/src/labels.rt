@@ -4,6 +4,7 @@
 ghost use Rattle.std.specs.Prelude.{◌≡◌, ◌+◌, ◌≤◌, ◌<◌, ◌^◌, ◌++◌, true, length, string_bytes, Ok, IfOk, OnOk, codes};
 ghost use Rattle.std.specs.List.{list_any};
 ghost use Rattle.wi_labels.specs.Header.{same_class};
+ghost use Rattle.wi_net.specs.declared.limits.TheConstants.{LABEL_LIMIT};
 ghost use Rattle.wi_net.specs.Names.{are_names};
 ghost use Rattle.wi_net.specs.Builder.{with_label, links_alone};
 ghost use Rattle.wi_protect.specs.Labels.{names_of, numbered, numbered_to, path_labels, bypass_labels, paths_labels, bypasses_labels, paths_names, bypasses_names, label_names, label_classes, first_bypass_label, first_path_label, new_labels};
@@ -130,7 +131,7 @@ pub fn add_labels(
 ) -> Result<Numbers, NoMemory>
     requires alone { builder.old ≡ links_alone net.now }
     requires names { are_names (label_names net.now plan.now) ≡ true }
-    requires few { length (label_names net.now plan.now) ≤ 20000 }
+    requires few { length (label_names net.now plan.now) ≤ LABEL_LIMIT }
     ensures labels { OnOk result (builder.new ≡ record builder.old { net = record builder.old.net { labels = label_names net.now plan.now; classes = label_classes net.now plan.now } }) }
     ensures bypass { IfOk result (λ numbers. numbers.bypass ≡ first_bypass_label net.now) }
     ensures path { IfOk result (λ numbers. numbers.path ≡ first_path_label net.now plan.now) }

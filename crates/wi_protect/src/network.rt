@@ -16,7 +16,7 @@ use crate::refused::ProtectRefused;
 use crate::rows::{add_bypasses, add_paths};
 use std::alloc::Global;
 use wi_base::NoMemory;
-use wi_net::{Network, NetworkBuilder};
+use wi_net::{LABEL_LIMIT, Network, NetworkBuilder};
 use wi_plan::{Bypass, Path, Plan};
 
 /// The network that a plan asks for: the network's routers and links, its labels and those of the plan, and the plan's
@@ -55,10 +55,11 @@ fn has_too_many(net: &Network, plan: &Plan) -> bool
 {
     let bypass = bypass_label_count(plan.bypasses.as_slice());
     let path = path_label_count(plan.paths.as_slice());
-    if bypass > 20000 || path > 20000 {
+    let most = LABEL_LIMIT as u128;
+    if bypass > most || path > most {
         return true;
     }
-    net.counts().labels as u128 + bypass + path > 20000
+    net.counts().labels as u128 + bypass + path > most
 }
 
 // The plan's network, where no name is taken and there are not too many labels.

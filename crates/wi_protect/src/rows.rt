@@ -7,6 +7,7 @@ ghost use Rattle.wi_protect.specs.Rows.{label, only, row, onto, next_groups, end
 ghost use Rattle.wi_protect.specs.private.Held.{rows_at, round_now};
 ghost use Rattle.wi_protect.specs.private.Detours.{round_by};
 ghost use Rattle.wi_protect.specs.private.Adding.{CanAdd, with_rows, are_low};
+ghost use Rattle.wi_net.specs.declared.limits.TheConstants.{LABEL_LIMIT};
 
 use crate::detours::{Detour, round_of};
 use crate::labels::{Numbers, bypass_labels, path_labels};
@@ -61,7 +62,7 @@ fn next_groups(
     number: u32,
     links: &[LinkId],
 ) -> Result<Vec<Group>, NoMemory>
-    requires room { number < 20000 }
+    requires room { number < LABEL_LIMIT }
     ensures { IfOk result (λ groups. groups.items ≡ next_groups (round_by bypasses.now detours.now) number links.now) }
 {
     match links {
@@ -104,7 +105,7 @@ fn add_arrivals(
     link: LinkId,
     links: &[LinkId],
 ) -> Result<(), NoMemory>
-    requires room { number < 20000 }
+    requires room { number < LABEL_LIMIT }
     requires rules { CanAdd builder.old (arrivals (round_by bypasses.now detours.now link) link (label number) (next_groups (round_by bypasses.now detours.now) number links.now)) }
     ensures { OnOk result (builder.new ≡ with_rows builder.old (arrivals (round_by bypasses.now detours.now link) link (label number) (next_groups (round_by bypasses.now detours.now) number links.now))) }
 {
@@ -126,7 +127,7 @@ fn add_end(
     via: &[LinkId],
     links: &[LinkId],
 ) -> Result<(), NoMemory>
-    requires room { number < 20000 }
+    requires room { number < LABEL_LIMIT }
     requires rules { CanAdd builder.old (end_rows via.now (label number) (next_groups (round_by bypasses.now detours.now) number links.now)) }
     ensures { OnOk result (builder.new ≡ with_rows builder.old (end_rows via.now (label number) (next_groups (round_by bypasses.now detours.now) number links.now))) }
 {
@@ -175,7 +176,7 @@ fn add_path(
     ip: Label,
     links: &[LinkId],
 ) -> Result<(), NoMemory>
-    requires room { number + (length links.now - 2) ≤ 20000 }
+    requires room { number + (length links.now - 2) ≤ LABEL_LIMIT }
     requires rules { CanAdd builder.old (path_rows (round_by bypasses.now detours.now) number ip links.now) }
     ensures { OnOk result (builder.new ≡ with_rows builder.old (path_rows (round_by bypasses.now detours.now) number ip links.now)) }
 {
@@ -199,7 +200,7 @@ fn add_via(
     number: u32,
     via: &[LinkId],
 ) -> Result<(), NoMemory>
-    requires room { number + (length via.now - 1) ≤ 20000 }
+    requires room { number + (length via.now - 1) ≤ LABEL_LIMIT }
     requires rules { CanAdd builder.old (via_rows number via.now) }
     ensures { OnOk result (builder.new ≡ with_rows builder.old (via_rows number via.now)) }
 {
@@ -246,7 +247,7 @@ pub fn add_paths(
     detours: &[Option<Detour>],
     numbers: Numbers,
 ) -> Result<(), NoMemory>
-    requires room { numbers.path + paths_labels paths.now ≤ 20000 }
+    requires room { numbers.path + paths_labels paths.now ≤ LABEL_LIMIT }
     requires ips { are_low numbers.new paths.now ≡ true }
     requires rules { CanAdd builder.old (paths_rows (round_by bypasses.now detours.now) (moved_by numbers.new) numbers.path paths.now) }
     ensures { OnOk result (builder.new ≡ with_rows builder.old (paths_rows (round_by bypasses.now detours.now) (moved_by numbers.new) numbers.path paths.now)) }
@@ -268,7 +269,7 @@ pub fn add_bypasses(
     bypasses: &[Bypass],
     first: u32,
 ) -> Result<(), NoMemory>
-    requires room { first + bypasses_labels bypasses.now ≤ 20000 }
+    requires room { first + bypasses_labels bypasses.now ≤ LABEL_LIMIT }
     requires rules { CanAdd builder.old (bypasses_rows first bypasses.now) }
     ensures { OnOk result (builder.new ≡ with_rows builder.old (bypasses_rows first bypasses.now)) }
 {

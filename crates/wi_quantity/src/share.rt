@@ -5,6 +5,7 @@ ghost use Rattle.std.specs.Prelude.{◌≡◌, ◌<◌, ◌≤◌, ◌+◌, ◌^
 ghost use Rattle.std.specs.Option.{option_map_or};
 ghost use Rattle.std.specs.List.{filter, list_all, list_any};
 ghost use Rattle.wi_weight.specs.Weights.{EachBelow};
+ghost use Rattle.wi_net.specs.declared.limits.TheConstants.{LINK_LIMIT};
 ghost use Rattle.wi_net.specs.Net.{risk_count, before};
 ghost use Rattle.wi_world.specs.declared.run.Quantity.{Quantity};
 ghost use Rattle.wi_world.specs.Runs.{link_share};
@@ -211,7 +212,7 @@ pub(crate) fn member_in(groups: &[Group], j: usize, m: usize) -> Option<&Member>
 fn failures_before(net: &Network, groups: &[Group], j: usize) -> usize
     requires { j ≤ length groups.now }
     ensures value { result ≡ risk_count net.now (before net.now groups.now j) }
-    ensures few { result ≤ 20000 }
+    ensures few { result ≤ LINK_LIMIT }
 {
     net.keeps();
     let mut count = 0;
@@ -224,7 +225,7 @@ fn failures_before(net: &Network, groups: &[Group], j: usize) -> usize
 // How many risk groups have links of a group's members, and none of the earlier groups.
 fn new_risks(net: &Network, earlier: &[Group], members: &[Member]) -> usize
     ensures value { risks_of net.now earlier.now [] + result ≡ risks_of net.now earlier.now members.now }
-    ensures few { risks_of net.now earlier.now members.now ≤ 20000 }
+    ensures few { risks_of net.now earlier.now members.now ≤ LINK_LIMIT }
 {
     net.keeps();
     let mut count = 0;

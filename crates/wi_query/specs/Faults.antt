@@ -3,6 +3,7 @@
 use Rattle.std.specs.Prelude.{◌≡◌, ℕ, nat_lt, true, false, Bool, List, [], ◌∷◌, length, filter, string_bytes, Option, Some, None}
 use Rattle.std.specs.List.{find}
 use Rattle.std.specs.Str.Parse.{digits_value}
+use Rattle.wi_nfa.specs.declared.nfa.TheConstants.{POSITION_LIMIT}
 use Rattle.wi_net.specs.LinkSet.{has}
 use Rattle.wi_net.specs.Net.{Net}
 use Rattle.wi_text.specs.Prefixes.{IsFaultAt}
@@ -11,6 +12,8 @@ use Rattle.wi_syntax.specs.declared.written.Sign.{Sign}
 use Rattle.wi_syntax.specs.declared.written.Sign.TheVariants as sign
 use Rattle.wi_syntax.specs.declared.written.Written.{Written}
 use Rattle.wi_syntax.specs.Grammar.{Reads, IsQueryText}
+use Rattle.wi_query.specs.declared.bounds.TheConstants.{FAILURE_LIMIT}
+use Rattle.wi_query.specs.declared.query.TheConstants.{LENGTH_LIMIT}
 use Rattle.wi_query.specs.Last.{last_signs}
 use Rattle.wi_query.specs.Unknown.{Kind, ALabel, ARouter, AnInterface, unknown_in}
 use Rattle.wi_query.specs.Meaning.{known_links}
@@ -25,13 +28,13 @@ is_atom s = false
 abbrev pub atom_count : {A : Type 0} → List (Sign A) → ℕ
 atom_count signs = length (filter is_atom signs)
 
--- the first of the three expressions, from 1, that has more than 512 positions, and how many
+-- the first of the three expressions, from 1, that has too many positions, and how many
 abbrev pub too_many_positions : Written → Option (ℕ × ℕ)
-too_many_positions w = find (λ e. nat_lt 512 e.1) ((1, atom_count w.first) ∷ (2, atom_count w.path) ∷ (3, atom_count (last_signs w.last)) ∷ [])
+too_many_positions w = find (λ e. nat_lt POSITION_LIMIT e.1) ((1, atom_count w.first) ∷ (2, atom_count w.path) ∷ (3, atom_count (last_signs w.last)) ∷ [])
 
 -- a text that isn't too long is written so
 pub record IsShort (text : List ℕ) (w : Written) : Type 0 where
-  pub short : nat_lt 4096 (length text) ≡ false
+  pub short : nat_lt LENGTH_LIMIT (length text) ≡ false
   pub reads : Reads text w
 
 -- and its names are known
@@ -48,15 +51,15 @@ pub record IsSmall (net : Net) (text : List ℕ) (w : Written) : Type 0 where
 abbrev pub IsUnknown : Net → List ℕ → Kind → ℕ → List ℕ → Type 0
 IsUnknown net text kind at name = (w : Written) × IsShort text w × (quoted : Bool) × (rest : List (Kind × Named)) × (unknown_in net w ≡ (kind, record { at = at; quoted = quoted; text = name }) ∷ rest)
 
--- the number is over 65,535
+-- the number is over the limit
 abbrev pub is_large : Named → Bool
-is_large number = nat_lt 65535 (digits_value 10 number.text)
+is_large number = nat_lt FAILURE_LIMIT (digits_value 10 number.text)
 
 -- the text's first fault
 abbrev pub IsFault : Net → List ℕ → QueryFault → Type 0
 IsFault net text Memory = Unit {0}
-IsFault net text (TooLong n) = (nat_lt 4096 n ≡ true) × (n ≡ length text)
-IsFault net text (Syntax k) = (nat_lt 4096 (length text) ≡ false) × IsFaultAt IsQueryText text k
+IsFault net text (TooLong n) = (nat_lt LENGTH_LIMIT n ≡ true) × (n ≡ length text)
+IsFault net text (Syntax k) = (nat_lt LENGTH_LIMIT (length text) ≡ false) × IsFaultAt IsQueryText text k
 IsFault net text (UnknownLabel at name) = IsUnknown net text ALabel at (string_bytes name)
 IsFault net text (UnknownRouter at name) = IsUnknown net text ARouter at (string_bytes name)
 IsFault net text (UnknownInterface at name) = IsUnknown net text AnInterface at (string_bytes name)

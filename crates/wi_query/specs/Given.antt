@@ -12,6 +12,7 @@ use Rattle.wi_syntax.specs.Atoms.{pair_at}
 use Rattle.wi_syntax.specs.Names.{Named}
 use Rattle.wi_syntax.specs.Grammar.{Reads, IsQueryText}
 use Rattle.wi_syntax.specs.declared.written.Written.{Written}
+use Rattle.wi_query.specs.declared.query.TheConstants.{LENGTH_LIMIT}
 use Rattle.wi_query.specs.Unknown.{Kind, ARouter, AnInterface, unknown_in}
 use Rattle.wi_query.specs.Meaning.{known_links}
 use Rattle.wi_query.specs.Linked.{first_linkless}
@@ -29,12 +30,12 @@ IsGivenText text = IsQueryText (front ++ text)
 
 -- a text that isn't too long is written so
 pub record IsShortGiven (text : List ℕ) (w : Written) : Type 0 where
-  pub short : nat_lt 4096 (length text) ≡ false
+  pub short : nat_lt LENGTH_LIMIT (length text) ≡ false
   pub reads : Reads (front ++ text) w
 
 -- these bounds are given by a text: none fails besides, and each pair means a link
 pub record IsGiven (net : Net) (text : List ℕ) (bounds : Bounds) : Type 0 where
-  pub short : nat_lt 4096 (length text) ≡ false
+  pub short : nat_lt LENGTH_LIMIT (length text) ≡ false
   pub written : Written
   pub reads : Reads (front ++ text) written
   pub known : unknown_in net written ≡ []
@@ -56,8 +57,8 @@ IsUnknownGiven net text kind at name =
 -- the text's first fault, in the order of a query's, and behind all others a pair that means no link
 abbrev pub IsGivenFault : Net → List ℕ → StrictFault → Type 0
 IsGivenFault net text (InQuery Memory) = Unit {0}
-IsGivenFault net text (InQuery (TooLong n)) = (nat_lt 4096 n ≡ true) × (n ≡ length text)
-IsGivenFault net text (InQuery (Syntax at)) = (nat_lt 4096 (length text) ≡ false) × IsFaultAt IsGivenText text at
+IsGivenFault net text (InQuery (TooLong n)) = (nat_lt LENGTH_LIMIT n ≡ true) × (n ≡ length text)
+IsGivenFault net text (InQuery (Syntax at)) = (nat_lt LENGTH_LIMIT (length text) ≡ false) × IsFaultAt IsGivenText text at
 IsGivenFault net text (InQuery (UnknownRouter at name)) = IsUnknownGiven net text ARouter at (string_bytes name)
 IsGivenFault net text (InQuery (UnknownInterface at name)) = IsUnknownGiven net text AnInterface at (string_bytes name)
 IsGivenFault net text (InQuery (DownAndUp e)) = (w : Written) × IsShortGiven text w × (unknown_in net w ≡ []) × (first_shared net w ≡ Some e)

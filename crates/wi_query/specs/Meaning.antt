@@ -14,6 +14,8 @@ use Rattle.wi_syntax.specs.declared.written.Sign.{Sign}
 use Rattle.wi_syntax.specs.declared.written.Written.{Written}
 use Rattle.wi_syntax.specs.Trees.{Tree, Leaf, Starred, Plussed, Optional, Grouped, Then, Or, AnExpression, is_tree, signs_of}
 use Rattle.wi_syntax.specs.Grammar.{Reads}
+use Rattle.wi_query.specs.declared.bounds.TheConstants.{FAILURE_LIMIT}
+use Rattle.wi_query.specs.declared.query.TheConstants.{LENGTH_LIMIT}
 use Rattle.wi_query.specs.declared.query.Query.{Query}
 use Rattle.wi_query.specs.Compiled.{IsExpressionOver, HasAutomaton}
 use Rattle.wi_query.specs.Sets.{SymbolMarks, holds, is_label_of, is_link_of, is_link_between}
@@ -67,12 +69,12 @@ pub record IsQueryOf (net : Net) (query : Query) : Type 0 where
   pub path : IsExpressionOver (length net.links) query.path.regex
   pub last : IsExpressionOver (length net.labels) query.last.regex
   pub any_last : MayDropAny net query
-  pub k : query.bounds.k ≤ 65535
+  pub k : query.bounds.k ≤ FAILURE_LIMIT
   pub bounds : AreBounds net query.bounds
 
 -- the text is a query of the network
 pub record IsQuery (net : Net) (text : List ℕ) (query : Query) : Type 0 where
-  pub short : nat_lt 4096 (length text) ≡ false
+  pub short : nat_lt LENGTH_LIMIT (length text) ≡ false
   pub written : Written
   pub reads : Reads text written
   pub known : unknown_in net written ≡ []

@@ -58,7 +58,7 @@ pub(crate) fn known_links(
 fn failures(number: &Name) -> Result<u32, QueryFault>
     requires { IsNumber number.now }
     ensures read { IfOk result (λ k. k ≡ digits_value 10 number.now.text) }
-    ensures few { IfOk result (λ k. k ≤ 65535) }
+    ensures few { IfOk result (λ k. k ≤ FAILURE_LIMIT) }
     ensures many { IfErr result (IsTooMany number.now) }
 {
     match read_decimal(number.as_str().as_bytes()) {

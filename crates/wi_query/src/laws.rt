@@ -1,8 +1,10 @@
 //! A query has no fault, and the signs of an expression are those of one tree: so what a text asks doesn't depend on how it is
-//! read. The laws run no code.
+//! read. What is said by a limit's name holds with any number, so another law has the numbers. The laws run no code.
 ghost use Rattle.std.specs.Prelude.{◌≡◌, ℕ, List, [], true};
 ghost use Rattle.wi_syntax.specs.Trees.{Tree, AnExpression, is_tree, signs_of};
 ghost use Rattle.wi_net.specs.Net.{Net};
+ghost use Rattle.wi_query.specs.declared.bounds.TheConstants.{FAILURE_LIMIT};
+ghost use Rattle.wi_query.specs.declared.query.TheConstants.{LENGTH_LIMIT};
 ghost use Rattle.wi_query.specs.declared.fault.QueryFault.{QueryFault};
 ghost use Rattle.wi_query.specs.declared.fault.QueryFault.TheVariants.{Memory};
 ghost use Rattle.wi_query.specs.declared.query.Query.{Query};
@@ -30,4 +32,10 @@ pub fn signs_have_one_tree<A>()
 /// Two readings of a text ask the same.
 pub fn a_text_asks_one_thing()
     ensures { (net : Net) (text : List ℕ) (q r : Query) → IsQuery net text q → IsQuery net text r → AskTheSame q r }
+{}
+
+/// A query has so many bytes at most, and at most so many risk groups fail.
+pub fn limits_have_these_numbers()
+    ensures length { LENGTH_LIMIT ≡ 4096 }
+    ensures failures { FAILURE_LIMIT ≡ 65535 }
 {}

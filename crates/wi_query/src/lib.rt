@@ -18,7 +18,8 @@ pub use expression::Expression;
 pub use fault::QueryFault;
 pub use given::read_given;
 pub use laws::{
-    a_query_has_no_fault, a_strict_query_has_no_fault, a_text_asks_one_thing, signs_have_one_tree,
+    a_query_has_no_fault, a_strict_query_has_no_fault, a_text_asks_one_thing,
+    limits_have_these_numbers, signs_have_one_tree,
 };
 pub use query::{Query, read_query};
 pub use strict::{StrictFault, read_strictly};

@@ -2,6 +2,7 @@
 use Rattle.std.specs.Prelude.{◌≡◌, ℕ, ◌+◌, ◌<◌, ◌≤◌, Bool, false, List, Option, length, codes}
 use Rattle.std.specs.List.{sum_by}
 use Rattle.std.specs.Str.{bytes_eq}
+use Rattle.wi_cert.specs.declared.tree.TheConstants.{NODE_LIMIT}
 use Rattle.wi_cert.specs.declared.shown.Dropped.{Dropped}
 use Rattle.wi_cert.specs.declared.shown.ShownPlace.{ShownPlace}
 use Rattle.wi_cert.specs.declared.shown.ShownPlace.TheVariants.{Answer}
@@ -43,10 +44,10 @@ abbrev pub HasRoom : TreePlace → ℕ → Type 0
 HasRoom places.Title n = n ≡ 0
 HasRoom (places.Shown p) n = n ≡ 0
 HasRoom places.NodeCount n = n ≡ 0
-HasRoom (places.Node left due) n = (0 < left) × (due ≤ left) × (n + left < 10000)
-HasRoom (places.Leaf left due p) n = (due ≤ left) × (n + left + 1 < 10000)
-HasRoom places.End n = n < 10000
-HasRoom places.Done n = n < 10000
+HasRoom (places.Node left due) n = (0 < left) × (due ≤ left) × (n + left < NODE_LIMIT)
+HasRoom (places.Leaf left due p) n = (due ≤ left) × (n + left + 1 < NODE_LIMIT)
+HasRoom places.End n = n < NODE_LIMIT
+HasRoom places.Done n = n < NODE_LIMIT
 
 -- the one line that a certificate may have and a tree may not
 abbrev pub is_undecided : ShownPlace → List ℕ → Bool

@@ -10,6 +10,7 @@ use Rattle.wi_saturate.specs.LeastTables.{IsLeastTable, IsOverflow}
 use Rattle.wi_build.specs.Problems.{Problem}
 use Rattle.wi_build.specs.Encodings.{encoding_of}
 use Rattle.wi_build.specs.Systems.{scale, rules_by}
+use Rattle.wi_decide.specs.declared.searching.TheConstants.{EFFORT_LIMIT}
 use Rattle.wi_decide.specs.declared.refused.SearchRefused.{SearchRefused}
 use Rattle.wi_decide.specs.declared.refused.SearchRefused.TheVariants.{Overflow, TooLong, Memory}
 
@@ -35,5 +36,5 @@ IsNoTable problem heads cut Memory = Unit {0}
 -- why no run is shown: the effort is over the limit
 abbrev pub IsNotShown : ℕ → SearchRefused → Type 0
 IsNotShown effort (Overflow o) = ⊥
-IsNotShown effort (TooLong n) = (n ≡ effort) × (4096 < effort)
+IsNotShown effort (TooLong n) = (n ≡ effort) × (EFFORT_LIMIT < effort)
 IsNotShown effort Memory = Unit {0}

@@ -7,6 +7,7 @@ use Rattle.wi_cert.specs.declared.tree.TreeCertificate.{TreeCertificate}
 use Rattle.wi_cert.specs.Trees.{IsTreeText}
 use Rattle.wi_outcome.specs.declared.refusal.Refusal.{Refusal}
 use Rattle.wi_outcome.specs.declared.refusal.Refusal.TheVariants.{CannotRead, CannotWrite, CannotWriteBelow, LargeCertificate, Memory, NoMemoryBelow, Policies as BadPolicies, TreeNotWritten}
+use Rattle.wi_files.specs.declared.certificate_file.TheConstants.{READ_LIMIT}
 use Rattle.wi_files.specs.Certificates.{IsLarge}
 use Rattle.wi_files.specs.Policies.{HavePoliciesFault}
 use Rattle.wi_files.specs.Shelves.{FetchFailed, IsCalm, StoreFailed, below_name}
@@ -34,7 +35,7 @@ FromStoringBoth old new name bytes refusal = FromStoring old new name refusal
 
 -- bytes are the text of a tree that isn't too large to be written
 abbrev pub IsTreeToStore : TreeCertificate → List ℕ → Type 0
-IsTreeToStore t bytes = IsTreeText t bytes × (length bytes ≤ 268435456)
+IsTreeToStore t bytes = IsTreeText t bytes × (length bytes ≤ READ_LIMIT)
 
 -- it is too large
 abbrev pub FromMaking : TreeCertificate → Refusal → Type 0
@@ -46,6 +47,6 @@ FromMaking t refusal = ⊥
 -- a part couldn't be fetched, or there are too many bytes
 abbrev pub FromParts : ShelfSeen → ShelfSeen → List ℕ → Refusal → Type 0
 FromParts old new name (CannotRead said) = FetchFailed said name old new
-FromParts old new name LargeCertificate = IsCalm old new × (old.told ≡ true → IsLonger (old.file name) 268435456)
+FromParts old new name LargeCertificate = IsCalm old new × (old.told ≡ true → IsLonger (old.file name) READ_LIMIT)
 FromParts old new name Memory = IsCalm old new
 FromParts old new name refusal = ⊥

@@ -2,6 +2,7 @@
 use Rattle.std.specs.Prelude.{◌≡◌, ℕ, ◌<◌, ◌≤◌, List, ◌++◌, length, codes, Ok}
 use Rattle.wi_net.specs.declared.parts.LinkId.{LinkId}
 use Rattle.wi_net.specs.Net.{Net}
+use Rattle.wi_netjson.specs.declared.file.TheConstants.{NETWORK_LIMIT}
 use Rattle.wi_netjson.specs.File.{network_of}
 use Rattle.wi_netjson.specs.Reading.{Fails}
 use Rattle.wi_netjson.specs.Written.{text_of}
@@ -31,13 +32,13 @@ FromPlanFile bytes refusal = FromPlan bytes refusal
 
 -- the text of a network as a file, and a line feed, with which it is the network's still
 pub record IsWritten (net : Net) (text : List ℕ) : Type 0 where
-  pub short : length (text_of net) ≤ 67108864
+  pub short : length (text_of net) ≤ NETWORK_LIMIT
   pub text_is : text ≡ text_of net ++ codes "\n"
-  pub again : length text ≤ 67108864 → network_of text ≡ Ok net
+  pub again : length text ≤ NETWORK_LIMIT → network_of text ≡ Ok net
 
 -- it is too long
 abbrev pub FromWriting : Net → Refusal → Type 0
-FromWriting net LargeNetwork = 67108864 < length (text_of net)
+FromWriting net LargeNetwork = NETWORK_LIMIT < length (text_of net)
 FromWriting net Memory = Unit {0}
 FromWriting net refusal = ⊥
 
@@ -58,13 +59,13 @@ pub record IsFoundFor (net : Net) (plan whole : Plan) (lacking : List LinkId) : 
 -- a plan is printed, and with what status; as a file it is that plan
 pub record IsPlanWritten (net : Net) (plan : Plan) (text : List ℕ) (status : ℕ) : Type 0 where
   pub text_is : text ≡ printed_plan net plan
-  pub short : length text ≤ 67108864
+  pub short : length text ≤ NETWORK_LIMIT
   pub again : IsPlanned text net plan
   pub status_is : status ≡ plan_status (left_unprotected net plan)
 
 -- it is too long
 abbrev pub FromPlanWriting : Net → Plan → Refusal → Type 0
-FromPlanWriting net plan LargeNetwork = 67108864 < length (printed_plan net plan)
+FromPlanWriting net plan LargeNetwork = NETWORK_LIMIT < length (printed_plan net plan)
 FromPlanWriting net plan Memory = Unit {0}
 FromPlanWriting net plan refusal = ⊥
 

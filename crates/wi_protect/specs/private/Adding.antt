@@ -3,6 +3,7 @@ use Rattle.std.specs.Prelude.{◌≡◌, ℕ, ◌+◌, Bool, true, nat_le, if◌
 use Rattle.std.specs.List.{list_all}
 use Rattle.wi_labels.specs.Header.{same_class}
 use Rattle.wi_labels.specs.declared.label.Class.{Class}
+use Rattle.wi_net.specs.declared.limits.TheConstants.{LABEL_LIMIT}
 use Rattle.wi_net.specs.declared.parts.TableRow.{TableRow}
 use Rattle.wi_net.specs.Network.{is_no_later}
 use Rattle.wi_net.specs.Builder.{Draft, add_label, with_label, add_table, with_row}
@@ -44,4 +45,4 @@ name_if class c s = if same_class class c then s ∷ [] else []
 
 -- the numbers of paths' ip labels stay small once so many labels more stand before them
 abbrev pub are_low : ℕ → List Path → Bool
-are_low k paths = list_all (λ (path : Path). nat_le (path.ip.0 + k) 20000) paths
+are_low k paths = list_all (λ (path : Path). nat_le (path.ip.0 + k) LABEL_LIMIT) paths

@@ -6,6 +6,7 @@ use Rattle.wi_net.specs.Net.{Net}
 use Rattle.wi_text.specs.Prefixes.{IsFaultAt}
 use Rattle.wi_syntax.specs.Atoms.{pair_at}
 use Rattle.wi_syntax.specs.declared.written.Written.{Written}
+use Rattle.wi_query.specs.declared.query.TheConstants.{LENGTH_LIMIT}
 use Rattle.wi_query.specs.Unknown.{Unknown, ARouter, AnInterface, unknown_in}
 use Rattle.wi_query.specs.Meaning.{known_links}
 use Rattle.wi_query.specs.Linked.{first_linkless}
@@ -18,8 +19,8 @@ use Rattle.wi_query.specs.declared.strict.StrictFault.TheVariants.{InQuery, NoLi
 -- the text is too long, or no lists of links
 abbrev pub IsNoGiven : List ℕ → QueryFault → Type 0
 IsNoGiven text Memory = Unit {0}
-IsNoGiven text (TooLong n) = (nat_lt 4096 n ≡ true) × (n ≡ length text)
-IsNoGiven text (Syntax at) = (nat_lt 4096 (length text) ≡ false) × IsFaultAt IsGivenText text at
+IsNoGiven text (TooLong n) = (nat_lt LENGTH_LIMIT n ≡ true) × (n ≡ length text)
+IsNoGiven text (Syntax at) = (nat_lt LENGTH_LIMIT (length text) ≡ false) × IsFaultAt IsGivenText text at
 IsNoGiven text fault = ⊥
 
 -- a name that isn't known stands behind the front

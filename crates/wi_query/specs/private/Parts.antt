@@ -4,6 +4,7 @@ use Rattle.std.specs.List.{find}
 use Rattle.std.specs.Str.Parse.{digits_value}
 use Rattle.wi_regex.specs.declared.regex.Regex.{Regex}
 use Rattle.wi_regex.specs.Matching.{position_count}
+use Rattle.wi_nfa.specs.declared.nfa.TheConstants.{POSITION_LIMIT}
 use Rattle.wi_net.specs.declared.parts.LinkId.{LinkId}
 use Rattle.wi_net.specs.declared.bounds.Bounds.{Bounds}
 use Rattle.wi_net.specs.LinkSet.{has}
@@ -12,6 +13,8 @@ use Rattle.wi_text.specs.Prefixes.{IsFaultAt}
 use Rattle.wi_syntax.specs.Names.{Named}
 use Rattle.wi_syntax.specs.Grammar.{IsQueryText}
 use Rattle.wi_syntax.specs.declared.written.Written.{Written}
+use Rattle.wi_query.specs.declared.bounds.TheConstants.{FAILURE_LIMIT}
+use Rattle.wi_query.specs.declared.query.TheConstants.{LENGTH_LIMIT}
 use Rattle.wi_query.specs.Sets.{SymbolMarks, is_label_of, is_link_of}
 use Rattle.wi_query.specs.Last.{last_signs, is_dropped}
 use Rattle.wi_query.specs.Meaning.{AreSignsOf, HasAutomata, known_links}
@@ -39,7 +42,7 @@ pub record AreCounted (parts : Parts) : Type 0 where
 -- an expression has too many positions, and the fault tells how many
 abbrev pub IsOver : ℕ → Regex SymbolMarks → QueryFault → Type 0
 IsOver number r Memory = Unit {0}
-IsOver number r (TooManyPositions i n) = (nat_lt 512 (position_count r) ≡ true) × (i ≡ number) × (n ≡ position_count r)
+IsOver number r (TooManyPositions i n) = (nat_lt POSITION_LIMIT (position_count r) ≡ true) × (i ≡ number) × (n ≡ position_count r)
 IsOver number r fault = ⊥
 
 -- the number is over the limit, and the fault tells where it starts
@@ -54,7 +57,7 @@ shared down up = find (λ e. has up e) down
 -- what may fail
 pub record AreBoundsOf (number : Named) (downs ups : List LinkId) (bounds : Bounds) : Type 0 where
   pub k : bounds.k ≡ digits_value 10 number.text
-  pub few : bounds.k ≤ 65535
+  pub few : bounds.k ≤ FAILURE_LIMIT
   pub down : bounds.down ≡ downs
   pub up : bounds.up ≡ ups
   pub apart : shared downs ups ≡ None
@@ -66,7 +69,7 @@ IsRefusedBound number down up fault = ⊥
 
 -- the first of three expressions that has too many positions, and how many
 abbrev pub too_many_in : Parts → Option (ℕ × ℕ)
-too_many_in parts = find (λ e. nat_lt 512 e.1) ((1, position_count parts.first) ∷ (2, position_count parts.path) ∷ (3, position_count parts.last) ∷ [])
+too_many_in parts = find (λ e. nat_lt POSITION_LIMIT e.1) ((1, position_count parts.first) ∷ (2, position_count parts.path) ∷ (3, position_count parts.last) ∷ [])
 
 -- the query of parts and a number
 pub record IsMadeOf (parts : Parts) (number : Named) (query : Query) : Type 0 where
@@ -88,6 +91,6 @@ IsWrong parts number fault = ⊥
 -- the text is too long, or not of the form of a query
 abbrev pub IsNoQuery : List ℕ → QueryFault → Type 0
 IsNoQuery text Memory = Unit {0}
-IsNoQuery text (TooLong n) = (nat_lt 4096 n ≡ true) × (n ≡ length text)
-IsNoQuery text (Syntax k) = (nat_lt 4096 (length text) ≡ false) × IsFaultAt IsQueryText text k
+IsNoQuery text (TooLong n) = (nat_lt LENGTH_LIMIT n ≡ true) × (n ≡ length text)
+IsNoQuery text (Syntax k) = (nat_lt LENGTH_LIMIT (length text) ≡ false) × IsFaultAt IsQueryText text k
 IsNoQuery text fault = ⊥

@@ -18,7 +18,7 @@ use Rattle.wi_cert.specs.Trees.{IsTreeText}
 use Rattle.wi_trees.specs.Trees.{HoldsExactly}
 use Rattle.wi_accept.specs.Answers.{word_of}
 use Rattle.wi_accept.specs.Trees.{IsDecidedExactly}
-use Rattle.wi_branch.specs.declared.refused.ExactRefused.TheVariants as none
+use Rattle.wi_branch.specs.declared.refused.AnswerRefused.TheVariants as none
 use Rattle.wi_branch.specs.Exactly.{IsAnsweredExactly}
 use Rattle.wi_report.specs.Reports.{IsKnownRun, accepted_text, exact_report_of}
 use Rattle.std.proofs.lemmas.Bool.{and_parts}

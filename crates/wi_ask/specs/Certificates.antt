@@ -13,6 +13,7 @@ use Rattle.wi_accept.specs.Makers.{IsMaker}
 use Rattle.wi_decide.specs.Refusals.{IsUnrefused}
 use Rattle.wi_outcome.specs.declared.refusal.Refusal.{Refusal}
 use Rattle.wi_outcome.specs.declared.refusal.Refusal.TheVariants.{NotAccepted}
+use Rattle.wi_files.specs.declared.certificate_file.TheConstants.{WRITTEN_LIMIT}
 use Rattle.wi_files.specs.Certificates.{FromLines, IsCertificateFile, FromKeeping}
 use Rattle.wi_files.specs.Shelves.{IsCalm}
 
@@ -34,7 +35,7 @@ pub record IsCertificateText (problem : Problem) (answer : Answer) (bytes : List
   pub certificate : Certificate
   pub is : IsCertificate problem answer certificate
   pub text : IsText certificate bytes
-  pub short : length (closed_text certificate) ≤ 268000000
+  pub short : length (closed_text certificate) ≤ WRITTEN_LIMIT
 
 -- the text stands under the name, if there is one
 abbrev pub IsStored : Option (List ℕ) → ShelfSeen → Problem → Answer → Type 0
@@ -46,7 +47,7 @@ pub record IsTooLargeToWrite (problem : Problem) : Type 0 where
   pub answer : Answer
   pub certificate : Certificate
   pub is : IsCertified problem answer certificate
-  pub long : 268000000 < length (closed_text certificate)
+  pub long : WRITTEN_LIMIT < length (closed_text certificate)
 
 -- the certificate of such an answer is to be stored under the name, if there is one, and can't be
 pub record FromStore (file : Option (List ℕ)) (old new : ShelfSeen) (problem : Problem) (refusal : Refusal) : Type 0 where

@@ -3,15 +3,16 @@ use Rattle.std.specs.Prelude.{◌≡◌, ℕ, List, length, Option}
 use Rattle.wi_base.specs.Shelf.{ShelfSeen}
 use Rattle.wi_trace.specs.declared.answer.Answer.{Answer}
 use Rattle.wi_build.specs.Problems.{Problem, IsProblem}
+use Rattle.wi_cert.specs.declared.tree.TheConstants.{NODE_LIMIT}
 use Rattle.wi_cert.specs.declared.tree.TreeCertificate.{TreeCertificate}
 use Rattle.wi_cert.specs.declared.check_refused.CheckRefused.{CheckRefused}
 use Rattle.wi_cert.specs.Text.{IsBadLine}
 use Rattle.wi_cert.specs.Trees.{IsTreeText, trees}
 use Rattle.wi_accept.specs.Answers.{answer_of}
 use Rattle.wi_accept.specs.Trees.{IsDecidedExactly, IsTreeAccepted, IsTreeRefusal}
-use Rattle.wi_branch.specs.declared.refused.ExactRefused.{ExactRefused}
-use Rattle.wi_branch.specs.declared.refused.ExactRefused.TheVariants as none
-use Rattle.wi_branch.specs.Exactly.{IsExact, IsExactRefused}
+use Rattle.wi_branch.specs.declared.refused.AnswerRefused.{AnswerRefused}
+use Rattle.wi_branch.specs.declared.refused.AnswerRefused.TheVariants as none
+use Rattle.wi_branch.specs.Exactly.{IsAnswerRefused, IsExact}
 use Rattle.wi_report.specs.Reports.{exact_report_of}
 use Rattle.wi_outcome.specs.declared.refusal.Refusal.{Refusal}
 use Rattle.wi_outcome.specs.declared.refusal.Refusal.TheVariants.{ManyNodes, Memory, Overflow, TooLong}
@@ -23,7 +24,7 @@ use Rattle.wi_ask.specs.Decided.{status_for}
 -- an answer to a problem that holds without doubt, with the tree of at most 10,000 nodes that shows it; nothing speaks against that
 pub record IsShownExactly (problem : Problem) (answer : Answer) (tree : TreeCertificate) : Type 0 where
   pub problem_is : IsProblem problem
-  pub exact : IsExact problem 10000 answer tree
+  pub exact : IsExact problem NODE_LIMIT answer tree
   pub accepted : IsTreeAccepted problem tree
 
 -- the report on such an answer, with its status; its tree stands under the name, if there is one
@@ -38,21 +39,21 @@ pub record IsReportedExactly (problem : Problem) (file : Option (List ℕ)) (she
 -- at the branch that is next a summary's weight doesn't fit, or else the least run is too long; or it would be one node too many
 abbrev pub FromSplitting : Problem → Refusal → Type 0
 FromSplitting problem (Overflow w terms) =
-    (terms ≡ length problem.vector) × ((head : ℕ × ℕ) × (target : ℕ) × IsExactRefused problem 10000 (none.Overflow (record { head = head; target = target; weight = w })))
-FromSplitting problem (TooLong effort) = IsExactRefused problem 10000 (none.TooLong effort)
-FromSplitting problem ManyNodes = IsExactRefused problem 10000 none.NodeLimit
+    (terms ≡ length problem.vector) × ((head : ℕ × ℕ) × (target : ℕ) × IsAnswerRefused problem NODE_LIMIT (none.Overflow (record { head = head; target = target; weight = w })))
+FromSplitting problem (TooLong effort) = IsAnswerRefused problem NODE_LIMIT (none.TooLong effort)
+FromSplitting problem ManyNodes = IsAnswerRefused problem NODE_LIMIT none.NodeLimit
 FromSplitting problem Memory = Unit {0}
 FromSplitting problem refusal = ⊥
 
 -- the status with which it then ends
-abbrev pub status_without : ExactRefused → ℕ
+abbrev pub status_without : AnswerRefused → ℕ
 status_without (none.Overflow o) = 6
 status_without (none.TooLong effort) = 7
 status_without none.NodeLimit = 13
 status_without none.Memory = 11
 
 abbrev pub EndsBySplitting : Problem → ℕ → Type 0
-EndsBySplitting problem status = (refused : ExactRefused) × IsExactRefused problem 10000 refused × (status ≡ status_without refused)
+EndsBySplitting problem status = (refused : AnswerRefused) × IsAnswerRefused problem NODE_LIMIT refused × (status ≡ status_without refused)
 
 -- an exact answer is shown by such a tree
 pub record IsTreeTooLarge (problem : Problem) : Type 0 where

@@ -2,6 +2,7 @@
 use Rattle.std.specs.Prelude.{◌≡◌, ℕ, ◌<◌, ◌≤◌, List, length, Option, None}
 use Rattle.wi_base.specs.Shelf.{ShelfSeen}
 use Rattle.wi_build.specs.Problems.{Problem, allowing}
+use Rattle.wi_cert.specs.declared.tree.TheConstants.{NODE_LIMIT}
 use Rattle.wi_cert.specs.declared.tree.TreeCertificate.{TreeCertificate}
 use Rattle.wi_branch.specs.Tolerance.{IsTolerated, TellsTolerance}
 use Rattle.wi_branch.specs.declared.tolerance.Tolerance.{Tolerance}
@@ -14,7 +15,7 @@ use Rattle.wi_ask.specs.Exact.{EndsBySplitting, FromSplitting}
 -- ---- told
 -- it is told how many failures it takes, if they are at most so many, by trees of at most 10,000 nodes
 abbrev pub IsTold : Problem → ℕ → Tolerance → Type 0
-IsTold problem most found = TellsTolerance (allowing problem) most 10000 found
+IsTold problem most found = TellsTolerance (allowing problem) most NODE_LIMIT found
 
 -- the exit status, and what is printed
 abbrev pub tolerance_status : Tolerance → ℕ

@@ -3,7 +3,7 @@ ghost use Rattle.std.specs.Prelude.{◌≡◌, Some, None, option_map, length, I
 ghost use Rattle.wi_base.specs.Shelf.{ShelfSeen};
 ghost use Rattle.wi_cert.specs.Trees.{IsTreeWritable};
 ghost use Rattle.wi_build.specs.Problems.{Problem};
-ghost use Rattle.wi_branch.specs.Exactly.{IsAnsweredExactly, IsExactRefused};
+ghost use Rattle.wi_branch.specs.Exactly.{IsAnswerRefused, IsAnsweredExactly};
 ghost use Rattle.wi_report.specs.Reports.{IsKnownRun, exact_report_of};
 ghost use Rattle.wi_files.specs.Certificates.{FromKeepingTree, IsTreeStored};
 ghost use Rattle.wi_files.specs.Shelves.{IsCalm, IsLeft, OthersStand};
@@ -14,7 +14,7 @@ ghost use Rattle.wi_ask.specs.Wanted.{FromAnswer};
 use crate::verify::status_for;
 use std::alloc::Global;
 use wi_base::{NoMemory, Shelf};
-use wi_branch::{ExactRefused, exact as exact_tree, exact_answer};
+use wi_branch::{AnswerRefused, exact as exact_tree, exact_answer};
 use wi_build::Problem;
 use wi_cert::{NODE_LIMIT, TreeCertificate};
 use wi_files::store_tree;
@@ -119,7 +119,7 @@ fn printed(
 
 // The exact answer to a problem, and how many nodes its tree has; or why there is none.
 fn answered_exactly<'a>(alloc: Global, problem: &Problem<'_>) -> Result<(Answer, u32), Refusal<'a>>
-    ensures answered { IfOk result (λ found. IsAnsweredExactly problem.now 10000 found.0 found.1) }
+    ensures answered { IfOk result (λ found. IsAnsweredExactly problem.now NODE_LIMIT found.0 found.1) }
     ensures refused { IfErr result (FromSplitting problem.now) }
 {
     match exact_answer(alloc, problem, problem.bounds().k, NODE_LIMIT) {
@@ -139,18 +139,18 @@ fn decided_exactly<'a>(
     problem.keeps();
     match exact_tree(alloc, problem, problem.bounds().k, NODE_LIMIT) {
         Ok(found) => Ok(found),
-        Err(refused) => Err(refusal_for(refused, problem.terms())),
+        Err(refused) => Err(refusal_for(AnswerRefused::from(refused), problem.terms())),
     }
 }
 
 /// Why there is no exact answer. So many terms of weights are shown.
-pub fn refusal_for<'a>(refused: ExactRefused, terms: usize) -> Refusal<'a>
-    ensures { (problem : Problem) → IsExactRefused problem 10000 refused → terms ≡ length problem.vector → FromSplitting problem result }
+pub fn refusal_for<'a>(refused: AnswerRefused, terms: usize) -> Refusal<'a>
+    ensures { (problem : Problem) → IsAnswerRefused problem NODE_LIMIT refused → terms ≡ length problem.vector → FromSplitting problem result }
 {
     match refused {
-        ExactRefused::Overflow(overflow) => Refusal::Overflow(overflow.weight, terms),
-        ExactRefused::TooLong(effort) => Refusal::TooLong(effort),
-        ExactRefused::NodeLimit => Refusal::ManyNodes,
-        ExactRefused::Memory => Refusal::Memory,
+        AnswerRefused::Overflow(overflow) => Refusal::Overflow(overflow.weight, terms),
+        AnswerRefused::TooLong(effort) => Refusal::TooLong(effort),
+        AnswerRefused::NodeLimit => Refusal::ManyNodes,
+        AnswerRefused::Memory => Refusal::Memory,
     }
 }

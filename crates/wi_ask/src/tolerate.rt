@@ -10,7 +10,7 @@ ghost use Rattle.wi_ask.specs.Wanted.{FromAnswer};
 use crate::exact::refusal_for;
 use std::alloc::Global;
 use wi_base::{NoMemory, Shelf};
-use wi_branch::{Tolerance, TolerateRefused, tolerate as tolerance_of};
+use wi_branch::{AnswerRefused, Tolerance, TolerateRefused, tolerate as tolerance_of};
 use wi_build::Problem;
 use wi_cert::NODE_LIMIT;
 use wi_files::store_trees;
@@ -47,7 +47,9 @@ fn tolerance<'a>(alloc: Global, problem: &Problem<'_>, most: u32) -> Result<Tole
 {
     match tolerance_of(alloc, problem, most, NODE_LIMIT) {
         Ok(found) => Ok(found),
-        Err(TolerateRefused::Exact(_, refused)) => Err(refusal_for(refused, problem.terms())),
+        Err(TolerateRefused::Exact(_, refused)) => {
+            Err(refusal_for(AnswerRefused::from(refused), problem.terms()))
+        }
         Err(TolerateRefused::Memory) => Err(Refusal::Memory),
     }
 }

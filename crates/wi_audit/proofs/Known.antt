@@ -19,9 +19,9 @@ use Rattle.wi_build.specs.Problems.{Problem, asks, weighs}
 use Rattle.wi_trees.specs.Trees.{HoldsExactly}
 use Rattle.wi_accept.specs.Trees.{IsDecidedExactly}
 use Rattle.wi_base.specs.declared.no_memory.NoMemory.{NoMemory}
-use Rattle.wi_branch.specs.declared.refused.ExactRefused.{ExactRefused}
-use Rattle.wi_branch.specs.declared.refused.ExactRefused.TheVariants as refused
-use Rattle.wi_branch.specs.Exactly.{IsExactRefused}
+use Rattle.wi_branch.specs.declared.refused.AnswerRefused.{AnswerRefused}
+use Rattle.wi_branch.specs.declared.refused.AnswerRefused.TheVariants as refused
+use Rattle.wi_branch.specs.Exactly.{IsAnswerRefused}
 use Rattle.wi_report.specs.Reports.{IsKnownRun}
 use Rattle.wi_audit.specs.declared.outcome.Outcome.{Outcome}
 use Rattle.wi_audit.specs.declared.outcome.Outcome.TheVariants.{Open}
@@ -57,10 +57,10 @@ exact_known problem a h = run_known problem.net (asks problem) (weighs problem) 
 
 -- ---- where there is none
 
-pub open_outcome : (r : Result Outcome NoMemory) (problem : Problem) (cause : ExactRefused) → IfOk r (λ o. o ≡ Open cause) → OnOk r (cause ≡ refused.Memory → ⊥) → IsExactRefused problem 10000 cause → IfOk r (λ o. IsOutcome problem o)
+pub open_outcome : (r : Result Outcome NoMemory) (problem : Problem) (cause : AnswerRefused) → IfOk r (λ o. o ≡ Open cause) → OnOk r (cause ≡ refused.Memory → ⊥) → IsAnswerRefused problem 10000 cause → IfOk r (λ o. IsOutcome problem o)
 open_outcome (Err e) problem cause is decided none = tt
 open_outcome (Ok o) problem cause is decided none = rw is (decided, none)
 
-pub open_showable : (r : Result Outcome NoMemory) (net : Net) (cause : ExactRefused) → IfOk r (λ o. o ≡ Open cause) → IfOk r (λ o. IsShowable net o)
+pub open_showable : (r : Result Outcome NoMemory) (net : Net) (cause : AnswerRefused) → IfOk r (λ o. o ≡ Open cause) → IfOk r (λ o. IsShowable net o)
 open_showable (Err e) net cause is = tt
 open_showable (Ok o) net cause is = rw is tt

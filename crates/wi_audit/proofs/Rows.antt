@@ -2,7 +2,7 @@
 use Rattle.std.proofs.Common.{◌≡◌, true, [], refl}
 use Rattle.std.specs.Prelude.{codes}
 use Rattle.std.specs.Fmt.{digits}
-use Rattle.wi_branch.specs.declared.refused.ExactRefused.TheVariants.{NodeLimit, TooLong}
+use Rattle.wi_branch.specs.declared.refused.AnswerRefused.TheVariants.{NodeLimit, TooLong}
 use Rattle.wi_audit.specs.Texts.{called, cause_text, commented, plan_text}
 
 plan : plan_text 3 ≡ codes "1..3\n"

@@ -7,8 +7,9 @@ use Rattle.wi_world.specs.declared.answer.Word.{Word}
 use Rattle.wi_world.specs.declared.answer.Word.TheVariants.{Yes, No, Inconclusive}
 use Rattle.wi_query.specs.declared.query.Query.{Query}
 use Rattle.wi_build.specs.Problems.{Problem, IsProblem, problem_of}
-use Rattle.wi_branch.specs.declared.refused.ExactRefused.TheVariants as refused
-use Rattle.wi_branch.specs.Exactly.{IsAnsweredExactly, IsExactRefused}
+use Rattle.wi_cert.specs.declared.tree.TheConstants.{NODE_LIMIT}
+use Rattle.wi_branch.specs.declared.refused.AnswerRefused.TheVariants as refused
+use Rattle.wi_branch.specs.Exactly.{IsAnswerRefused, IsAnsweredExactly}
 use Rattle.wi_policy.specs.declared.policy.Policy.{Policy}
 use Rattle.wi_policy.specs.Policies.{IsAsked}
 use Rattle.wi_audit.specs.declared.outcome.Outcome.{Outcome}
@@ -18,8 +19,8 @@ use Rattle.wi_audit.specs.declared.outcome.Fulfilment.TheVariants as fulfilment
 
 -- the exact answer to a problem, by a tree of so many nodes, at most 10,000; or why there is none
 abbrev pub IsOutcome : Problem → Outcome → Type 0
-IsOutcome problem (Answered answer nodes) = IsAnsweredExactly problem 10000 answer nodes
-IsOutcome problem (Open cause) = (cause ≡ refused.Memory → ⊥) × IsExactRefused problem 10000 cause
+IsOutcome problem (Answered answer nodes) = IsAnsweredExactly problem NODE_LIMIT answer nodes
+IsOutcome problem (Open cause) = (cause ≡ refused.Memory → ⊥) × IsAnswerRefused problem NODE_LIMIT cause
 
 -- two words are one
 abbrev pub same_word : Word → Word → Bool

@@ -4,8 +4,9 @@ use Rattle.std.specs.Fmt.{decimal}
 use Rattle.wi_build.specs.Problems.{Problem}
 use Rattle.wi_net.specs.declared.bounds.Bounds.{Bounds}
 use Rattle.wi_net.specs.Net.{Net}
-use Rattle.wi_branch.specs.declared.refused.ExactRefused.{ExactRefused}
-use Rattle.wi_branch.specs.declared.refused.ExactRefused.TheVariants as refused
+use Rattle.wi_cert.specs.declared.tree.TheConstants.{NODE_LIMIT}
+use Rattle.wi_branch.specs.declared.refused.AnswerRefused.{AnswerRefused}
+use Rattle.wi_branch.specs.declared.refused.AnswerRefused.TheVariants as refused
 use Rattle.wi_report.specs.RefusedDecisions.{nodes_over_limit_text, overflow_text, too_long_text}
 use Rattle.wi_report.specs.Reports.{exact_report_of, word_shown}
 use Rattle.wi_policy.specs.declared.policy.Policy.{Policy}
@@ -39,10 +40,10 @@ commented begins [] = []
 commented begins (b ∷ text) = (if begins then codes "# " else []) ++ b ∷ commented (b == 10) text
 
 -- why there is no exact answer: of a weight the effort alone is asked
-abbrev pub cause_text : ExactRefused → List ℕ
+abbrev pub cause_text : AnswerRefused → List ℕ
 cause_text (refused.Overflow o) = overflow_text 0 o.weight
 cause_text (refused.TooLong effort) = too_long_text effort
-cause_text refused.NodeLimit = nodes_over_limit_text 10000
+cause_text refused.NodeLimit = nodes_over_limit_text NODE_LIMIT
 cause_text refused.Memory = []
 
 -- the report on an outcome

@@ -1,13 +1,13 @@
 //! An outcome has no tree: of one policy no more is kept than its lines tell.
 ghost use Rattle.std.specs.Prelude.{◌≡◌, ◌≢◌, IfOk, OnOk};
 ghost use Rattle.wi_audit.specs.Outcomes.{IsOutcome, fulfilment_of};
-ghost use Rattle.wi_branch.specs.declared.refused.ExactRefused.{ExactRefused};
+ghost use Rattle.wi_branch.specs.declared.refused.AnswerRefused.{AnswerRefused};
 ghost use Rattle.wi_audit.specs.declared.outcome.Outcome.{Outcome};
 ghost use Rattle.wi_audit.specs.private.Shows.{IsShowable};
 
 use std::alloc::Global;
 use wi_base::NoMemory;
-use wi_branch::{ExactRefused, exact_answer};
+use wi_branch::{AnswerRefused, exact_answer};
 use wi_build::Problem;
 use wi_cert::NODE_LIMIT;
 use wi_trace::Answer;
@@ -19,7 +19,7 @@ pub enum Outcome {
     /// Its exact answer, with how many nodes the tree has that shows it.
     Answered(Answer, usize),
     /// None, for this reason.
-    Open(ExactRefused),
+    Open(AnswerRefused),
 }
 
 /// Whether an outcome is what a policy expects.
@@ -44,12 +44,12 @@ pub(crate) fn outcome_of(alloc: Global, problem: &Problem<'_>) -> Result<Outcome
 }
 
 // No answer, for this reason. Want of memory is no outcome.
-fn open_for(cause: ExactRefused) -> Result<Outcome, NoMemory>
+fn open_for(cause: AnswerRefused) -> Result<Outcome, NoMemory>
     ensures open { IfOk result (λ outcome. outcome ≡ Outcome.Open cause) }
-    ensures decided { OnOk result (cause ≢ ExactRefused.Memory) }
+    ensures decided { OnOk result (cause ≢ AnswerRefused.Memory) }
 {
     match cause {
-        ExactRefused::Memory => Err(NoMemory::Memory),
+        AnswerRefused::Memory => Err(NoMemory::Memory),
         other => Ok(Outcome::Open(other)),
     }
 }

@@ -9,7 +9,7 @@ ghost use Rattle.wi_audit.specs.private.Shows.{IsShowable, mark};
 use crate::outcome::{Fulfilment, Outcome};
 use std::alloc::Global;
 use wi_base::{NoMemory, write_decimal};
-use wi_branch::ExactRefused;
+use wi_branch::AnswerRefused;
 use wi_build::Problem;
 use wi_cert::NODE_LIMIT;
 use wi_policy::Policy;
@@ -202,13 +202,13 @@ fn outcome_text(alloc: Global, problem: &Problem<'_>, outcome: &Outcome) -> Resu
 }
 
 // Why there is no exact answer.
-fn cause_text(alloc: Global, cause: &ExactRefused) -> Result<Text, NoMemory>
+fn cause_text(alloc: Global, cause: &AnswerRefused) -> Result<Text, NoMemory>
     ensures { IfOk result (λ text. text ≡ cause_text cause.now) }
 {
     match cause {
-        ExactRefused::Overflow(overflow) => overflow_text(alloc, &overflow.weight, 0),
-        ExactRefused::TooLong(effort) => too_long_text(alloc, *effort),
-        ExactRefused::NodeLimit => nodes_over_limit_text(alloc, NODE_LIMIT),
-        ExactRefused::Memory => Ok(Text::new(alloc)),
+        AnswerRefused::Overflow(overflow) => overflow_text(alloc, &overflow.weight, 0),
+        AnswerRefused::TooLong(effort) => too_long_text(alloc, *effort),
+        AnswerRefused::NodeLimit => nodes_over_limit_text(alloc, NODE_LIMIT),
+        AnswerRefused::Memory => Ok(Text::new(alloc)),
     }
 }

@@ -1,5 +1,5 @@
 -- Once all branches were opened, the best run is the answer, and what was opened is the tree that shows it.
-use Rattle.std.proofs.Common.{◌≡◌, ℕ, ◌<◌, ◌≤◌, true, false, Bool, List, [], ◌∷◌, length, map, Option, Some, None, IfSome, option_map, ◌⊎◌, inl, inr, refl, arith, ap, sym, ◌∙◌, subst}
+use Rattle.std.proofs.Common.{◌≡◌, ℕ, ◌<◌, ◌≤◌, true, false, List, [], ◌∷◌, length, map, Option, Some, None, IfSome, option_map, ◌⊎◌, inl, inr, refl, arith, ap, sym, ◌∙◌, subst}
 use Rattle.std.proofs.lemmas.List.{length-map}
 use Rattle.wi_net.specs.declared.bounds.Bounds.{Bounds}
 use Rattle.wi_net.specs.Network.{IsNetwork}
@@ -40,8 +40,8 @@ HasBest problem best = IfSome best (λ found. (branch : Bounds) × IsBranch prob
 
 module _ (problem : Problem) (k : IsNetwork problem.net) (kw : AreBounds problem.net problem.bounds) where
   -- no matching trace is below the last cut
-  none_below : (limit : ℕ) (keeps : Bool) (done : Opening) → IsDone problem limit keeps done → NoTraceBelow problem.net (asks problem) (weighs problem) (cut_of done.best) problem.bounds
-  none_below limit keeps done h =
+  none_below : (limit : ℕ) (done : Opening) → IsDone problem limit done → NoTraceBelow problem.net (asks problem) (weighs problem) (cut_of done.best) problem.bounds
+  none_below limit done h =
       let P : List Bounds → Type 0 = λ l. IsWalk problem None h.0.opened (problem.bounds ∷ []) (cut_of done.best) l in
       let nodes = walk_nodes problem k kw None h.0.opened (problem.bounds ∷ []) (cut_of done.best) (root problem.net problem.bounds kw, tt) (subst P h.1 h.0.walk) in
       let tree = nodes_tree (NoRunBelow problem.net (asks problem) (weighs problem) (cut_of done.best)) problem.net (map split_in h.0.opened) problem.bounds nodes in
@@ -117,17 +117,14 @@ module _ (problem : Problem) (k : IsProblem problem) where
   can_show (Some found) h none = (h.2.small, small_run problem k found.run (whole_moving problem k.network k.bounds_of found h.0 h.1 h.2 none))
 
   -- the answer with the best run can be shown
-  pub best_shown : (limit : ℕ) (keeps : Bool) (done : Opening) → IsDone problem limit keeps done → (best : Option LeastRun) → best ≡ done.best
-      → (a : Answer) → a ≡ answer_with problem.net problem.bounds best → CanBeShown a
-  best_shown limit keeps done h best best_is a is =
-      let can = can_show done.best h.0.best (none_below problem k.network k.bounds_of limit keeps done h) in
-      subst CanBeShown (sym (is ∙ ap (answer_with problem.net problem.bounds) best_is)) can
+  pub best_shown : (limit : ℕ) (done : Opening) → IsDone problem limit done → CanBeShown (answer_with problem.net problem.bounds done.best)
+  best_shown limit done h = can_show done.best h.0.best (none_below problem k.network k.bounds_of limit done h)
 
   -- nothing speaks against the tree of an exact answer
   pub exact_accepted : (limit : ℕ) (a : Answer) (t : TreeCertificate) → IsExact problem limit a t → IsTreeAccepted problem t
   exact_accepted limit a t exact = nothing_against_tree problem a t k exact.holds exact.made
 
-  module _ (limit : ℕ) (keeps : Bool) (done : Opening) (h : IsDone problem limit keeps done) (few : length problem.vector ≤ 5) (room : limit ≤ 10000) where
+  module _ (limit : ℕ) (done : Opening) (h : IsDone problem limit done) (few : length problem.vector ≤ 5) (room : limit ≤ 10000) where
     abbrev answer : Answer
     answer = answer_with problem.net problem.bounds done.best
 
@@ -141,7 +138,7 @@ module _ (problem : Problem) (k : IsProblem problem) where
     tree = tree_of shown h.0.opened
 
     seen : Shows problem answer
-    seen = shows_either problem k few answer (shows_with problem k.network k.bounds_of done.best h.0.best (none_below problem k.network k.bounds_of limit keeps done h))
+    seen = shows_either problem k few answer (shows_with problem k.network k.bounds_of done.best h.0.best (none_below problem k.network k.bounds_of limit done h))
 
     last : Option (List ℕ)
     last = cut_of done.best
@@ -175,7 +172,7 @@ module _ (problem : Problem) (k : IsProblem problem) where
 
     exact : IsExact problem limit answer tree
     exact = record {
-      holds = holds_with problem k.network k.bounds_of done.best h.0.best (none_below problem k.network k.bounds_of limit keeps done h);
+      holds = holds_with problem k.network k.bounds_of done.best h.0.best (none_below problem k.network k.bounds_of limit done h);
       made = made;
       opened = h.0.opened;
       walk = subst (λ (c : Option (List ℕ)). IsWalk problem None h.0.opened (problem.bounds ∷ []) c []) (sym (cut_with problem k.network k.bounds_of done.best)) walk;
@@ -184,14 +181,11 @@ module _ (problem : Problem) (k : IsProblem problem) where
     }
 
     -- whatever is equal to that answer and that tree is exact
-    pub exact_is : (best : Option LeastRun) → best ≡ done.best → (opened : List Opened) → done.nodes ≡ Some opened → keeps ≡ true → (a : Answer) → a ≡ answer_with problem.net problem.bounds best
-        → (t : TreeCertificate) → t.shown ≡ shown_by problem a → t.nodes ≡ map (node_under t.shown) opened → IsExact problem limit a t
-    exact_is best best_is opened nodes_are keep a answer_is t shown_is tree_nodes =
-        let a_is : a ≡ answer = answer_is ∙ ap (answer_with problem.net problem.bounds) best_is in
-        let same : Some opened ≡ Some h.0.opened = sym nodes_are ∙ (h.0.nodes ∙ ap (λ b. kept b h.0.opened) keep) in
-        let opened_are : opened ≡ h.0.opened = cc in
-        let tree_is : t ≡ tree = tree_same t shown h.0.opened (shown_is ∙ ap (shown_by problem) a_is) (tree_nodes ∙ ap (map (node_under t.shown)) opened_are) in
-        subst (λ x. IsExact problem limit x t) (sym a_is) (subst (λ x. IsExact problem limit answer x) (sym tree_is) exact)
+    pub exact_is : done.keeps ≡ true → (a : Answer) → a ≡ answer → (t : TreeCertificate) → t.shown ≡ shown_by problem a → t.nodes ≡ map (node_under t.shown) done.nodes → IsExact problem limit a t
+    exact_is keep a answer_is t shown_is tree_nodes =
+        let nodes_are : done.nodes ≡ h.0.opened = h.0.nodes ∙ ap (λ b. kept b h.0.opened) keep in
+        let tree_is : t ≡ tree = tree_same t shown h.0.opened (shown_is ∙ ap (shown_by problem) answer_is) (tree_nodes ∙ ap (map (node_under t.shown)) nodes_are) in
+        subst (λ x. IsExact problem limit x t) (sym answer_is) (subst (λ x. IsExact problem limit answer x) (sym tree_is) exact)
 
     -- so many nodes has the tree
     pub answered_is : (best : Option LeastRun) → best ≡ done.best → (count : ℕ) → count ≡ done.count → (a : Answer) → a ≡ answer_with problem.net problem.bounds best

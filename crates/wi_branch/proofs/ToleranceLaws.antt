@@ -107,9 +107,9 @@ none_shows problem limit answer tree tolerated exact accepted = go answer.word r
 
 pub stopped_tells : (asked : ℕ → Problem) (limit k : ℕ) (refused : ExactRefused) → AreTolerated asked k → IsExactRefused (asked k) limit refused
     → (most : ℕ) → k ≤ most → IsStoppedUpTo asked most limit (stopped_with k refused)
-stopped_tells asked limit k (exact.Overflow o) fewer inexact most within = (within, fewer, (λ e. cc), inexact)
-stopped_tells asked limit k (exact.TooLong n) fewer inexact most within = (within, fewer, (λ e. cc), inexact)
-stopped_tells asked limit k exact.NodeLimit fewer inexact most within = (within, fewer, (λ e. cc), inexact)
+stopped_tells asked limit k (exact.Overflow opened o) fewer inexact most within = (within, fewer, (λ e. cc), inexact)
+stopped_tells asked limit k (exact.TooLong opened n) fewer inexact most within = (within, fewer, (λ e. cc), inexact)
+stopped_tells asked limit k (exact.NodeLimit opened) fewer inexact most within = (within, fewer, (λ e. cc), inexact)
 stopped_tells asked limit k exact.Memory fewer inexact most within = tt
 
 -- ---- past the number of risk groups

@@ -1,5 +1,5 @@
 -- Branches opened one after the other: what they show once none is left.
-use Rattle.std.proofs.Common.{◌≡◌, ℕ, ◌+◌, ◌<◌, ◌≤◌, Bool, true, false, not, ◌&&◌, nat_eq, nat_lt, List, [], ◌∷◌, ◌++◌, length, map, Option, Some, None, IsSome, option_map, refl, arith, ap, inl, inr, sym, ◌∙◌, subst, length-append}
+use Rattle.std.proofs.Common.{◌≡◌, ℕ, ◌+◌, ◌<◌, ◌≤◌, Bool, true, false, not, ◌&&◌, nat_eq, nat_lt, List, [], ◌∷◌, ◌++◌, length, map, Option, Some, None, IsSome, ◌⊎◌, refl, arith, ap, inl, inr, sym, ◌∙◌, subst, length-append}
 use Rattle.std.proofs.lemmas.Bool.{and_parts, and_from, or_cases, or_left, or_right, eqb-true, eq-eqb, ltb-true, lt-ltb, true≢false, false_from_ne_true}
 use Rattle.std.specs.List.{find}
 use Rattle.wi_net.specs.declared.parts.LinkId.{LinkId}
@@ -22,7 +22,8 @@ use Rattle.wi_quantity.specs.Weighing.{components}
 use Rattle.wi_build.specs.Problems.{Problem, asks, weighs, within}
 use Rattle.wi_branch.specs.declared.opened.Opened.{Opened}
 use Rattle.wi_branch.specs.declared.opened.Opened.TheVariants as opened
-use Rattle.wi_branch.specs.declared.refused.ExactRefused.TheVariants.{NodeLimit}
+use Rattle.wi_branch.specs.declared.refused.AnswerRefused.{AnswerRefused}
+use Rattle.wi_branch.specs.declared.refused.ExactRefused.{ExactRefused}
 use Rattle.wi_branch.specs.declared.finding.Told.{Told}
 use Rattle.wi_branch.specs.declared.finding.Told.TheVariants.{Nothing, Fitting, Splitting}
 use Rattle.wi_accept.proofs.Visits.{matches_within}
@@ -30,7 +31,7 @@ use Rattle.wi_decide.specs.declared.refused.SearchRefused.{SearchRefused}
 use Rattle.wi_decide.specs.declared.refused.SearchRefused.TheVariants.{Overflow, TooLong, Memory}
 use Rattle.wi_decide.specs.Searches.{IsSearchRefused}
 use Rattle.wi_branch.specs.Walks.{is_fitting, IsNode, cut_after, left_after, IsWalk}
-use Rattle.wi_branch.specs.Exactly.{IsExactRefused, IsNext, refusal_of}
+use Rattle.wi_branch.specs.Exactly.{IsAnswerRefused, IsExactRefused, IsNext, refusal_of, refused_with}
 use Rattle.wi_branch.specs.private.Courses.{node_of, IsToldWell, Opening, cut_of, kept, after_told, AreBranches, IsOpening, IsOpenedAt}
 
 -- the order of weights is transitive
@@ -86,10 +87,15 @@ can_split net branch run e k kb moving unfit is =
     let P : LinkId → Type 0 = λ d. CanSplit net branch d in
     subst P link s.2
 
+-- where none was opened, none is kept
+kept_none : (keeps : Bool) → [] ≡ kept keeps []
+kept_none true = refl
+kept_none false = refl
+
 -- one node more is kept, where nodes are
-kept_more : (keeps : Bool) (now : Option (List Opened)) (nodes : List Opened) (node : Opened) → now ≡ kept keeps nodes → option_map (λ xs. xs ++ node ∷ []) now ≡ kept keeps (nodes ++ node ∷ [])
-kept_more true now nodes node is = ap (option_map (λ xs. xs ++ node ∷ [])) is
-kept_more false now nodes node is = ap (option_map (λ xs. xs ++ node ∷ [])) is
+kept_more : (keeps : Bool) (now nodes : List Opened) (node : Opened) → now ≡ kept keeps nodes → now ++ kept keeps (node ∷ []) ≡ kept keeps (nodes ++ node ∷ [])
+kept_more true now nodes node is = ap (λ xs. xs ++ node ∷ []) is
+kept_more false now nodes node is = ap (λ xs. xs ++ []) is
 
 -- a leaf, or the link of a split
 abbrev pub split_in : Opened → Option LinkId
@@ -142,23 +148,30 @@ module _ (problem : Problem) where
         )
 
     -- nothing is opened yet
-    pub opening_first : (limit : ℕ) (keeps : Bool) → IsOpening problem limit keeps (record { best = None; count = 0; nodes = kept keeps []; left = problem.bounds ∷ [] })
+    pub opening_first : (limit : ℕ) (keeps : Bool) → IsOpening problem limit (record { best = None; count = 0; keeps = keeps; nodes = []; left = problem.bounds ∷ [] })
     opening_first limit keeps =
-        record { opened = []; count = refl; nodes = refl; walk = (refl, refl); branches = (root problem.net problem.bounds kw, tt); best = tt; few = omega arith }
+        record { opened = []; count = refl; nodes = kept_none keeps; walk = (refl, refl); branches = (root problem.net problem.bounds kw, tt); best = tt; few = omega arith }
+
+    -- where nodes are kept, they are those before a refusal
+    pub kept_refused : (limit : ℕ) (now : Opening) (h : IsOpening problem limit now) (refused : AnswerRefused) → IsExactRefused problem limit (refused_with h.opened refused) → now.keeps ≡ true
+        → IsExactRefused problem limit (refused_with now.nodes refused)
+    kept_refused limit now h refused is keep =
+        let all : now.nodes ≡ h.opened = h.nodes ∙ ap (λ b. kept b h.opened) keep in
+        subst (λ nodes. IsExactRefused problem limit (refused_with nodes refused)) (sym all) is
 
     -- one branch more
-    module _ (limit : ℕ) (keeps : Bool) (now : Opening) (branch : Bounds) (h : IsOpening problem limit keeps (record now { left = branch ∷ now.left })) (room : now.count < limit) where
+    module _ (limit : ℕ) (now : Opening) (branch : Bounds) (h : IsOpening problem limit (record now { left = branch ∷ now.left })) (room : now.count < limit) where
       few_to : (node : Opened) → length (h.opened ++ node ∷ []) ≤ limit
       few_to node = omega (arith, room, h.count, length-append h.opened (node ∷ []))
 
       count_to : (node : Opened) → now.count + 1 ≡ length (h.opened ++ node ∷ [])
       count_to node = omega (arith, h.count, length-append h.opened (node ∷ []))
 
-      opening_told : (told : Told) → IsNode (within problem branch) (cut_of now.best) (node_of told) → IsToldWell (within problem branch) told → IsOpening problem limit keeps (after_told problem.net now branch told)
+      opening_told : (told : Told) → IsNode (within problem branch) (cut_of now.best) (node_of told) → IsToldWell (within problem branch) told → IsOpening problem limit (after_told problem.net now branch told)
       opening_told (Nothing leaf) node well = record {
         opened = h.opened ++ opened.Closed leaf ∷ [];
         count = count_to (opened.Closed leaf);
-        nodes = kept_more keeps now.nodes h.opened (opened.Closed leaf) h.nodes;
+        nodes = kept_more now.keeps now.nodes h.opened (opened.Closed leaf) h.nodes;
         walk = walk_more None h.opened (problem.bounds ∷ []) (cut_of now.best) branch now.left (opened.Closed leaf) h.walk node;
         branches = h.branches.1;
         best = h.best;
@@ -167,7 +180,7 @@ module _ (problem : Problem) where
       opening_told (Fitting found leaf) node well = record {
         opened = h.opened ++ opened.Fits found.weight leaf ∷ [];
         count = count_to (opened.Fits found.weight leaf);
-        nodes = kept_more keeps now.nodes h.opened (opened.Fits found.weight leaf) h.nodes;
+        nodes = kept_more now.keeps now.nodes h.opened (opened.Fits found.weight leaf) h.nodes;
         walk = walk_more None h.opened (problem.bounds ∷ []) (cut_of now.best) branch now.left (opened.Fits found.weight leaf) h.walk node;
         branches = h.branches.1;
         best = (branch, h.branches.0, well);
@@ -176,42 +189,48 @@ module _ (problem : Problem) where
       opening_told (Splitting e) node can = record {
         opened = h.opened ++ opened.Split e ∷ [];
         count = count_to (opened.Split e);
-        nodes = kept_more keeps now.nodes h.opened (opened.Split e) h.nodes;
+        nodes = kept_more now.keeps now.nodes h.opened (opened.Split e) h.nodes;
         walk = walk_more None h.opened (problem.bounds ∷ []) (cut_of now.best) branch now.left (opened.Split e) h.walk node;
         branches = (child_down problem.net problem.bounds branch e h.branches.0 can k, (child_up problem.net problem.bounds branch e h.branches.0 can, h.branches.1));
         best = h.best;
         few = few_to (opened.Split e);
       }
 
-      pub opening_next : (after : Opening) → IsOpenedAt problem branch now after → IsOpening problem limit keeps after
-      opening_next after o = subst (IsOpening problem limit keeps) (sym o.after_is) (opening_told o.told o.node o.well)
+      pub opening_next : (after : Opening) → IsOpenedAt problem branch now after → IsOpening problem limit after
+      opening_next after o = subst (IsOpening problem limit) (sym o.after_is) (opening_told o.told o.node o.well)
 
-      abbrev next : IsNext problem
-      next = record { opened = h.opened; cut = cut_of now.best; branch = branch; left = now.left; walk = h.walk }
+      abbrev next : IsNext problem h.opened
+      next = record { cut = cut_of now.best; branch = branch; left = now.left; walk = h.walk }
 
       -- the branch that is next can't be searched
-      pub stopped_next : (refused : SearchRefused) → IsSearchRefused (within problem branch) (cut_of now.best) refused → IsExactRefused problem limit (refusal_of refused)
-      stopped_next (Overflow o) s = (next, omega (arith, room, h.count), s)
-      stopped_next (TooLong n) s = (next, omega (arith, room, h.count), s)
+      pub stopped_next : (refused : SearchRefused) → IsSearchRefused (within problem branch) (cut_of now.best) refused → IsExactRefused problem limit (refused_with h.opened (refusal_of refused))
+      stopped_next (Overflow o) s = (omega (arith, room, h.count), (next, s))
+      stopped_next (TooLong n) s = (omega (arith, room, h.count), (next, s))
       stopped_next Memory s = tt
 
+      -- nor are the nodes others then, where they are kept
+      pub stopped_kept : (after : Opening) (refused : SearchRefused) → IsSearchRefused (within problem branch) (cut_of now.best) refused → (refused ≡ Memory) ⊎ (after ≡ now) → now.keeps ≡ true
+          → IsExactRefused problem limit (refused_with after.nodes (refusal_of refused))
+      stopped_kept after refused s (inl is) keep = subst (λ r. IsExactRefused problem limit (refused_with after.nodes (refusal_of r))) (sym is) tt
+      stopped_kept after refused s (inr is) keep =
+          subst (λ (a : Opening). IsExactRefused problem limit (refused_with a.nodes (refusal_of refused))) (sym is) (kept_refused limit (record now { left = branch ∷ now.left }) h (refusal_of refused) (stopped_next refused s) keep)
+
   -- what held before the next branch was taken
-  pub opening_of : (limit : ℕ) (keeps : Bool) (old now : Opening) → old ≡ now → IsOpening problem limit keeps old → IsOpening problem limit keeps now
-  opening_of limit keeps old now is h = subst (IsOpening problem limit keeps) is h
+  pub opening_of : (limit : ℕ) (old now : Opening) → old ≡ now → IsOpening problem limit old → IsOpening problem limit now
+  opening_of limit old now is h = subst (IsOpening problem limit) is h
 
-  -- one node more was opened
-  pub opened_more : (branch : Bounds) (now after : Opening) → IsOpenedAt problem branch now after → after.count ≡ now.count + 1
-  opened_more branch now after o = ap (λ (s : Opening). s.count) o.after_is ∙ go o.told
+  -- one node more was opened, and whether nodes are kept is as before
+  pub opened_more : (branch : Bounds) (now after : Opening) → IsOpenedAt problem branch now after → (after.count ≡ now.count + 1) × (after.keeps ≡ now.keeps)
+  opened_more branch now after o = (ap (λ (s : Opening). s.count) o.after_is ∙ (go o.told).0, ap (λ (s : Opening). s.keeps) o.after_is ∙ (go o.told).1)
     where
-      go : (told : Told) → (after_told problem.net now branch told).count ≡ now.count + 1
-      go (Nothing leaf) = refl
-      go (Fitting found leaf) = refl
-      go (Splitting e) = refl
+      go : (told : Told) → ((after_told problem.net now branch told).count ≡ now.count + 1) × ((after_told problem.net now branch told).keeps ≡ now.keeps)
+      go (Nothing leaf) = (refl, refl)
+      go (Fitting found leaf) = (refl, refl)
+      go (Splitting e) = (refl, refl)
 
-  -- where as many were opened as may be, one more is over the limit
-  pub limit_next : (limit : ℕ) (keeps : Bool) (now : Opening) (branch : Bounds) → IsOpening problem limit keeps (record now { left = branch ∷ now.left }) → limit ≤ now.count
-      → IsExactRefused problem limit NodeLimit
-  limit_next limit keeps now branch h full = (record { opened = h.opened; cut = cut_of now.best; branch = branch; left = now.left; walk = h.walk }, omega (arith, full, h.few, h.count))
+-- a refusal whose nodes are left out
+pub left_out : (problem : Problem) (limit : ℕ) (refused : ExactRefused) (opened : List Opened) (left : AnswerRefused) → refused ≡ refused_with opened left → IsExactRefused problem limit refused → IsAnswerRefused problem limit left
+left_out problem limit refused opened left is h = (opened, subst (IsExactRefused problem limit) is h)
 
 -- what the code computes tells whether a run fits
 pub told_some : (net : Net) (branch : Bounds) (run : Run) (v : Verdict) (fits : Bool) (s : List LinkId) (o : Option LinkId) → IsNetwork net → AreBounds net branch → IsMovingRun net branch run

@@ -14,6 +14,8 @@ use Rattle.wi_decide.specs.declared.refused.SearchRefused.{SearchRefused}
 use Rattle.wi_decide.specs.declared.refused.SearchRefused.TheVariants as search
 use Rattle.wi_branch.specs.declared.opened.Opened.{Opened}
 use Rattle.wi_branch.specs.declared.opened.Opened.TheVariants.{Closed, Fits, Split}
+use Rattle.wi_branch.specs.declared.refused.AnswerRefused.{AnswerRefused}
+use Rattle.wi_branch.specs.declared.refused.AnswerRefused.TheVariants as answer
 use Rattle.wi_branch.specs.declared.refused.ExactRefused.{ExactRefused}
 use Rattle.wi_branch.specs.declared.refused.ExactRefused.TheVariants.{Overflow, TooLong, NodeLimit, Memory}
 use Rattle.wi_branch.specs.Walks.{IsWalk}
@@ -41,23 +43,34 @@ pub record IsAnsweredExactly (problem : Problem) (limit : ℕ) (answer : Answer)
   pub counted : count ≡ length tree.nodes
 
 -- nodes were opened from the problem's bounds on, and there is a branch that is next
-pub record IsNext (problem : Problem) : Type 0 where
-  pub opened : List Opened
+pub record IsNext (problem : Problem) (opened : List Opened) : Type 0 where
   pub cut : Option (List ℕ)
   pub branch : Bounds
   pub left : List Bounds
   pub walk : IsWalk problem None opened (problem.bounds ∷ []) cut (branch ∷ left)
 
--- at the branch that is next a summary doesn't fit, or the least run is too long; or it would be one more than the limit
+-- at the next branch a summary doesn't fit, or the least run is too long; or it would be one more than the limit
 abbrev pub IsExactRefused : Problem → ℕ → ExactRefused → Type 0
-IsExactRefused problem limit (Overflow o) =
-    (next : IsNext problem) × (length next.opened < limit) × IsOverflowingBelow (within problem next.branch) next.cut o.head o.target (components o.weight)
-IsExactRefused problem limit (TooLong n) = (next : IsNext problem) × (length next.opened < limit) × IsTooLongBelow (within problem next.branch) next.cut n
-IsExactRefused problem limit NodeLimit = (next : IsNext problem) × (length next.opened ≡ limit)
+IsExactRefused problem limit (Overflow opened o) =
+    (length opened < limit) × ((next : IsNext problem opened) × IsOverflowingBelow (within problem next.branch) next.cut o.head o.target (components o.weight))
+IsExactRefused problem limit (TooLong opened n) =
+    (length opened < limit) × ((next : IsNext problem opened) × IsTooLongBelow (within problem next.branch) next.cut n)
+IsExactRefused problem limit (NodeLimit opened) = (length opened ≡ limit) × IsNext problem opened
 IsExactRefused problem limit Memory = Unit {0}
 
+-- a refusal with the nodes before it
+abbrev pub refused_with : List Opened → AnswerRefused → ExactRefused
+refused_with opened (answer.Overflow o) = Overflow opened o
+refused_with opened (answer.TooLong n) = TooLong opened n
+refused_with opened answer.NodeLimit = NodeLimit opened
+refused_with opened answer.Memory = Memory
+
+-- the same for a refusal that doesn't have them
+abbrev pub IsAnswerRefused : Problem → ℕ → AnswerRefused → Type 0
+IsAnswerRefused problem limit refused = (opened : List Opened) × IsExactRefused problem limit (refused_with opened refused)
+
 -- a search's refusal, as it is told of the whole
-abbrev pub refusal_of : SearchRefused → ExactRefused
-refusal_of (search.Overflow o) = Overflow o
-refusal_of (search.TooLong n) = TooLong n
-refusal_of search.Memory = Memory
+abbrev pub refusal_of : SearchRefused → AnswerRefused
+refusal_of (search.Overflow o) = answer.Overflow o
+refusal_of (search.TooLong n) = answer.TooLong n
+refusal_of search.Memory = answer.Memory

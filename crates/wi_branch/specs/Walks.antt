@@ -9,6 +9,7 @@ use Rattle.wi_world.specs.Runs.{effort_of, verdict_of}
 use Rattle.wi_quantity.specs.Weighing.{components}
 use Rattle.wi_trees.specs.Branches.{with_down, with_up, split_of}
 use Rattle.wi_build.specs.Problems.{Problem, within}
+use Rattle.wi_decide.specs.declared.searching.TheConstants.{EFFORT_LIMIT}
 use Rattle.wi_decide.specs.Searches.{AllFitBelow, IsFound, IsLeastBelow, IsWrittenDown}
 use Rattle.wi_branch.specs.declared.opened.Opened.{Opened}
 use Rattle.wi_branch.specs.declared.opened.Opened.TheVariants.{Closed, Fits, Split}
@@ -22,7 +23,7 @@ is_fitting (verdicts.UsesFailed e) = false
 -- a least run below the cut that is short enough to be shown, and whether it fits
 pub record HasLeast (problem : Problem) (cut : Option (List ℕ)) (w : List ℕ) (run : Run) (fits : Bool) : Type 0 where
   pub least : IsLeastBelow problem cut w run
-  pub short : effort_of problem.net run ≤ 4096
+  pub short : effort_of problem.net run ≤ EFFORT_LIMIT
   pub fitting : is_fitting (verdict_of problem.net problem.bounds run) ≡ fits
 
 -- what a node says of a problem, whose bounds are its branch, below a cut: no run is below it; or the least one fits, and weighs this;

@@ -3,6 +3,7 @@
 //! the most that is asked for is tried, for its tree.
 ghost use Rattle.std.specs.Prelude.{◌≡◌, ◌<◌, ◌≤◌, ◌+◌, ℕ, IfOk, IfErr, IfSome, min};
 ghost use Rattle.wi_build.specs.Problems.{allowing};
+ghost use Rattle.wi_cert.specs.declared.tree.TheConstants.{NODE_LIMIT};
 ghost use Rattle.wi_branch.specs.Tolerance.{IsStoppedUpTo, ShowsBelow, ShowsNo, TellsTolerance};
 ghost use Rattle.wi_branch.specs.private.Counting.{AreTolerated, IsBetween, IsProbe, IsShownTolerated, IsTrial, failed_besides, groups_besides, is_group_outside, met, narrowed, stopped_with, trial_by};
 
@@ -51,7 +52,7 @@ pub fn tolerate(
     most: u32,
     limit: u32,
 ) -> Result<Tolerance, TolerateRefused>
-    requires { limit ≤ 10000 }
+    requires { limit ≤ NODE_LIMIT }
     ensures tolerance { IfOk result (TellsTolerance (allowing problem.now) most limit) }
     ensures refused { IfErr result (IsStoppedUpTo (allowing problem.now) most limit) }
 {
@@ -68,12 +69,15 @@ fn probed(
     k: u32,
     limit: u32,
 ) -> Option<(Answer, TreeCertificate)>
-    requires { limit ≤ 10000 }
+    requires { limit ≤ NODE_LIMIT }
     ensures { IfSome result (λ found. IsProbe (allowing problem.now k) limit found.0 found.1) }
 {
     match exact(alloc, problem, k, limit.min(FEW_NODES)) {
         Ok(found) => Some(found),
-        Err(_refused) => None,
+        Err(refused) => {
+            drop(refused);
+            None
+        }
     }
 }
 
@@ -86,7 +90,7 @@ fn from_most(
     answer: Answer,
     tree: TreeCertificate,
 ) -> Result<Tolerance, TolerateRefused>
-    requires limit { limit ≤ 10000 }
+    requires limit { limit ≤ NODE_LIMIT }
     requires probe { IsProbe (allowing problem.now most) limit answer tree }
     ensures tolerance { IfOk result (TellsTolerance (allowing problem.now) most limit) }
     ensures refused { IfErr result (IsStoppedUpTo (allowing problem.now) most limit) }
@@ -120,7 +124,7 @@ fn narrow(
     limit: u32,
     first: Between,
 ) -> Result<Tolerance, TolerateRefused>
-    requires limit { limit ≤ 10000 }
+    requires limit { limit ≤ NODE_LIMIT }
     requires between { IsBetween (allowing problem.now) most limit first }
     ensures tolerance { IfOk result (TellsTolerance (allowing problem.now) most limit) }
     ensures refused { IfErr result (IsStoppedUpTo (allowing problem.now) most limit) }
@@ -223,7 +227,7 @@ fn climb_between(
     limit: u32,
     between: Between,
 ) -> Result<Tolerance, TolerateRefused>
-    requires limit { limit ≤ 10000 }
+    requires limit { limit ≤ NODE_LIMIT }
     requires between { IsBetween (allowing problem.now) most limit between }
     requires apart { between.low < between.high }
     ensures tolerance { IfOk result (TellsTolerance (allowing problem.now) most limit) }
@@ -261,7 +265,7 @@ fn from_none(
     most: u32,
     limit: u32,
 ) -> Result<Tolerance, TolerateRefused>
-    requires { limit ≤ 10000 }
+    requires { limit ≤ NODE_LIMIT }
     ensures tolerance { IfOk result (TellsTolerance (allowing problem.now) most limit) }
     ensures refused { IfErr result (IsStoppedUpTo (allowing problem.now) most limit) }
 {
@@ -281,7 +285,7 @@ fn climb(
     limit: u32,
     below: Option<TreeCertificate>,
 ) -> Result<Trial, TolerateRefused>
-    requires limit { limit ≤ 10000 }
+    requires limit { limit ≤ NODE_LIMIT }
     requires order { first ≤ last }
     requires fewer { AreTolerated (allowing problem.now) first }
     requires below { ShowsBelow (allowing problem.now) limit first below }
@@ -303,7 +307,7 @@ fn climb_on(
     limit: u32,
     shown: TreeCertificate,
 ) -> Result<Trial, TolerateRefused>
-    requires limit { limit ≤ 10000 }
+    requires limit { limit ≤ NODE_LIMIT }
     requires order { first ≤ last }
     requires shown { IsShownTolerated (allowing problem.now) limit first shown }
     ensures tried { IfOk result (IsTrial (allowing problem.now) limit last) }
@@ -327,7 +331,7 @@ fn tried(
     limit: u32,
     below: Option<TreeCertificate>,
 ) -> Result<Trial, TolerateRefused>
-    requires limit { limit ≤ 10000 }
+    requires limit { limit ≤ NODE_LIMIT }
     requires fewer { AreTolerated (allowing problem.now) k }
     requires below { ShowsBelow (allowing problem.now) limit k below }
     ensures tried { IfOk result (IsTrial (allowing problem.now) limit k) }
@@ -381,7 +385,7 @@ fn none_up_to(
     last: u32,
     no: TreeCertificate,
 ) -> Result<Tolerance, TolerateRefused>
-    requires limit { limit ≤ 10000 }
+    requires limit { limit ≤ NODE_LIMIT }
     requires none { AreTolerated (allowing problem.now) (most + 1) }
     requires shown { ShowsNo (allowing problem.now last) limit no }
     ensures tolerance { IfOk result (TellsTolerance (allowing problem.now) most limit) }
@@ -401,7 +405,7 @@ fn none_at(
     most: u32,
     limit: u32,
 ) -> Result<Tolerance, TolerateRefused>
-    requires limit { limit ≤ 10000 }
+    requires limit { limit ≤ NODE_LIMIT }
     requires none { AreTolerated (allowing problem.now) (most + 1) }
     ensures tolerance { IfOk result (TellsTolerance (allowing problem.now) most limit) }
     ensures refused { IfErr result (IsStoppedUpTo (allowing problem.now) most limit) }

@@ -1,9 +1,9 @@
 //! Branches wait on a stack, and none is copied: a child is made when its parent is split, and let go when it was opened. The best
 //! run is kept whole. Nodes are kept only for a tree, each leaf as it was found: a leaf takes as much memory as its search.
-ghost use Rattle.std.specs.Prelude.{◌≡◌, ◌∷◌, ◌++◌, ◌<◌, [], Some, None, option_map, MatchOption, OnOk, IfOk};
+ghost use Rattle.std.specs.Prelude.{◌≡◌, ◌∷◌, ◌++◌, ◌<◌, [], None, option_map, MatchOption, OnOk, IfOk};
 ghost use Rattle.wi_quantity.specs.Weighing.{components};
 ghost use Rattle.wi_world.specs.Moves.{AreBounds};
-ghost use Rattle.wi_branch.specs.private.Courses.{MaySplit, after_told, cut_of, kept, with_node};
+ghost use Rattle.wi_branch.specs.private.Courses.{MaySplit, after_told, cut_of, with_node};
 
 use crate::finding::Told;
 use crate::opened::Opened;
@@ -16,37 +16,38 @@ use wi_net::{Bounds, LinkId, Network};
 use wi_quantity::Weight;
 use wi_trees::{with_down, with_up};
 
-/// The best run that fitted so far, how many nodes were opened, these in preorder, where they are kept, and the branches that are
-/// left.
+/// The best run that fitted so far, how many nodes were opened, these in preorder, if they are kept, and the branches that are left.
 #[derive(Drop)]
 pub(crate) struct Course {
     pub(crate) best: Option<LeastRun>,
     pub(crate) count: u32,
-    pub(crate) nodes: Option<Vec<Opened>>,
+    keeps: bool,
+    pub(crate) nodes: Vec<Opened>,
     // The next one last.
     left: Vec<Bounds>,
 }
 
 impl Model for Course {
-    ghost use Rattle.std.specs.Prelude.{option_map, reverse};
+    ghost use Rattle.std.specs.Prelude.{reverse};
     ghost use Rattle.wi_branch.specs.private.Courses.{Opening};
 
     ghost Value = { Opening };
 
-    ghost view = { λ c. record { best = c.best; count = c.count; nodes = option_map (λ nodes. nodes.items) c.nodes; left = reverse c.left.items } };
+    ghost view = { λ c. record { best = c.best; count = c.count; keeps = c.keeps; nodes = c.nodes.items; left = reverse c.left.items } };
 }
 
 impl Course {
     /// Nothing was opened yet. `keeps` says whether nodes are kept.
     pub(crate) fn new(alloc: Global, whole: Bounds, keeps: bool) -> Result<Course, NoMemory>
-        ensures { IfOk result (λ course. course ≡ record { best = None; count = 0; nodes = kept keeps []; left = whole ∷ [] }) }
+        ensures { IfOk result (λ course. course ≡ record { best = None; count = 0; keeps = keeps; nodes = []; left = whole ∷ [] }) }
     {
         let mut left = Vec::new(alloc);
         put(&mut left, whole)?;
         Ok(Course {
             best: None,
             count: 0,
-            nodes: if keeps { Some(Vec::new(alloc)) } else { None },
+            keeps,
+            nodes: Vec::new(alloc),
             left,
         })
     }
@@ -94,12 +95,11 @@ impl Course {
         ensures { OnOk result (self.new ≡ with_node self.old node) }
     {
         self.count += 1;
-        match &mut self.nodes {
-            Some(nodes) => put(nodes, node),
-            None => {
-                drop(node);
-                Ok(())
-            }
+        if self.keeps {
+            put(&mut self.nodes, node)
+        } else {
+            drop(node);
+            Ok(())
         }
     }
 

@@ -15,5 +15,5 @@ mod tree;
 pub use answers::{exact, exact_answer};
 pub use counting::tolerate;
 pub use opened::Opened;
-pub use refused::ExactRefused;
+pub use refused::{AnswerRefused, ExactRefused};
 pub use tolerance::{Tolerance, TolerateRefused};

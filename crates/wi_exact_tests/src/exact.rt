@@ -2,9 +2,9 @@
 use std::alloc::Global;
 use std::process::Abort;
 use std::test::Fail;
-use wi_branch::{ExactRefused, exact, exact_answer};
+use wi_branch::{AnswerRefused, ExactRefused, Opened, exact, exact_answer};
 use wi_build::Problem;
-use wi_cert::Node as TreeNode;
+use wi_cert::{NODE_LIMIT, Node as TreeNode};
 use wi_net::{FailSet, LinkId, Network};
 use wi_quantity::Vector;
 use wi_query::Query;
@@ -28,7 +28,7 @@ enum Outcome<'a> {
     OverLimit,
 }
 
-// A query, how many risk groups may fail, the most nodes, the outcome, and the nodes of the tree that shows an answer.
+// A query, how many risk groups may fail, the most nodes, the outcome, and the nodes that are opened.
 #[derive(Clone, Copy)]
 struct Case<'a> {
     text: &'a str,
@@ -43,6 +43,21 @@ pub fn set_is(rt: &impl Abort, set: &FailSet, links: &[u32]) {
     assert_eq!(rt; set.len(), links.len());
     for (i, link) in links.iter().enumerate() {
         assert_eq!(rt; set.at(i), Some(LinkId(*link)));
+    }
+}
+
+fn opened_is(node: &Opened, expected: Node) -> bool {
+    match (node, expected) {
+        (Opened::Closed(_) | Opened::Fits(_, _), Node::Leaf) => true,
+        (Opened::Split(link), Node::Split(number)) => *link == LinkId(number),
+        _ => false,
+    }
+}
+
+fn opened_are(rt: &impl Abort, opened: &[Opened], expected: &[Node]) {
+    assert_eq!(rt; opened.len(), expected.len());
+    for (node, wanted) in opened.iter().zip(expected) {
+        assert!(rt; opened_is(node, *wanted));
     }
 }
 
@@ -80,33 +95,40 @@ fn answer_is(rt: &impl Abort, answer: &Answer, outcome: Outcome) {
     }
 }
 
-fn refused_is(rt: &impl Abort, refused: ExactRefused, case: &Case) {
+fn refused_is(rt: &impl Abort, refused: &ExactRefused, case: &Case) {
     match (refused, case.outcome) {
-        (ExactRefused::NodeLimit, Outcome::OverLimit) => {}
+        (ExactRefused::NodeLimit { opened }, Outcome::OverLimit) => {
+            assert_eq!(rt; opened.as_slice().len(), case.limit as usize);
+            opened_are(rt, opened.as_slice(), case.nodes);
+        }
         _ => assert!(rt; false),
     }
 }
 
 fn is_shown(rt: &impl Abort, alloc: Global, problem: &Problem<'_>, case: &Case) {
-    match exact(alloc, problem, case.k, case.limit.min(LIMIT)) {
+    match exact(alloc, problem, case.k, case.limit.min(NODE_LIMIT)) {
         Ok((answer, tree)) => {
             answer_is(rt, &answer, case.outcome);
             nodes_are(rt, tree.nodes.as_slice(), case.nodes);
             drop(answer);
             drop(tree);
         }
-        Err(refused) => refused_is(rt, refused, case),
+        Err(refused) => {
+            refused_is(rt, &refused, case);
+            drop(refused);
+        }
     }
 }
 
 fn is_answered(rt: &impl Abort, alloc: Global, problem: &Problem<'_>, case: &Case) {
-    match exact_answer(alloc, problem, case.k, case.limit.min(LIMIT)) {
+    match exact_answer(alloc, problem, case.k, case.limit.min(NODE_LIMIT)) {
         Ok((answer, count)) => {
             answer_is(rt, &answer, case.outcome);
             assert_eq!(rt; count as usize, case.nodes.len());
             drop(answer);
         }
-        Err(refused) => refused_is(rt, refused, case),
+        Err(AnswerRefused::NodeLimit) => assert!(rt; matches!(case.outcome, Outcome::OverLimit)),
+        Err(_refused) => assert!(rt; false),
     }
 }
 
@@ -123,8 +145,6 @@ impl<R: Abort> TestCase<R> for Case<'_> {
     }
 }
 
-const LIMIT: u32 = 10_000;
-
 const SPLIT: &[Node] = &[Node::Split(1), Node::Leaf, Node::Leaf];
 
 const RETURNS: &str = "<ip1> [x#a] [a#c] [c#a] [a#b] .* <ip1> 5";
@@ -138,7 +158,7 @@ const RETURNING: &[Case] = &[
     Case {
         text: RETURNS,
         k: 5,
-        limit: LIMIT,
+        limit: NODE_LIMIT,
         outcome: Outcome::No,
         nodes: SPLIT,
     },
@@ -154,7 +174,7 @@ const RETURNING: &[Case] = &[
         k: 5,
         limit: 2,
         outcome: Outcome::OverLimit,
-        nodes: &[],
+        nodes: &[Node::Split(1), Node::Leaf],
     },
 ];
 
@@ -163,14 +183,14 @@ const TO_Z_CASES: &[Case] = &[
     Case {
         text: TO_Z,
         k: 1,
-        limit: LIMIT,
+        limit: NODE_LIMIT,
         outcome: Outcome::No,
         nodes: SPLIT,
     },
     Case {
         text: TO_Z,
         k: 2,
-        limit: LIMIT,
+        limit: NODE_LIMIT,
         outcome: Outcome::Yes(&[1, 4], 10),
         nodes: &[Node::Leaf],
     },
@@ -180,7 +200,7 @@ const TO_Z_CASES: &[Case] = &[
 const FIBER: &[Case] = &[Case {
     text: AROUND,
     k: 1,
-    limit: LIMIT,
+    limit: NODE_LIMIT,
     outcome: Outcome::No,
     nodes: SPLIT,
 }];
@@ -190,14 +210,14 @@ const PLAIN: &[Case] = &[
     Case {
         text: AROUND,
         k: 1,
-        limit: LIMIT,
+        limit: NODE_LIMIT,
         outcome: Outcome::Yes(&[1], 10),
         nodes: &[Node::Leaf],
     },
     Case {
         text: AROUND,
         k: 0,
-        limit: LIMIT,
+        limit: NODE_LIMIT,
         outcome: Outcome::No,
         nodes: &[Node::Leaf],
     },

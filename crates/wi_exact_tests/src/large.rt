@@ -3,9 +3,9 @@
 use std::alloc::Global;
 use std::process::Abort;
 use std::test::Fail;
-use wi_branch::{ExactRefused, exact, exact_answer};
+use wi_branch::{AnswerRefused, exact, exact_answer};
 use wi_build::Problem;
-use wi_cert::TreeCertificate;
+use wi_cert::{NODE_LIMIT, TreeCertificate};
 use wi_check::check_tree;
 use wi_net::Network;
 use wi_quantity::Vector;
@@ -17,8 +17,6 @@ use wi_world::Word;
 
 // How many runs return.
 const RUNS: u32 = 12;
-
-const LIMIT: u32 = 10_000;
 
 // A query, and the number of nodes: the sets of at most k of twelve links, twice, but for one.
 struct Case<'a>(&'a str, u32);
@@ -39,7 +37,7 @@ fn node_count(tree: &TreeCertificate) -> usize {
 }
 
 fn is_shown(rt: &impl Abort, alloc: Global, problem: &Problem<'_>, nodes: u32) {
-    match exact(alloc, problem, problem.bounds().k, LIMIT) {
+    match exact(alloc, problem, problem.bounds().k, NODE_LIMIT) {
         Ok((answer, tree)) => {
             assert!(rt; is_no(&answer) && node_count(&tree) == nodes as usize);
             assert!(rt; check_tree(alloc, problem, problem.bounds().k, &tree).is_ok());
@@ -51,7 +49,7 @@ fn is_shown(rt: &impl Abort, alloc: Global, problem: &Problem<'_>, nodes: u32) {
 }
 
 fn is_answered(rt: &impl Abort, alloc: Global, problem: &Problem<'_>, nodes: u32) {
-    match exact_answer(alloc, problem, problem.bounds().k, LIMIT) {
+    match exact_answer(alloc, problem, problem.bounds().k, NODE_LIMIT) {
         Ok((answer, count)) => {
             assert!(rt; is_no(&answer) && count == nodes);
             drop(answer);
@@ -66,13 +64,13 @@ fn is_over_limit(rt: &impl Abort, alloc: Global, problem: &Problem<'_>, nodes: u
         alloc,
         problem,
         problem.bounds().k,
-        nodes.saturating_sub(1).min(LIMIT),
+        nodes.saturating_sub(1).min(NODE_LIMIT),
     ) {
         Ok((answer, _count)) => {
             drop(answer);
             assert!(rt; false)
         }
-        Err(refused) => assert!(rt; refused == ExactRefused::NodeLimit),
+        Err(refused) => assert!(rt; refused == AnswerRefused::NodeLimit),
     }
 }
 

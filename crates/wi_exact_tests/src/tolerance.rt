@@ -6,7 +6,7 @@ use std::process::Abort;
 use std::test::Fail;
 use wi_branch::{ExactRefused, Tolerance, TolerateRefused, tolerate};
 use wi_build::Problem;
-use wi_cert::{Claim, TreeCertificate};
+use wi_cert::{Claim, NODE_LIMIT, TreeCertificate};
 use wi_net::Network;
 use wi_quantity::Vector;
 use wi_query::Query;
@@ -14,8 +14,6 @@ use wi_questions::query_of;
 use wi_samples::{N1, N1_FIBER, N2, N3, N6, TestCase, are_met};
 use wi_trace::Answer;
 use wi_world::Verdict;
-
-const LIMIT: u32 = 10_000;
 
 // What the outcome is to be: the least number, with the links that have failed then; that there is none; or that at this number there
 // would be more nodes than the limit.
@@ -75,7 +73,7 @@ fn found_is(rt: &impl Abort, found: &Tolerance, outcome: Outcome) {
 
 fn refused_is(rt: &impl Abort, refused: &TolerateRefused, outcome: Outcome) {
     match (refused, outcome) {
-        (TolerateRefused::Exact(k, ExactRefused::NodeLimit), Outcome::OverLimit(number)) => {
+        (TolerateRefused::Exact(k, ExactRefused::NodeLimit { .. }), Outcome::OverLimit(number)) => {
             assert_eq!(rt; *k, number);
         }
         _ => assert!(rt; false),
@@ -83,7 +81,7 @@ fn refused_is(rt: &impl Abort, refused: &TolerateRefused, outcome: Outcome) {
 }
 
 fn tells(rt: &impl Abort, alloc: Global, problem: &Problem<'_>, case: &Case) {
-    match tolerate(alloc, problem, case.1, case.2.min(LIMIT)) {
+    match tolerate(alloc, problem, case.1, case.2.min(NODE_LIMIT)) {
         Ok(found) => {
             found_is(rt, &found, case.3);
             drop(found);
@@ -111,38 +109,38 @@ const TO_Z: &[Case] = &[
     Case(
         "<ip1> [x#a] [a#c] .* [b#z] <ip1> 0",
         3,
-        LIMIT,
+        NODE_LIMIT,
         Outcome::Takes(2, &[1, 4]),
     ),
     Case(
         "<ip1> [x#a] [a#c] .* [b#z] <ip1> 65535",
         2,
-        LIMIT,
+        NODE_LIMIT,
         Outcome::Takes(2, &[1, 4]),
     ),
     Case(
         "<ip1> [x#a] [a#c] .* [b#z] <ip1> 0",
         1,
-        LIMIT,
+        NODE_LIMIT,
         Outcome::TakesMore,
     ),
     Case(
         "<ip1> [x#a] [a#c] .* [b#z] <ip1> 2",
         0,
-        LIMIT,
+        NODE_LIMIT,
         Outcome::TakesMore,
     ),
     // One that is known to be down isn't counted, and one that stays up doesn't fail.
     Case(
         "<ip1> [x#a] [a#c] .* [b#z] <ip1> 0 down [a#b]",
         65535,
-        LIMIT,
+        NODE_LIMIT,
         Outcome::Takes(1, &[1, 4]),
     ),
     Case(
         "<ip1> [x#a] [a#c] .* [b#z] <ip1> 0 up [a#b]",
         65535,
-        LIMIT,
+        NODE_LIMIT,
         Outcome::TakesMore,
     ),
 ];
@@ -152,7 +150,7 @@ const RETURNING: &[Case] = &[
     Case(
         "<ip1> [x#a] [a#c] [c#a] [a#b] .* <ip1> 5",
         5,
-        LIMIT,
+        NODE_LIMIT,
         Outcome::TakesMore,
     ),
     // With none that may fail there is one node, and with one there are three.
@@ -175,13 +173,13 @@ const STRAIGHT: &[Case] = &[
     Case(
         "<ip1> [x#a] [a#b] [b#y] <ip1> 5",
         5,
-        LIMIT,
+        NODE_LIMIT,
         Outcome::Takes(0, &[]),
     ),
     Case(
         "<ip1> [x#a] [a#c] .* [b#y] <ip1> 0",
         65535,
-        LIMIT,
+        NODE_LIMIT,
         Outcome::Takes(1, &[1]),
     ),
 ];
@@ -190,7 +188,7 @@ const STRAIGHT: &[Case] = &[
 const FIBER: &[Case] = &[Case(
     "<ip1> [x#a] [a#c] .* [b#y] <ip1> 0",
     65535,
-    LIMIT,
+    NODE_LIMIT,
     Outcome::TakesMore,
 )];
 
@@ -199,16 +197,21 @@ const LAST_WAY: &[Case] = &[
     Case(
         "<ip1> [x#a] [a#c] <ip1> 0",
         65535,
-        LIMIT,
+        NODE_LIMIT,
         Outcome::Takes(3, &[1, 2, 3]),
     ),
     Case(
         "<ip1> [x#a] [a#c] <ip1> 0",
         3,
-        LIMIT,
+        NODE_LIMIT,
         Outcome::Takes(3, &[1, 2, 3]),
     ),
-    Case("<ip1> [x#a] [a#c] <ip1> 0", 2, LIMIT, Outcome::TakesMore),
+    Case(
+        "<ip1> [x#a] [a#c] <ip1> 0",
+        2,
+        NODE_LIMIT,
+        Outcome::TakesMore,
+    ),
 ];
 
 #[test]

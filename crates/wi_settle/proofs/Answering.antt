@@ -12,9 +12,9 @@ use Rattle.wi_trees.specs.Trees.{HoldsExactly}
 use Rattle.wi_build.specs.Problems.{Problem, asks, weighs}
 use Rattle.wi_accept.specs.Trees.{IsDecidedExactly}
 use Rattle.wi_base.specs.declared.no_memory.NoMemory.{NoMemory}
-use Rattle.wi_branch.specs.declared.refused.ExactRefused.{ExactRefused}
-use Rattle.wi_branch.specs.declared.refused.ExactRefused.TheVariants as refused
-use Rattle.wi_branch.specs.Exactly.{IsExactRefused}
+use Rattle.wi_branch.specs.declared.refused.AnswerRefused.{AnswerRefused}
+use Rattle.wi_branch.specs.declared.refused.AnswerRefused.TheVariants as refused
+use Rattle.wi_branch.specs.Exactly.{IsAnswerRefused}
 use Rattle.wi_settle.specs.declared.settled.Reply.{Reply}
 use Rattle.wi_settle.specs.declared.settled.Reply.TheVariants as reply_as
 use Rattle.wi_settle.specs.private.Asking.{IsReply, reply_by}
@@ -44,6 +44,6 @@ reply_ok (Ok reply) problem answer h is = subst (λ (x : Reply). IsReply problem
 reply_ok (Err error) problem answer h is = tt
 
 -- that there is none
-pub open_reply : (r : Result Reply NoMemory) (problem : Problem) (cause : ExactRefused) → IfOk r (λ reply. reply ≡ reply_as.Open) → OnOk r (cause ≡ refused.Memory → ⊥) → IsExactRefused problem 10000 cause → IfOk r (IsReply problem)
+pub open_reply : (r : Result Reply NoMemory) (problem : Problem) (cause : AnswerRefused) → IfOk r (λ reply. reply ≡ reply_as.Open) → OnOk r (cause ≡ refused.Memory → ⊥) → IsAnswerRefused problem 10000 cause → IfOk r (IsReply problem)
 open_reply (Ok reply) problem cause is decided h = subst (λ (x : Reply). IsReply problem x) (sym is) (cause, decided, h)
 open_reply (Err error) problem cause is decided h = tt

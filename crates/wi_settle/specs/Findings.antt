@@ -10,9 +10,10 @@ use Rattle.wi_world.specs.Holds.{Matches}
 use Rattle.wi_world.specs.Moves.{is_trace}
 use Rattle.wi_world.specs.Runs.{used_by}
 use Rattle.wi_build.specs.Problems.{Problem, asks, within}
-use Rattle.wi_branch.specs.declared.refused.ExactRefused.{ExactRefused}
-use Rattle.wi_branch.specs.declared.refused.ExactRefused.TheVariants as refused
-use Rattle.wi_branch.specs.Exactly.{IsExactRefused}
+use Rattle.wi_cert.specs.declared.tree.TheConstants.{NODE_LIMIT}
+use Rattle.wi_branch.specs.declared.refused.AnswerRefused.{AnswerRefused}
+use Rattle.wi_branch.specs.declared.refused.AnswerRefused.TheVariants as refused
+use Rattle.wi_branch.specs.Exactly.{IsAnswerRefused}
 use Rattle.wi_branch.specs.Tolerance.{HasTrace}
 use Rattle.wi_outage.specs.Outages.{IsGroup}
 use Rattle.wi_outage.specs.Survival.{with_down}
@@ -28,7 +29,7 @@ during problem links = within problem (with_down problem.bounds links)
 abbrev pub IsFound : Problem → Found → Type 0
 IsFound problem Yes = HasTrace problem
 IsFound problem No = HasTrace problem → ⊥
-IsFound problem Open = (cause : ExactRefused) × (cause ≡ refused.Memory → ⊥) × IsExactRefused problem 10000 cause
+IsFound problem Open = (cause : AnswerRefused) × (cause ≡ refused.Memory → ⊥) × IsAnswerRefused problem NODE_LIMIT cause
 
 -- A matching trace under some failed links, and the links that it uses. The failed links are whole risk groups, all that are known to be
 -- down and none that is known to be up; they may be more than the bounds allow, since an outage may take some of them out.

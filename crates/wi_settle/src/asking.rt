@@ -6,7 +6,7 @@ use crate::settled::{Reply, Witness};
 use crate::used::used_by;
 use std::alloc::Global;
 use wi_base::NoMemory;
-use wi_branch::{ExactRefused, exact_answer};
+use wi_branch::{AnswerRefused, exact_answer};
 use wi_build::Problem;
 use wi_cert::NODE_LIMIT;
 use wi_net::{FailSet, Network};
@@ -71,12 +71,12 @@ fn seen(alloc: Global, net: &Network, run: Run, fails: FailSet) -> Result<Reply,
 }
 
 // No exact answer, for this reason. Want of memory is none.
-fn open_for(cause: ExactRefused) -> Result<Reply, NoMemory>
+fn open_for(cause: AnswerRefused) -> Result<Reply, NoMemory>
     ensures open { IfOk result (λ reply. reply ≡ Reply.Open) }
-    ensures decided { OnOk result (cause ≢ ExactRefused.Memory) }
+    ensures decided { OnOk result (cause ≢ AnswerRefused.Memory) }
 {
     match cause {
-        ExactRefused::Memory => Err(NoMemory::Memory),
+        AnswerRefused::Memory => Err(NoMemory::Memory),
         _ => Ok(Reply::Open),
     }
 }

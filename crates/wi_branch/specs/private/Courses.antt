@@ -55,24 +55,25 @@ MaySplit branch (Nothing leaf) = Unit {0}
 MaySplit branch (Fitting found leaf) = Unit {0}
 MaySplit branch (Splitting e) = 0 < branch.k
 
--- the best run so far, how many nodes were opened, these, where they are kept, and the branches left, the next one first
+-- the best run so far, how many nodes were opened, whether they are kept, those that are, and the branches left, the next one first
 pub record Opening : Type 0 where
   pub best : Option LeastRun
   pub count : ℕ
-  pub nodes : Option (List Opened)
+  pub keeps : Bool
+  pub nodes : List Opened
   pub left : List Bounds
 
 -- the nodes, where they are kept
-abbrev pub kept : Bool → List Opened → Option (List Opened)
-kept true nodes = Some nodes
-kept false nodes = None
+abbrev pub kept : Bool → List Opened → List Opened
+kept true nodes = nodes
+kept false nodes = []
 
 abbrev pub cut_of : Option LeastRun → Option (List ℕ)
 cut_of best = option_map (λ found. components found.weight) best
 
 -- with one node more
 abbrev pub with_node : Opening → Opened → Opening
-with_node now node = record now { count = now.count + 1; nodes = option_map (λ nodes. nodes ++ node ∷ []) now.nodes }
+with_node now node = record now { count = now.count + 1; nodes = now.nodes ++ kept now.keeps (node ∷ []) }
 
 -- once a branch was opened
 abbrev pub after_told : Net → Opening → Bounds → Told → Opening
@@ -86,18 +87,18 @@ AreBranches net whole [] = Unit {0}
 AreBranches net whole (branch ∷ left) = IsBranch net whole branch × AreBranches net whole left
 
 -- what holds as long as branches are opened
-pub record IsOpening (problem : Problem) (limit : ℕ) (keeps : Bool) (now : Opening) : Type 0 where
+pub record IsOpening (problem : Problem) (limit : ℕ) (now : Opening) : Type 0 where
   pub opened : List Opened
   pub count : now.count ≡ length opened
-  pub nodes : now.nodes ≡ kept keeps opened
+  pub nodes : now.nodes ≡ kept now.keeps opened
   pub walk : IsWalk problem None opened (problem.bounds ∷ []) (cut_of now.best) now.left
   pub branches : AreBranches problem.net problem.bounds now.left
   pub best : IfSome now.best (λ found. (branch : Bounds) × IsBranch problem.net problem.bounds branch × IsBest (within problem branch) found)
   pub few : length opened ≤ limit
 
 -- and once none is left
-abbrev pub IsDone : Problem → ℕ → Bool → Opening → Type 0
-IsDone problem limit keeps now = IsOpening problem limit keeps now × (now.left ≡ [])
+abbrev pub IsDone : Problem → ℕ → Opening → Type 0
+IsDone problem limit now = IsOpening problem limit now × (now.left ≡ [])
 
 -- once a branch was opened: what it told
 pub record IsOpenedAt (problem : Problem) (branch : Bounds) (now after : Opening) : Type 0 where

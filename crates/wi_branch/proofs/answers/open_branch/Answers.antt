@@ -1,4 +1,4 @@
-use Rattle.wi_branch.proofs.answers.opened.Goals as goal
+use Rattle.wi_branch.proofs.answers.open_branch.Goals as goal
 
 pub returns-clause-opened : goal.returns-clause-opened
 returns-clause-opened c = record {

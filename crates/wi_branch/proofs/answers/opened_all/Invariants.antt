@@ -1,9 +1,0 @@
-use Rattle.std.proofs.Common.{◌-◌}
-use Rattle.wi_branch.specs.private.Courses.{IsOpening}
-use Rattle.wi_branch.proofs.answers.opened_all.Given as goal
-
-abbrev pub invariant-loop-branch : goal.invariant-loop-branch
-invariant-loop-branch l = IsOpening l.problem l.limit l.keeps l.course
-
-abbrev pub decreases-loop-branch : goal.decreases-loop-branch
-decreases-loop-branch l = l.limit - l.course.count

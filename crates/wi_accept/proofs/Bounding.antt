@@ -14,8 +14,8 @@ use Rattle.wi_build.proofs.LawLemmas.{weight_tells}
 use Rattle.wi_cert.specs.declared.closed.Closed.{Closed}
 use Rattle.wi_cert.specs.declared.check_refused.ClosedRefused.{ClosedRefused}
 use Rattle.wi_cert.specs.declared.check_refused.ClosedRefused.TheVariants.{HeadMissing, PairMissing, GoalBelow, NotClosed}
-use Rattle.wi_accept.specs.declared.need.Need.{Need}
-use Rattle.wi_accept.specs.declared.need.Need.TheVariants as need
+use Rattle.wi_accept.specs.declared.follower.Follower.{Follower}
+use Rattle.wi_accept.specs.declared.follower.Follower.TheVariants as follower
 use Rattle.wi_accept.specs.Demands.{row}
 use Rattle.wi_accept.specs.Causes.{rows_of, missing_in, goal_in, open_in, IsClosedCause}
 use Rattle.wi_accept.proofs.ClosedLaws.{AreWeights, closed_heads, closed_rows, no_row_to}
@@ -32,10 +32,10 @@ module _ (problem : Problem) (terms : ℕ) (bound : Option (List ℕ)) (c : Clos
   none_missing : missing_in problem c ≡ None
   none_missing = go (missing_in problem c) refl
     where
-      go : (o : Option Need) → missing_in problem c ≡ o → missing_in problem c ≡ None
+      go : (o : Option Follower) → missing_in problem c ≡ o → missing_in problem c ≡ None
       go None e = e
-      go (Some (need.Head p g)) e = absurd (none (HeadMissing p g) e)
-      go (Some (need.Pair u v)) e = absurd (none (PairMissing u v) e)
+      go (Some (follower.Head p g)) e = absurd (none (HeadMissing p g) e)
+      go (Some (follower.Pair u v)) e = absurd (none (PairMissing u v) e)
 
   none_below : goal_in terms c ≡ None
   none_below = go (goal_in terms c) refl

@@ -7,33 +7,33 @@ use Rattle.wi_pds.specs.declared.rule.Rule.{Rule}
 use Rattle.wi_pds.specs.Closed.{AreClosed, Summary, Listed, Within, HasRow, AreClosedRows}
 use Rattle.wi_cert.proofs.Cases.{by_test}
 use Rattle.wi_rules.proofs.Lists.{In, contains_in, in_contains, in_flat, flat_in}
-use Rattle.wi_accept.specs.declared.need.Need.{Need}
-use Rattle.wi_accept.specs.declared.need.Need.TheVariants.{Head}
-use Rattle.wi_accept.specs.Needs.{needs, is_missing, needs_at, needs_of, first_missing}
+use Rattle.wi_accept.specs.declared.follower.Follower.{Follower}
+use Rattle.wi_accept.specs.declared.follower.Follower.TheVariants.{Head}
+use Rattle.wi_accept.specs.Followers.{followers, is_missing, followers_at, followers_of, first_missing}
 use Rattle.wi_accept.specs.Demands.{row, demands, demands_at, demands_of, is_within, row_to, is_met, is_open, first_open, weight_to}
 use Rattle.wi_accept.proofs.Finding.{find_none, none_found}
-use Rattle.wi_accept.proofs.NeedLemmas.{listed, not_lacking, leads, given}
+use Rattle.wi_accept.proofs.FollowerLemmas.{listed, not_lacking, leads, given}
 use Rattle.wi_accept.proofs.Covering.{row_found, no_row_found, within_test, within_is, has_row, row_meets, chain_met, IsCovered, demand_covered}
 
 pub closed_heads : {W : Type 0} (rules : ℕ → ℕ → List (Rule W)) (start : ℕ × ℕ) (heads pairs : List (ℕ × ℕ)) → first_missing rules start heads pairs ≡ None → AreClosed rules start heads pairs
 closed_heads {W} rules start heads pairs h = record {
   begins = listed heads start.0 start.1 (none (Head start.0 start.1) (inl refl));
   each = λ p g r at rule. leads heads pairs g r.to r.word (λ n i. none n (inr (
-      in_flat (λ (k : ℕ × ℕ). needs_at pairs k.1 (rules k.0 k.1)) heads (p, g) n (contains_in heads (p, g) at)
-      (in_flat (λ (x : Rule W). needs pairs g x.to x.word) (rules p g) r n (contains_in (rules p g) r rule) i))));
+      in_flat (λ (k : ℕ × ℕ). followers_at pairs k.1 (rules k.0 k.1)) heads (p, g) n (contains_in heads (p, g) at)
+      (in_flat (λ (x : Rule W). followers pairs g x.to x.word) (rules p g) r n (contains_in (rules p g) r rule) i))));
 }
   where
-    none : (n : Need) → In (Head start.0 start.1 ∷ needs_of rules pairs heads) n → is_missing heads pairs n ≡ false
-    none n i = find_none (λ n. is_missing heads pairs n) (Head start.0 start.1 ∷ needs_of rules pairs heads) n h i
+    none : (n : Follower) → In (Head start.0 start.1 ∷ followers_of rules pairs heads) n → is_missing heads pairs n ≡ false
+    none n i = find_none (λ n. is_missing heads pairs n) (Head start.0 start.1 ∷ followers_of rules pairs heads) n h i
 
 pub nothing_missing : {W : Type 0} (rules : ℕ → ℕ → List (Rule W)) (start : ℕ × ℕ) (heads pairs : List (ℕ × ℕ)) → AreClosed rules start heads pairs → first_missing rules start heads pairs ≡ None
-nothing_missing {W} rules start heads pairs h = none_found (λ n. is_missing heads pairs n) (Head start.0 start.1 ∷ needs_of rules pairs heads) each
+nothing_missing {W} rules start heads pairs h = none_found (λ n. is_missing heads pairs n) (Head start.0 start.1 ∷ followers_of rules pairs heads) each
   where
-    each : (n : Need) → In (Head start.0 start.1 ∷ needs_of rules pairs heads) n → is_missing heads pairs n ≡ false
+    each : (n : Follower) → In (Head start.0 start.1 ∷ followers_of rules pairs heads) n → is_missing heads pairs n ≡ false
     each n (inl e) = rw (sym e) (not_lacking heads start.0 start.1 h.begins)
     each n (inr i) =
-        let k = flat_in (λ (k : ℕ × ℕ). needs_at pairs k.1 (rules k.0 k.1)) heads n i in
-        let r = flat_in (λ (r : Rule W). needs pairs k.0.1 r.to r.word) (rules k.0.0 k.0.1) n k.2 in
+        let k = flat_in (λ (k : ℕ × ℕ). followers_at pairs k.1 (rules k.0 k.1)) heads n i in
+        let r = flat_in (λ (r : Rule W). followers pairs k.0.1 r.to r.word) (rules k.0.0 k.0.1) n k.2 in
         given heads pairs k.0.1 r.0.to r.0.word (h.each k.0.0 k.0.1 r.0 (in_contains heads k.0 k.1) (in_contains (rules k.0.0 k.0.1) r.0 r.1)) n r.2
 
 -- no two rows are for one summary

@@ -14,8 +14,8 @@ use Rattle.wi_trace.specs.declared.cause.Cause.{Cause}
 use Rattle.wi_pds.specs.Closed.{Summary}
 use Rattle.wi_build.specs.Problems.{Problem, asks, within}
 use Rattle.wi_cert.specs.declared.certificate.Certificate.{Certificate}
-use Rattle.wi_cert.specs.declared.check_refused.Part.{Part}
-use Rattle.wi_cert.specs.declared.check_refused.Part.TheVariants.{First, Path, Last}
+use Rattle.wi_cert.specs.declared.check_refused.RunPart.{RunPart}
+use Rattle.wi_cert.specs.declared.check_refused.RunPart.TheVariants.{First, Path, Last}
 use Rattle.wi_cert.specs.declared.check_refused.CheckRefused.{CheckRefused}
 use Rattle.wi_cert.specs.declared.check_refused.CheckRefused.TheVariants.{OfAnotherQuestion, TermsDiffer, StepNotInTable, NoMatch, WeightDiffers, WrongAnswer, Unbounded, BadSplit, Leaf, Memory}
 use Rattle.wi_cert.specs.declared.check_refused.ClosedRefused.{ClosedRefused}
@@ -28,8 +28,8 @@ use Rattle.wi_cert.specs.declared.tree.TreeCertificate.{TreeCertificate}
 use Rattle.wi_net.specs.declared.bounds.Bounds.{Bounds}
 use Rattle.wi_accept.specs.Trees.{branches_of, IsNode, IsTreeCause, IsTreeRefusal}
 use Rattle.wi_cert.proofs.Cases.{some_same}
-use Rattle.wi_accept.specs.declared.need.Need.{Need}
-use Rattle.wi_accept.specs.declared.need.Need.TheVariants.{Head, Pair}
+use Rattle.wi_accept.specs.declared.follower.Follower.{Follower}
+use Rattle.wi_accept.specs.declared.follower.Follower.TheVariants.{Head, Pair}
 use Rattle.wi_accept.specs.Answers.{run_of}
 use Rattle.wi_accept.specs.Demands.{row}
 use Rattle.wi_accept.specs.Causes.{IsFirstUnmatched, IsShownCause, IsClosedCause, IsCause, IsFirstCause, IsRefusal, bound_of, closed_place, place}
@@ -37,7 +37,7 @@ use Rattle.wi_accept.specs.Causes.{IsFirstUnmatched, IsShownCause, IsClosedCause
 pub same_weight : (v w : WeightPair Terms Effort) → components v ≡ components w → v ≡ w
 same_weight v w same = same_pair v w (same_terms v.first w.first cc) (same_effort v.second w.second cc)
 
-one_part : (net : Net) (question : Question) (run : Run) (a b : Part) → IsFirstUnmatched net question run a → IsFirstUnmatched net question run b → a ≡ b
+one_part : (net : Net) (question : Question) (run : Run) (a b : RunPart) → IsFirstUnmatched net question run a → IsFirstUnmatched net question run b → a ≡ b
 one_part net question run First First h k = refl
 one_part net question run First Path h k = absurd (h k.0)
 one_part net question run First Last h k = absurd (h k.0)
@@ -48,8 +48,8 @@ one_part net question run Last First h k = absurd (k h.0)
 one_part net question run Last Path h k = absurd (k.1 h.1)
 one_part net question run Last Last h k = refl
 
-one_need : (o : Option Need) (m n : Need) → o ≡ Some m → o ≡ Some n → m ≡ n
-one_need o m n h k = some_same m n (sym h ∙ k)
+one_follower : (o : Option Follower) (m n : Follower) → o ≡ Some m → o ≡ Some n → m ≡ n
+one_follower o m n h k = some_same m n (sym h ∙ k)
 
 same_head : (p g x y : ℕ) → Head p g ≡ Head x y → HeadMissing p g ≡ HeadMissing x y
 same_head p g x y h = cc
@@ -71,10 +71,10 @@ same_row a b t u v w h =
 -- two causes of one place against heads, pairs and rows
 pub same_gap : (problem : Problem) (terms : ℕ) (bound : Option (List ℕ)) (c : Closed) (r s : ClosedRefused) → closed_place r ≡ closed_place s
     → IsClosedCause problem terms bound c r → IsClosedCause problem terms bound c s → r ≡ s
-same_gap problem terms bound c (HeadMissing p g) (HeadMissing x y) e h k = same_head p g x y (one_need _ (Head p g) (Head x y) h k)
-same_gap problem terms bound c (HeadMissing p g) (PairMissing x y) e h k = not_both p g x y (one_need _ (Head p g) (Pair x y) h k)
-same_gap problem terms bound c (PairMissing p g) (HeadMissing x y) e h k = not_both x y p g (one_need _ (Head x y) (Pair p g) k h)
-same_gap problem terms bound c (PairMissing p g) (PairMissing x y) e h k = same_symbols p g x y (one_need _ (Pair p g) (Pair x y) h k)
+same_gap problem terms bound c (HeadMissing p g) (HeadMissing x y) e h k = same_head p g x y (one_follower _ (Head p g) (Head x y) h k)
+same_gap problem terms bound c (HeadMissing p g) (PairMissing x y) e h k = not_both p g x y (one_follower _ (Head p g) (Pair x y) h k)
+same_gap problem terms bound c (PairMissing p g) (HeadMissing x y) e h k = not_both x y p g (one_follower _ (Head x y) (Pair p g) k h)
+same_gap problem terms bound c (PairMissing p g) (PairMissing x y) e h k = same_symbols p g x y (one_follower _ (Pair p g) (Pair x y) h k)
 same_gap problem terms bound c (GoalBelow v) (GoalBelow w) e h k = ap (λ x. GoalBelow x) (same_weight v w (some_same (components v) (components w) (sym h ∙ k)))
 same_gap problem terms bound c (NotClosed a t v) (NotClosed b u w) e h k = same_row a b t u v w (some_same (row a.0 a.1 t (components v)) (row b.0 b.1 u (components w)) (sym h ∙ k))
 same_gap problem terms bound c r s e h k = absurd (omega (arith, e))

@@ -1,6 +1,6 @@
 pub mod Finding
 pub mod ListLemmas
-pub mod NeedLemmas
+pub mod FollowerLemmas
 pub mod Covering
 pub mod ClosedLaws
 pub mod RuleLemmas

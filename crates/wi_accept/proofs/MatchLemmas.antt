@@ -12,8 +12,8 @@ use Rattle.wi_world.specs.Holds.{Matches, is_dropped}
 use Rattle.wi_world.specs.Runs.{links_of, last_header}
 use Rattle.wi_rules.proofs.Lists.{in_contains, contains_in}
 use Rattle.wi_build.specs.Problems.{Problem, IsProblem, asks}
-use Rattle.wi_cert.specs.declared.check_refused.Part.{Part}
-use Rattle.wi_cert.specs.declared.check_refused.Part.TheVariants.{First, Path, Last}
+use Rattle.wi_cert.specs.declared.check_refused.RunPart.{RunPart}
+use Rattle.wi_cert.specs.declared.check_refused.RunPart.TheVariants.{First, Path, Last}
 use Rattle.wi_accept.specs.Causes.{IsFirstUnmatched}
 use Rattle.wi_accept.proofs.ListLemmas.{both_or_not, some_or_none}
 
@@ -41,7 +41,7 @@ matched e k w h = elim (accepts_or_not (automaton_of holds e.nfa) 0 w) [
 ]
 
 -- a run of which no part is the first unmatched one, and that is dropped exactly where that is asked for, matches
-pub none_unmatched : (problem : Problem) → IsProblem problem → (run : Run) → ((part : Part) → IsFirstUnmatched problem.net (asks problem) run part → ⊥)
+pub none_unmatched : (problem : Problem) → IsProblem problem → (run : Run) → ((part : RunPart) → IsFirstUnmatched problem.net (asks problem) run part → ⊥)
     → is_dropped run.end ≡ (asks problem).drops → Matches problem.net (asks problem) run
 none_unmatched problem k run none end =
     let first = matched problem.query.first k.automata.first (map (λ l. l.0.0) run.header) (λ n. none First n) in

@@ -19,14 +19,14 @@ use Rattle.wi_cert.specs.declared.shown.Shown.{Shown}
 use Rattle.wi_cert.specs.declared.tree.Node.{Node}
 use Rattle.wi_cert.specs.declared.tree.Node.TheVariants as node
 use Rattle.wi_cert.specs.declared.tree.TreeCertificate.{TreeCertificate}
-use Rattle.wi_cert.specs.declared.check_refused.Part.TheVariants.{First, Path, Last}
+use Rattle.wi_cert.specs.declared.check_refused.RunPart.TheVariants.{First, Path, Last}
 use Rattle.wi_cert.specs.declared.check_refused.CheckRefused.{CheckRefused}
 use Rattle.wi_cert.specs.declared.check_refused.CheckRefused.TheVariants.{OfAnotherQuestion, TermsDiffer, StepNotInTable, NoMatch, WeightDiffers, WrongAnswer, Unbounded, BadSplit, Leaf, Memory}
 use Rattle.wi_cert.specs.declared.check_refused.ClosedRefused.{ClosedRefused}
 use Rattle.wi_cert.specs.declared.check_refused.ClosedRefused.TheVariants.{HeadMissing, PairMissing, GoalBelow, NotClosed}
-use Rattle.wi_accept.specs.declared.need.Need.TheVariants.{Head, Pair}
+use Rattle.wi_accept.specs.declared.follower.Follower.TheVariants.{Head, Pair}
 use Rattle.wi_accept.specs.Answers.{run_of}
-use Rattle.wi_accept.specs.Needs.{first_missing}
+use Rattle.wi_accept.specs.Followers.{first_missing}
 use Rattle.wi_accept.specs.Demands.{first_open, row}
 use Rattle.wi_accept.specs.Causes.{IsAccepted, IsCause, IsShownCause, IsClosedCause, bound_of, is_wrong, rows_of}
 use Rattle.wi_accept.specs.Trees.{branched, IsNode, IsTreeCause, IsTreeAccepted}

@@ -10,7 +10,7 @@ use Rattle.wi_build.specs.Problems.{Problem, IsProblem, asks, weighs}
 use Rattle.wi_cert.specs.declared.shown.Claim.{Claim}
 use Rattle.wi_cert.specs.declared.shown.Claim.TheVariants as claims
 use Rattle.wi_cert.specs.declared.shown.Shown.{Shown}
-use Rattle.wi_cert.specs.declared.check_refused.Part.TheVariants.{First, Path, Last}
+use Rattle.wi_cert.specs.declared.check_refused.RunPart.TheVariants.{First, Path, Last}
 use Rattle.wi_cert.specs.declared.check_refused.CheckRefused.{CheckRefused}
 use Rattle.wi_cert.specs.declared.check_refused.CheckRefused.TheVariants.{OfAnotherQuestion, TermsDiffer, StepNotInTable, NoMatch, WeightDiffers, WrongAnswer, Unbounded, BadSplit, Leaf, Memory}
 use Rattle.wi_cert.specs.Shown.{is_no}

@@ -18,21 +18,21 @@ use Rattle.wi_cert.specs.declared.shown.Claim.TheVariants as claims
 use Rattle.wi_cert.specs.declared.shown.Shown.{Shown}
 use Rattle.wi_cert.specs.declared.closed.Closed.{Closed}
 use Rattle.wi_cert.specs.declared.row.Row.{Row}
-use Rattle.wi_cert.specs.declared.check_refused.Part.{Part}
-use Rattle.wi_cert.specs.declared.check_refused.Part.TheVariants.{First, Path, Last}
+use Rattle.wi_cert.specs.declared.check_refused.RunPart.{RunPart}
+use Rattle.wi_cert.specs.declared.check_refused.RunPart.TheVariants.{First, Path, Last}
 use Rattle.wi_cert.specs.declared.check_refused.CheckRefused.{CheckRefused}
 use Rattle.wi_cert.specs.declared.check_refused.CheckRefused.TheVariants.{OfAnotherQuestion, TermsDiffer, StepNotInTable, NoMatch, WeightDiffers, WrongAnswer, Unbounded, BadSplit, Leaf, Memory}
 use Rattle.wi_cert.specs.declared.check_refused.ClosedRefused.{ClosedRefused}
 use Rattle.wi_cert.specs.declared.check_refused.ClosedRefused.TheVariants.{HeadMissing, PairMissing, GoalBelow, NotClosed}
 use Rattle.wi_cert.specs.Shown.{is_no}
-use Rattle.wi_accept.specs.declared.need.Need.{Need}
-use Rattle.wi_accept.specs.declared.need.Need.TheVariants.{Head, Pair}
+use Rattle.wi_accept.specs.declared.follower.Follower.{Follower}
+use Rattle.wi_accept.specs.declared.follower.Follower.TheVariants.{Head, Pair}
 use Rattle.wi_accept.specs.Answers.{padded, run_of}
-use Rattle.wi_accept.specs.Needs.{first_missing}
+use Rattle.wi_accept.specs.Followers.{first_missing}
 use Rattle.wi_accept.specs.Demands.{row, first_open, weight_to}
 
 -- the part is the first of a run that isn't as it is asked
-abbrev pub IsFirstUnmatched : Net → Question → Run → Part → Type 0
+abbrev pub IsFirstUnmatched : Net → Question → Run → RunPart → Type 0
 IsFirstUnmatched net question run First = question.first (map (λ l. l.0.0) run.header) → ⊥
 IsFirstUnmatched net question run Path = question.first (map (λ l. l.0.0) run.header) × (question.path (map (λ e. e.0) (links_of net run)) → ⊥)
 IsFirstUnmatched net question run Last =
@@ -58,7 +58,7 @@ abbrev pub bound_of : Shown → Option (List ℕ)
 bound_of s = if is_no s.claim then None else Some (padded s.terms s.weight)
 
 -- what heads and pairs lack, what the goal's row weighs, and which row is lacking
-abbrev pub missing_in : Problem → Closed → Option Need
+abbrev pub missing_in : Problem → Closed → Option Follower
 missing_in problem c = first_missing (rules problem) (0, 0) c.heads c.pairs
 
 abbrev pub goal_in : ℕ → Closed → Option (List ℕ)

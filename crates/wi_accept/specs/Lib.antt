@@ -1,5 +1,5 @@
 pub mod Answers
-pub mod Needs
+pub mod Followers
 pub mod Demands
 pub mod Causes
 pub mod Makers

@@ -23,7 +23,7 @@ use Rattle.wi_query.specs.Compiled.{Compiled, HasAutomaton}
 use Rattle.wi_query.specs.Sets.{holds}
 use Rattle.wi_rules.specs.declared.spot.Spot.{Spot}
 use Rattle.wi_rules.specs.declared.spot.Spot.TheVariants.{Start, Done, Build, Close, OnLink, Mid, Drop}
-use Rattle.wi_rules.specs.Rules.{Encoding, SpotRule, each_member, plain, working, pushing, ending, is_label, written, first_written, member_number, on_way, may_build, may_use, build_rules, set_out_rules, hop_rules, entry_rules, inactive_rules, lost_by, undefined_rules, lost_rules, end_rules, next_op_rules, on_link_rules, rules_of}
+use Rattle.wi_rules.specs.Rules.{Encoding, SpotRule, each_member, plain, working, pushing, ending, is_label, word_over, first_word_over, member_number, on_way, may_build, may_use, build_rules, set_out_rules, hop_rules, entry_rules, inactive_rules, lost_by, undefined_rules, lost_rules, end_rules, next_op_rules, on_link_rules, rules_of}
 use Rattle.wi_rules.specs.Numbers.{layout_of, spot_of, numbered, rules_at_number}
 use Rattle.wi_rules.proofs.HopRun.{hop_rule}
 use Rattle.wi_build.specs.Encodings.{after, comes_after, before, encoding_of}
@@ -59,8 +59,8 @@ module _ (s : Encoding) (few : IsFew s) where
 
   hop_few : (e : LinkId) (q : ℕ) (l : Label) (step : Step) (member : Member) → length (hop_rules s e q l step member) ≤ 513
   hop_few e q l step member =
-      if_length (may_use s.net s.bounds (entry s.net e l) step.group member.link) (option_map_or (λ (word : Word2). map (hop_rule s e q l step member word) (s.path.next q member.link.0)) (first_written s.net member.ops l.0) []) 513
-      (option_length (λ (word : Word2). map (hop_rule s e q l step member word) (s.path.next q member.link.0)) (first_written s.net member.ops l.0) 513
+      if_length (may_use s.net s.bounds (entry s.net e l) step.group member.link) (option_map_or (λ (word : Word2). map (hop_rule s e q l step member word) (s.path.next q member.link.0)) (first_word_over s.net member.ops l.0) []) 513
+      (option_length (λ (word : Word2). map (hop_rule s e q l step member word) (s.path.next q member.link.0)) (first_word_over s.net member.ops l.0) 513
       (λ word. map_length (hop_rule s e q l step member word) (s.path.next q member.link.0) 513 (few.path q member.link.0)))
 
   entry_few : (e : LinkId) (q : ℕ) (l : Label) → length (entry_rules s e q l) ≤ 400000 * 513
@@ -95,8 +95,8 @@ module _ (s : Encoding) (few : IsFew s) where
 
   next_op_few : (m i q n : ℕ) (member : Member) → length (next_op_rules s m i q n member) ≤ 1
   next_op_few m i q n member =
-      option_length (λ (op : Op). option_map_or (λ (word : Word2). working s m i (on_way member m (suc i) q) word ∷ []) (written s.net op n) []) (slice_get member.ops i) 1
-      (λ op. option_length (λ (word : Word2). working s m i (on_way member m (suc i) q) word ∷ []) (written s.net op n) 1 (λ word. omega arith))
+      option_length (λ (op : Op). option_map_or (λ (word : Word2). working s m i (on_way member m (suc i) q) word ∷ []) (word_over s.net op n) []) (slice_get member.ops i) 1
+      (λ op. option_length (λ (word : Word2). working s m i (on_way member m (suc i) q) word ∷ []) (word_over s.net op n) 1 (λ word. omega arith))
 
   lost_few : (m i n : ℕ) (member : Member) → length (lost_rules s m i n member) ≤ 1
   lost_few m i n member = option_length (λ (way : Spot × Word2). working s m i way.0 way.1 ∷ []) (lost_by s.net member.ops m i n) 1 (λ way. omega arith)

@@ -30,7 +30,7 @@ use Rattle.wi_quantity.proofs.RiskLemmas.{before_few}
 use Rattle.wi_rules.specs.declared.spot.Spot.{Spot}
 use Rattle.wi_rules.specs.declared.spot.Spot.TheVariants.{Close}
 use Rattle.wi_rules.specs.declared.spot.Origin.TheVariants.{Hop, Ending}
-use Rattle.wi_rules.specs.Rules.{SpotRule, each_at, first_written, hop_rules, ending, inactive_rules, lost_by, may_use, member_number, on_way, undefined_rules}
+use Rattle.wi_rules.specs.Rules.{SpotRule, each_at, first_word_over, hop_rules, ending, inactive_rules, lost_by, may_use, member_number, on_way, undefined_rules}
 use Rattle.wi_rules.proofs.Lists.{all_in, drop_get, get_in, get_below}
 use Rattle.wi_rules.proofs.Members.{kept, member_numbered}
 use Rattle.wi_build.specs.declared.head.Head.{Head}
@@ -191,7 +191,7 @@ module _ (problem : Problem) (at : Arrival) (needs : Needs) (step : Step) (numbe
   needs_few = omega (arith, count_is, before_few problem.net (entry problem.net at.link at.top) step.group k.network)
 
   -- or else one for each state that comes after by the member's link
-  pub hop_row : (head : Head) (word : Word2) (w : Pair Terms Effort) (failures : ℕ) (through : Way) (qs : List ℕ) (old new : Listing) → may_use problem.net problem.bounds (entry problem.net at.link at.top) step.group member.link ≡ true → first_written problem.net member.ops at.top.0 ≡ Some word
+  pub hop_row : (head : Head) (word : Word2) (w : Pair Terms Effort) (failures : ℕ) (through : Way) (qs : List ℕ) (old new : Listing) → may_use problem.net problem.bounds (entry problem.net at.link at.top) step.group member.link ≡ true → first_word_over problem.net member.ops at.top.0 ≡ Some word
       → failures ≡ length needs.risks → w ≡ weight (take 5 (hop_weight problem.net problem.vector member failures) ++ 1 ∷ []) → qs ≡ (encoding_of problem).path.next at.state member.link.0
       → through ≡ way_through member number 1 → new ≡ old ++ map (λ r. rule_made (encoding_of problem) head (spot_on through r) (record { word = word; weight = w; origin = Hop step })) qs
       → new ≡ old ++ rules_for (encoding_of problem) head (hop_rules (encoding_of problem) at.link at.state at.top step member)

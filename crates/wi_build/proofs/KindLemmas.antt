@@ -15,7 +15,7 @@ use Rattle.wi_world.specs.declared.run.End.TheVariants.{Arrives, Inactive, Undef
 use Rattle.wi_rules.specs.declared.spot.Origin.TheVariants.{SetOut}
 use Rattle.wi_rules.specs.declared.spot.Spot.{Spot}
 use Rattle.wi_rules.specs.declared.spot.Spot.TheVariants.{Start, Done, Build, Close, OnLink, Mid, Drop}
-use Rattle.wi_rules.specs.Rules.{SpotRule, build_rules, end_rules, ending, entry_rules, is_label, lost_by, lost_rules, may_build, next_op_rules, on_link_rules, on_way, plain, pushing, rules_of, set_out_rules, working, written}
+use Rattle.wi_rules.specs.Rules.{SpotRule, build_rules, end_rules, ending, entry_rules, is_label, lost_by, lost_rules, may_build, next_op_rules, on_link_rules, on_way, plain, pushing, rules_of, set_out_rules, working, word_over}
 use Rattle.wi_rules.specs.Numbers.{Fits, layout_of}
 use Rattle.wi_rules.proofs.HopRun.{entry_in}
 use Rattle.wi_rules.proofs.Ending.{end_in}
@@ -93,8 +93,8 @@ module _ (problem : Problem) (k : IsProblem problem) (P : SpotRule → Type 0) (
   operation_kind m i q n r few h =
       let member = option_in (next_op_rules (encoding_of problem) m i q n) (slice_get (all_members problem.net.rows) m) r h in
       let below = get_below (all_members problem.net.rows) m member.0 member.1 in
-      let op = option_in (λ op. option_map_or (λ word. working (encoding_of problem) m i (on_way member.0 m (suc i) q) word ∷ []) (written problem.net op n) []) (slice_get member.0.ops i) r member.2 in
-      let word = option_in (λ word. working (encoding_of problem) m i (on_way member.0 m (suc i) q) word ∷ []) (written problem.net op.0 n) r op.2 in
+      let op = option_in (λ op. option_map_or (λ word. working (encoding_of problem) m i (on_way member.0 m (suc i) q) word ∷ []) (word_over problem.net op n) []) (slice_get member.0.ops i) r member.2 in
+      let word = option_in (λ word. working (encoding_of problem) m i (on_way member.0 m (suc i) q) word ∷ []) (word_over problem.net op.0 n) r op.2 in
       subst P (one_in (working (encoding_of problem) m i (on_way member.0 m (suc i) q) word.0) r word.2) (each.operations m i (on_way member.0 m (suc i) q) word.0 below few)
 
   dropping_kind : (m i n : ℕ) (r : SpotRule) → i < 8 → In (option_map_or (lost_rules (encoding_of problem) m i n) (slice_get (all_members problem.net.rows) m) []) r → P r

@@ -18,7 +18,7 @@ use Rattle.wi_world.specs.declared.run.End.TheVariants.{Arrives, Inactive, Undef
 use Rattle.wi_rules.specs.declared.spot.Origin.TheVariants.{SetOut}
 use Rattle.wi_rules.specs.declared.spot.Spot.{Spot}
 use Rattle.wi_rules.specs.declared.spot.Spot.TheVariants.{Start, Done, Build, Close, OnLink, Mid, Drop}
-use Rattle.wi_rules.specs.Rules.{Encoding, SpotRule, zeros, plain, working, pushing, is_label, written, on_way, may_build, build_rules, set_out_rules, entry_rules, lost_by, lost_rules, end_rules, next_op_rules, on_link_rules, rules_of, IsEncoding}
+use Rattle.wi_rules.specs.Rules.{Encoding, SpotRule, zeros, plain, working, pushing, is_label, word_over, on_way, may_build, build_rules, set_out_rules, entry_rules, lost_by, lost_rules, end_rules, next_op_rules, on_link_rules, rules_of, IsEncoding}
 use Rattle.wi_rules.proofs.Lists.{In, in_either, map_in, flat_in, if_in, option_in, one_in}
 use Rattle.wi_rules.proofs.HopRun.{Hops, entry_in}
 use Rattle.wi_rules.proofs.Ending.{end_in}
@@ -53,8 +53,8 @@ module _ (s : Encoding) (k : IsEncoding s) (P : List ℕ → Type 0) (none : P (
 
   next_op_shares : (m i q n : ℕ) (member : Member) (r : SpotRule) → In (next_op_rules s m i q n member) r → P r.share
   next_op_shares m i q n member r h =
-      let a = option_in (λ (op : Op). option_map_or (λ (word : Word2). working s m i (on_way member m (suc i) q) word ∷ []) (written s.net op n) []) (slice_get member.ops i) r h in
-      let b = option_in (λ (word : Word2). working s m i (on_way member m (suc i) q) word ∷ []) (written s.net a.0 n) r a.2 in
+      let a = option_in (λ (op : Op). option_map_or (λ (word : Word2). working s m i (on_way member m (suc i) q) word ∷ []) (word_over s.net op n) []) (slice_get member.ops i) r h in
+      let b = option_in (λ (word : Word2). working s m i (on_way member m (suc i) q) word ∷ []) (word_over s.net a.0 n) r a.2 in
       subst (λ (x : SpotRule). P x.share) (one_in (working s m i (on_way member m (suc i) q) b.0) r b.2) none
 
   -- of a plain rule that is there under a test

@@ -17,7 +17,7 @@ ghost use Rattle.wi_quantity.specs.Vectors.{is_vector};
 ghost use Rattle.wi_quantity.specs.Weighing.{hop_weight, end_weight, is_way_out};
 ghost use Rattle.wi_query.specs.Sets.{holds};
 ghost use Rattle.wi_rules.specs.Numbers.{Fits, layout_of, spot_of};
-ghost use Rattle.wi_rules.specs.Rules.{may_build, written, first_written, lost_by, plain, build_rules, set_out_rules};
+ghost use Rattle.wi_rules.specs.Rules.{may_build, word_over, first_word_over, lost_by, plain, build_rules, set_out_rules};
 ghost use Rattle.wi_rules.specs.declared.spot.Spot.{Spot};
 
 use crate::first::first_links;
@@ -256,10 +256,10 @@ impl<'a> LazySystem<'a> {
     }
 
     /// What an operation writes over a label, where it is defined there.
-    pub(crate) fn written(&self, op: Op, top: Label) -> Option<Word2>
+    pub(crate) fn word_over(&self, op: Op, top: Label) -> Option<Word2>
         requires top { top.0 < length self.now.net.classes }
         requires op { op_known self.now.net op ≡ true }
-        ensures { result ≡ written self.now.net op top.0 }
+        ensures { result ≡ word_over self.now.net op top.0 }
     {
         self.network().keeps();
         if !op.allowed(self.network().class(top)) {
@@ -273,14 +273,14 @@ impl<'a> LazySystem<'a> {
     }
 
     /// What a member's first operation writes over a label; the label itself, where there is none.
-    pub(crate) fn first_written(&self, ops: &[Op], top: Label) -> Option<Word2>
+    pub(crate) fn first_word_over(&self, ops: &[Op], top: Label) -> Option<Word2>
         requires top { top.0 < length self.now.net.classes }
         requires ops { list_all (op_known self.now.net) ops.now ≡ true }
-        ensures { result ≡ first_written self.now.net ops.now top.0 }
+        ensures { result ≡ first_word_over self.now.net ops.now top.0 }
     {
         self.network().keeps();
         match ops.first() {
-            Some(op) => self.written(*op, top),
+            Some(op) => self.word_over(*op, top),
             None => Some(Word2::One(top.0 + 1)),
         }
     }
@@ -301,7 +301,7 @@ impl<'a> LazySystem<'a> {
     {
         self.network().keeps();
         let op = operation(member, place)?;
-        let Some(word) = self.written(op, top) else {
+        let Some(word) = self.word_over(op, top) else {
             return Some((Spot::Close(0), Word2::One(top.0 + 1)));
         };
         let next = place + 1;

@@ -218,7 +218,7 @@ impl<'a> LazySystem<'a> {
         ensures { OnOk result (rules.new.items ≡ rules.old.items ++ rules_for (encoding_of self.now) head (hop_rules (encoding_of self.now) at.link at.state at.top step member.now)) }
     {
         self.keeps();
-        let Some(word) = self.first_written(member.ops.as_slice(), at.top) else {
+        let Some(word) = self.first_word_over(member.ops.as_slice(), at.top) else {
             return Ok(());
         };
         let made = Made {
@@ -280,7 +280,7 @@ impl<'a> LazySystem<'a> {
         let Some(op) = operation(member, done) else {
             return Ok(());
         };
-        let Some(word) = self.written(op, top) else {
+        let Some(word) = self.word_over(op, top) else {
             return Ok(());
         };
         let made = Made {

@@ -8,7 +8,7 @@ pub type Weight = Pair<Terms, Effort>;
 
 /// A part of the run that is shown.
 #[derive(Clone, Copy, Debug, PartialEq, Eq)]
-pub enum Part {
+pub enum RunPart {
     /// The header in which the packet comes.
     First,
     /// The links that it goes along.
@@ -48,7 +48,7 @@ pub enum CheckRefused {
     /// The first step, from 1, that can't be taken as it is written, at the query's number of failures; 0 is the start.
     StepNotInTable(u64),
     /// This part of the run that is shown, the first of them, isn't in its expression of the query.
-    NoMatch(Part),
+    NoMatch(RunPart),
     /// The run that is shown doesn't weigh what the certificate says.
     WeightDiffers { shown: Weight, counted: Weight },
     /// The answer is yes and the run that is shown doesn't fit the query's bounds, or inconclusive and it does.

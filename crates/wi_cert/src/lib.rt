@@ -21,7 +21,7 @@ mod tree_writer;
 mod writer;
 
 pub use certificate::Certificate;
-pub use check_refused::{CheckRefused, ClosedRefused, Part, Weight};
+pub use check_refused::{CheckRefused, ClosedRefused, RunPart, Weight};
 pub use closed::Closed;
 pub use decode_refused::DecodeRefused;
 pub use encode_refused::EncodeRefused;

@@ -8,7 +8,7 @@ use Rattle.std.proofs.lemmas.Bool.Decides.{nat_tests}
 use Rattle.std.proofs.lemmas.List.Elements.{All-cons, All-tail, All-weaker}
 use Rattle.std.proofs.lemmas.List.Folds.{list_any_at, list_any_none}
 use Rattle.wi_cert.specs.Order.{pair_below}
-use Rattle.wi_accept.specs.Needs.{pairs_of}
+use Rattle.wi_accept.specs.Followers.{pairs_of}
 use Rattle.wi_check.proofs.Rising.{rises_after, all_above, filter_rises}
 use Rattle.wi_check.specs.private.Lists.{Rises, symbol_below, has_symbol, first_absent}
 

@@ -7,7 +7,7 @@ pub mod Rising
 pub mod Search
 pub mod Segments
 pub mod Absent
-pub mod Needed
+pub mod Followed
 pub mod Parts
 pub mod RowLemmas
 pub mod OwnRows

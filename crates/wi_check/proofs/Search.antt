@@ -15,7 +15,7 @@ use Rattle.std.proofs.lemmas.Option.{slice_get-get_or, slice_get_read, same_Some
 use Rattle.wi_base.proofs.Cases.{by_test}
 use Rattle.wi_cert.specs.declared.row.Row.{Row}
 use Rattle.wi_cert.specs.Order.{pair_below, row_below}
-use Rattle.wi_accept.specs.Needs.{is_listed}
+use Rattle.wi_accept.specs.Followers.{is_listed}
 use Rattle.wi_check.specs.private.Lists.{Rises, is_row_of, is_row_to}
 
 -- how elements that are looked up stand to the one that is asked for

@@ -13,7 +13,7 @@ use crate::heads::Listings;
 use crate::rows::{Demand, Rows, weight_to};
 use crate::weights::weight_of;
 use std::alloc::Global;
-use wi_accept::Need;
+use wi_accept::Follower;
 use wi_base::NoMemory;
 use wi_build::LazySystem;
 use wi_cert::{Claim, Closed, ClosedRefused, Shown};
@@ -60,7 +60,7 @@ pub(crate) fn check_closed(
         rows_of(shown, closed),
         bound_of(shown),
     )?;
-    check_heads(system, shown, closed, lack.need)?;
+    check_heads(system, shown, closed, lack.follower)?;
     check_goal(system, shown, closed)?;
     check_rows(system, shown, closed, lack.demand)
 }
@@ -70,17 +70,17 @@ fn check_heads(
     system: &LazySystem<'_>,
     shown: &Shown,
     closed: &Closed,
-    need: Option<Need>,
+    follower: Option<Follower>,
 ) -> Result<(), Gap>
-    requires { need ≡ missing_in system.now closed.now }
-    ensures none { OnOk result (need ≡ None) }
+    requires { follower ≡ missing_in system.now closed.now }
+    ensures none { OnOk result (follower ≡ None) }
     ensures passed { OnOk result (NoneClosed system.now shown.now closed.now 1) }
     ensures refused { IfErr result (IsGap system.now shown.now closed.now) }
 {
-    match need {
+    match follower {
         None => Ok(()),
-        Some(Need::Head(p, g)) => Err(Gap::Closed(ClosedRefused::HeadMissing(p, g))),
-        Some(Need::Pair(u, v)) => Err(Gap::Closed(ClosedRefused::PairMissing(u, v))),
+        Some(Follower::Head(p, g)) => Err(Gap::Closed(ClosedRefused::HeadMissing(p, g))),
+        Some(Follower::Pair(u, v)) => Err(Gap::Closed(ClosedRefused::PairMissing(u, v))),
     }
 }
 

@@ -3,12 +3,12 @@
 //! gone along once.
 ghost use Rattle.std.specs.Prelude.{◌≡◌, map, find, IfOk, OnOk};
 ghost use Rattle.wi_cert.specs.Order.{pair_below};
-ghost use Rattle.wi_accept.specs.Needs.{pairs_of, needs, needs_at, is_missing};
+ghost use Rattle.wi_accept.specs.Followers.{pairs_of, followers, followers_at, is_missing};
 ghost use Rattle.wi_check.specs.private.Lists.{Rises, symbol_below, AreWhole};
 
 use crate::lists::{first_absent, has_head, has_pair, heads_of, pairs_of};
 use std::collections::HashSet;
-use wi_accept::Need;
+use wi_accept::Follower;
 use wi_base::NoMemory;
 use wi_pds::{Rule, Word2};
 use wi_quantity::Weight;
@@ -20,19 +20,19 @@ pub(crate) struct Listings<'a> {
     pub pairs: &'a [(u32, u32)],
 }
 
-/// The first that rules over a symbol need and that isn't listed; `below` are the pairs of the symbol.
+/// The first that follows from rules over a symbol and isn't listed; `below` are the pairs of the symbol.
 pub(crate) fn missing_by_rules(
     listed: Listings<'_>,
     whole: &mut HashSet<(u32, u32)>,
     g: u32,
     below: &[(u32, u32)],
     rules: &[Rule<Weight>],
-) -> Result<Option<Need>, NoMemory>
+) -> Result<Option<Follower>, NoMemory>
     requires heads { Rises pair_below listed.heads.now }
     requires pairs { Rises pair_below listed.pairs.now }
     requires whole { AreWhole listed.pairs.now whole.old.keys }
     requires below { below.now ≡ pairs_of listed.pairs.now g }
-    ensures found { IfOk result (λ found. found ≡ find (λ n. is_missing listed.entry.heads.now listed.entry.pairs.now n) (needs_at listed.entry.pairs.now g rules.now)) }
+    ensures found { IfOk result (λ found. found ≡ find (λ n. is_missing listed.entry.heads.now listed.entry.pairs.now n) (followers_at listed.entry.pairs.now g rules.now)) }
     ensures whole { OnOk result (AreWhole listed.entry.pairs.now whole.new.keys) }
 {
     for rule in rules {
@@ -44,7 +44,7 @@ pub(crate) fn missing_by_rules(
     Ok(None)
 }
 
-// The first that a rule over a symbol needs and that isn't listed; `below` are the pairs of the symbol.
+// The first that follows from a rule over a symbol and isn't listed; `below` are the pairs of the symbol.
 fn missing_by_rule(
     listed: Listings<'_>,
     whole: &mut HashSet<(u32, u32)>,
@@ -52,28 +52,28 @@ fn missing_by_rule(
     below: &[(u32, u32)],
     to: u64,
     word: Word2,
-) -> Result<Option<Need>, NoMemory>
+) -> Result<Option<Follower>, NoMemory>
     requires heads { Rises pair_below listed.heads.now }
     requires pairs { Rises pair_below listed.pairs.now }
     requires whole { AreWhole listed.pairs.now whole.old.keys }
     requires below { below.now ≡ pairs_of listed.pairs.now g }
-    ensures found { IfOk result (λ found. found ≡ find (λ n. is_missing listed.entry.heads.now listed.entry.pairs.now n) (needs listed.entry.pairs.now g to word)) }
+    ensures found { IfOk result (λ found. found ≡ find (λ n. is_missing listed.entry.heads.now listed.entry.pairs.now n) (followers listed.entry.pairs.now g to word)) }
     ensures whole { OnOk result (AreWhole listed.entry.pairs.now whole.new.keys) }
 {
     match word {
         Word2::Empty => Ok(missing_head(listed, below, to)),
         Word2::One(u) => {
             if !has_head(listed.heads, to, u) {
-                return Ok(Some(Need::Head(to, u)));
+                return Ok(Some(Follower::Head(to, u)));
             }
             missing_pair(listed, whole, g, below, u)
         }
         Word2::Two(u, v) => {
             if !has_head(listed.heads, to, u) {
-                return Ok(Some(Need::Head(to, u)));
+                return Ok(Some(Follower::Head(to, u)));
             }
             if !has_pair(listed.pairs, u, v) {
-                return Ok(Some(Need::Pair(u, v)));
+                return Ok(Some(Follower::Pair(u, v)));
             }
             missing_pair(listed, whole, g, below, v)
         }
@@ -81,13 +81,13 @@ fn missing_by_rule(
 }
 
 // The first head that isn't listed, of those of a spot with the lower symbols of pairs.
-fn missing_head(listed: Listings<'_>, below: &[(u32, u32)], to: u64) -> Option<Need>
+fn missing_head(listed: Listings<'_>, below: &[(u32, u32)], to: u64) -> Option<Follower>
     requires heads { Rises pair_below listed.heads.now }
     requires below { Rises symbol_below below.now }
-    ensures { result ≡ find (λ n. is_missing listed.entry.heads.now listed.entry.pairs.now n) (map (λ x. Need.Head to x.1) below.now) }
+    ensures { result ≡ find (λ n. is_missing listed.entry.heads.now listed.entry.pairs.now n) (map (λ x. Follower.Head to x.1) below.now) }
 {
     let lower = first_absent(below, heads_of(listed.heads, to))?;
-    Some(Need::Head(to, lower))
+    Some(Follower::Head(to, lower))
 }
 
 // The first pair that isn't listed, of those of an upper symbol with the lower symbols of the pairs of g. Those of g itself are all
@@ -98,11 +98,11 @@ fn missing_pair(
     g: u32,
     below: &[(u32, u32)],
     upper: u32,
-) -> Result<Option<Need>, NoMemory>
+) -> Result<Option<Follower>, NoMemory>
     requires pairs { Rises pair_below listed.pairs.now }
     requires whole { AreWhole listed.pairs.now whole.old.keys }
     requires below { below.now ≡ pairs_of listed.pairs.now g }
-    ensures found { IfOk result (λ found. found ≡ find (λ n. is_missing listed.entry.heads.now listed.entry.pairs.now n) (map (λ x. Need.Pair upper x.1) below.now)) }
+    ensures found { IfOk result (λ found. found ≡ find (λ n. is_missing listed.entry.heads.now listed.entry.pairs.now n) (map (λ x. Follower.Pair upper x.1) below.now)) }
     ensures whole { OnOk result (AreWhole listed.entry.pairs.now whole.new.keys) }
 {
     if upper == g || whole.contains(&(g, upper)) {
@@ -119,15 +119,15 @@ fn unseen_missing_pair(
     g: u32,
     below: &[(u32, u32)],
     upper: u32,
-) -> Result<Option<Need>, NoMemory>
+) -> Result<Option<Follower>, NoMemory>
     requires pairs { Rises pair_below listed.pairs.now }
     requires whole { AreWhole listed.pairs.now whole.old.keys }
     requires below { below.now ≡ pairs_of listed.pairs.now g }
-    ensures found { IfOk result (λ found. found ≡ find (λ n. is_missing listed.entry.heads.now listed.entry.pairs.now n) (map (λ x. Need.Pair upper x.1) below.now)) }
+    ensures found { IfOk result (λ found. found ≡ find (λ n. is_missing listed.entry.heads.now listed.entry.pairs.now n) (map (λ x. Follower.Pair upper x.1) below.now)) }
     ensures whole { OnOk result (AreWhole listed.entry.pairs.now whole.new.keys) }
 {
     match first_absent(below, pairs_of(listed.pairs, upper)) {
-        Some(lower) => Ok(Some(Need::Pair(upper, lower))),
+        Some(lower) => Ok(Some(Follower::Pair(upper, lower))),
         None => {
             whole.insert((g, upper))?;
             Ok(None)

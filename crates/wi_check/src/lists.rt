@@ -1,7 +1,7 @@
 //! Heads, pairs and rows stand in rising order in a certificate, so each is looked up by halves, and many at once by one walk.
 ghost use Rattle.std.specs.Prelude.{◌≡◌, ◌&&◌, ◌==◌, filter, find, option_map};
 ghost use Rattle.wi_cert.specs.Order.{pair_below, row_below};
-ghost use Rattle.wi_accept.specs.Needs.{is_listed, pairs_of};
+ghost use Rattle.wi_accept.specs.Followers.{is_listed, pairs_of};
 ghost use Rattle.wi_check.specs.private.Lists.{Rises, symbol_below, first_absent, is_row_of, is_row_to};
 
 use std::cmp::Ordering;

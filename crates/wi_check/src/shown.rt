@@ -12,7 +12,7 @@ use crate::weighed::weighed;
 use crate::weights::weight_of;
 use std::alloc::Global;
 use wi_build::Problem;
-use wi_cert::{CheckRefused, Claim, Part, Shown};
+use wi_cert::{CheckRefused, Claim, RunPart, Shown};
 use wi_trace::{Run, Verdict, moving_fault, verdict};
 
 /// Checks what is shown: the question that it is about, the number of terms, and the run if there is one.
@@ -101,15 +101,15 @@ fn check_match(
 {
     let first = labels_of(alloc, &run.header)?;
     if !matches(alloc, &problem.query().first, first.as_slice())? {
-        return Err(CheckRefused::NoMatch(Part::First));
+        return Err(CheckRefused::NoMatch(RunPart::First));
     }
     let (links, header) = travelled(alloc, problem.net(), run)?;
     if !matches(alloc, &problem.query().path, links.as_slice())? {
-        return Err(CheckRefused::NoMatch(Part::Path));
+        return Err(CheckRefused::NoMatch(RunPart::Path));
     }
     let last = labels_of(alloc, &header)?;
     if !matches(alloc, &problem.query().last, last.as_slice())? {
-        return Err(CheckRefused::NoMatch(Part::Last));
+        return Err(CheckRefused::NoMatch(RunPart::Last));
     }
     Ok(())
 }

@@ -7,7 +7,7 @@ use std::alloc::Global;
 use std::process::Abort;
 use std::test::Fail;
 use wi_build::Problem;
-use wi_cert::{Certificate, CheckRefused, ClosedRefused, Part, Weight};
+use wi_cert::{Certificate, CheckRefused, ClosedRefused, RunPart, Weight};
 use wi_check::{Accepted, check};
 use wi_net::Network;
 use wi_query::Query;
@@ -56,7 +56,7 @@ enum Expected {
     Accepted(Word),
     TermsDiffer(u32, u32),
     StepNotInTable(u64),
-    NoMatch(Part),
+    NoMatch(RunPart),
     WeightDiffers(u128, u128),
     WrongAnswer,
     HeadMissing(u64, u32),
@@ -184,8 +184,8 @@ const CASES: &[Case] = &[
         &[(5, &["first 1 1 4294967295"])],
         Expected::StepNotInTable(0),
     ),
-    (&[(5, &["first 1 2"])], Expected::NoMatch(Part::First)),
-    (&[(5, &["first 0 1 2"])], Expected::NoMatch(Part::Path)),
+    (&[(5, &["first 1 2"])], Expected::NoMatch(RunPart::First)),
+    (&[(5, &["first 0 1 2"])], Expected::NoMatch(RunPart::Path)),
     (NO_TO_GOAL, Expected::NotClosed((0, 0), 1, 8)),
     // The heaviest row that there can be: a sum with it is exact.
     (
@@ -474,7 +474,7 @@ const OTHERS: &[(&str, Option<&str>, Expected)] = &[
     (
         "<s10 ip1> [a#b]+ <ip> 0",
         None,
-        Expected::NoMatch(Part::Last),
+        Expected::NoMatch(RunPart::Last),
     ),
     (
         "<s10 ip1> [a#b]+ <smpls ip> 0 down [a#b]",

@@ -32,7 +32,7 @@ use Rattle.wi_accept.proofs.RisingRows.{row_below_trans}
 use Rattle.wi_decide.specs.declared.searching.LeastRun.{LeastRun}
 use Rattle.wi_decide.specs.declared.searching.Evidence.{Evidence}
 use Rattle.wi_decide.specs.Searches.{IsEvidence, IsWrittenDown, bound_with, lowered}
-use Rattle.wi_decide.specs.Showing.{Weight, shown_by, written}
+use Rattle.wi_decide.specs.Showing.{Weight, shown_by, shown_weight}
 use Rattle.wi_decide.specs.private.Certificates.{row_by, rows_below}
 use Rattle.wi_decide.specs.private.Tables.{IsTable}
 use Rattle.wi_decide.proofs.AnswerLemmas.{goal_fits}
@@ -56,14 +56,14 @@ pairs_added xs h = added pair_below (λ (x : ℕ × ℕ). Unit {0}) (λ before x
 
 -- a weight below what bounds the rows is lighter than whatever shows that bound
 below_shown : (n : ℕ) (s : Shown) (bound : Option Weight) (w : Weight) → n ≤ 5 → s.terms ≡ n → HasTerms n w → length s.weight ≡ n + 1
-    → Some (padded s.terms s.weight) ≡ option_map components bound → Within scale (option_map components bound) (components w) → is_less (slice_cmp nat_cmp (written n w) s.weight) ≡ true
+    → Some (padded s.terms s.weight) ≡ option_map components bound → Within scale (option_map components bound) (components w) → is_less (slice_cmp nat_cmp (shown_weight n w) s.weight) ≡ true
 below_shown n s None w few terms h count is within = cc
 below_shown n s (Some b) w few terms h count is within =
     let same : padded s.terms s.weight ≡ components b = cc in
     ap is_less (written_less n w b s.weight few h count (ap (λ m. padded m s.weight) (sym terms) ∙ same) within)
 
 lighter : (n : ℕ) (s : Shown) (bound : Option Weight) (r : Row) (w : Weight) → n ≤ 5 → IsShown s → s.terms ≡ n → bound_of s ≡ option_map components bound → HasTerms n w
-    → r.weight ≡ written n w → Within scale (option_map components bound) (components w) → is_lighter s r ≡ true
+    → r.weight ≡ shown_weight n w → Within scale (option_map components bound) (components w) → is_lighter s r ≡ true
 lighter n s bound r w few k terms is h same within = go (is_no s.claim) refl
   where
     go : (b : Bool) → is_no s.claim ≡ b → (is_no s.claim || is_less (slice_cmp nat_cmp r.weight s.weight)) ≡ true

@@ -31,7 +31,7 @@ use Rattle.wi_accept.specs.Demands.{row}
 use Rattle.wi_accept.specs.Makers.{IsLeastWithin}
 use Rattle.wi_accept.proofs.UnusedTerms.{pops_at, take_at}
 use Rattle.wi_accept.proofs.WeightLemmas.{pops_weight, scale_laws}
-use Rattle.wi_decide.specs.Showing.{Weight, written}
+use Rattle.wi_decide.specs.Showing.{Weight, shown_weight}
 use Rattle.wi_decide.specs.private.Certificates.{row_by, rows_below, is_below, IsFitting}
 use Rattle.wi_decide.specs.private.Tables.{IsTable}
 use Rattle.wi_decide.proofs.WrittenLemmas.{HasTerms, padded_written}
@@ -149,7 +149,7 @@ module _ (problem : Problem) (heads : List (ℕ × ℕ)) (cut : Option Weight) (
         let t = filter_in (λ r. is_below table.best r.weight) table.rows m.0 m.1 in
         let at = get_from_contains table.rows m.0 (in_contains table.rows m.0 t.0) in
         let there = is.settled at.0 m.0 at.1 in
-        let whole : padded (length problem.vector) (written (length problem.vector) (m.0).weight) ≡ components (m.0).weight = padded_written (length problem.vector) (m.0).weight few (row_terms m.0 t.0) in
+        let whole : padded (length problem.vector) (shown_weight (length problem.vector) (m.0).weight) ≡ components (m.0).weight = padded_written (length problem.vector) (m.0).weight few (row_terms m.0 t.0) in
         let here : IsWithin (row (m.0).p (m.0).g (m.0).q (components (m.0).weight)) = record { head = there.head; least = there.least; within = kept_within table.best cut (m.0).weight t.1 there.within } in
         subst IsWithin (ap (λ w. row (m.0).p (m.0).g (m.0).q w) (sym whole) ∙ (ap said m.2 ∙ x.2)) here
 
@@ -164,11 +164,11 @@ module _ (problem : Problem) (heads : List (ℕ × ℕ)) (cut : Option Weight) (
         let weighs : components t.weight ≡ w = found.1.3 in
         let below : is_below table.best t.weight ≡ true = within_kept table.best cut t.weight (subst (Within scale (option_map components (option_or table.best cut))) (sym weighs) h.within) in
         let kept = in_map (row_by (length problem.vector)) (filter (λ r. is_below table.best r.weight) table.rows) t (in_filter (λ r. is_below table.best r.weight) table.rows t there below) in
-        let whole : padded (length problem.vector) (written (length problem.vector) t.weight) ≡ w = padded_written (length problem.vector) t.weight few (row_terms t there) ∙ weighs in
+        let whole : padded (length problem.vector) (shown_weight (length problem.vector) t.weight) ≡ w = padded_written (length problem.vector) t.weight few (row_terms t there) ∙ weighs in
         let same : said (row_by (length problem.vector) t) ≡ row p g q w =
-        ap (λ x. row x t.g t.q (padded (length problem.vector) (written (length problem.vector) t.weight))) found.1.2.0
-        ∙ ap (λ x. row p x t.q (padded (length problem.vector) (written (length problem.vector) t.weight))) found.1.2.1
-        ∙ ap (λ x. row p g x (padded (length problem.vector) (written (length problem.vector) t.weight))) found.1.2.2
+        ap (λ x. row x t.g t.q (padded (length problem.vector) (shown_weight (length problem.vector) t.weight))) found.1.2.0
+        ∙ ap (λ x. row p x t.q (padded (length problem.vector) (shown_weight (length problem.vector) t.weight))) found.1.2.1
+        ∙ ap (λ x. row p g x (padded (length problem.vector) (shown_weight (length problem.vector) t.weight))) found.1.2.2
         ∙ ap (λ x. row p g q x) whole in
         subst (In (map said (rows_below (length problem.vector) table))) same (in_map said (rows_below (length problem.vector) table) (row_by (length problem.vector) t) kept)
 

@@ -41,7 +41,7 @@ use Rattle.wi_cert.specs.Shown.{is_no, IsShown, MayBeDropped}
 use Rattle.wi_accept.specs.Answers.{IsDecided, word_of, padded, labels_of, steps_of, end_of, run_of, answer_of}
 use Rattle.wi_accept.specs.Causes.{bound_of}
 use Rattle.wi_accept.proofs.UnusedTerms.{run_weighs, take_at}
-use Rattle.wi_decide.specs.Showing.{Weight, claim_for, written, first_numbers, step_numbers, dropped_at, dropped_by, shown_by, IsSmallStep, IsSmallEnd, IsSmallRun}
+use Rattle.wi_decide.specs.Showing.{Weight, claim_for, shown_weight, first_numbers, step_numbers, dropped_at, dropped_by, shown_by, IsSmallStep, IsSmallEnd, IsSmallRun}
 use Rattle.wi_decide.proofs.SpellingLemmas.{classed_is, known_there}
 use Rattle.wi_decide.proofs.WrittenLemmas.{HasTerms, padded_written, written_length}
 
@@ -299,14 +299,14 @@ module _ (problem : Problem) (k : IsProblem problem) (few : length problem.vecto
 
       back : record {
         word = word_of (claim_for word);
-        weight = Some (weight (padded (length problem.vector) (written (length problem.vector) w)));
+        weight = Some (weight (padded (length problem.vector) (shown_weight (length problem.vector) w)));
         run = Some (run_of problem.net (shown_by problem (shown_run problem word w r)));
         verdict = Some (verdict_of problem.net problem.bounds (run_of problem.net (shown_by problem (shown_run problem word w r))));
       } ≡ shown_run problem word w r
       back =
           let make : Word → List ℕ → Run → Answer = λ v x y. record { word = v; weight = Some (weight x); run = Some y; verdict = Some (verdict_of problem.net problem.bounds y) } in
           let written_run = run_of problem.net (shown_by problem (shown_run problem word w r)) in
-          ap (λ v. make v (padded (length problem.vector) (written (length problem.vector) w)) written_run) (word_back word)
+          ap (λ v. make v (padded (length problem.vector) (shown_weight (length problem.vector) w)) written_run) (word_back word)
           ∙ ap (λ x. make word x written_run) (padded_written (length problem.vector) w few terms)
           ∙ ap (λ y. make word (components w) y) (run_back word w r kept drops)
 

@@ -9,7 +9,7 @@ use Rattle.wi_weight.specs.Weights.{Below}
 use Rattle.wi_quantity.specs.Weighing.{components}
 use Rattle.wi_build.specs.Systems.{scale}
 use Rattle.wi_accept.specs.Answers.{padded}
-use Rattle.wi_decide.specs.Showing.{Weight, written}
+use Rattle.wi_decide.specs.Showing.{Weight, shown_weight}
 use Rattle.wi_accept.proofs.OrderLemmas.{below_before}
 
 -- numbers from a place on are 0
@@ -75,21 +75,21 @@ first_terms (suc (suc (suc (suc zero)))) w h = refl
 first_terms (suc (suc (suc (suc (suc zero))))) w h = refl
 first_terms (suc (suc (suc (suc (suc (suc n)))))) w h = absurd (omega (arith, h))
 
-written_is : (n : ℕ) (w : Weight) → n ≤ 5 → written n w ≡ take n (terms_of w) ++ w.second.count ∷ []
+written_is : (n : ℕ) (w : Weight) → n ≤ 5 → shown_weight n w ≡ take n (terms_of w) ++ w.second.count ∷ []
 written_is n w h = ap (λ xs. xs ++ w.second.count ∷ []) (first_terms n w h)
 
 -- what is written is the weight, with 0 for the terms that it hasn't
-pub padded_written : (n : ℕ) (w : Weight) → n ≤ 5 → HasTerms n w → padded n (written n w) ≡ components w
+pub padded_written : (n : ℕ) (w : Weight) → n ≤ 5 → HasTerms n w → padded n (shown_weight n w) ≡ components w
 padded_written n w few h = ap (padded n) (written_is n w few) ∙ filled n (terms_of w) w.second.count few h
 
-pub written_length : (n : ℕ) (w : Weight) → n ≤ 5 → length (written n w) ≡ n + 1
+pub written_length : (n : ℕ) (w : Weight) → n ≤ 5 → length (shown_weight n w) ≡ n + 1
 written_length n w few = ap length (written_is n w few) ∙ length_written n (terms_of w) w.second.count few
 
 -- a weight below another is less than that as it is written
 pub written_less : (n : ℕ) (w v : Weight) (shown : List ℕ) → n ≤ 5 → HasTerms n w → length shown ≡ n + 1 → padded n shown ≡ components v → Below scale (components w) (components v)
-    → slice_cmp nat_cmp (written n w) shown ≡ Less
+    → slice_cmp nat_cmp (shown_weight n w) shown ≡ Less
 written_less n w v shown few h count is below =
-    sym (padded_compared (5 - n) n (written n w) shown (written_length n w few ∙ sym count))
+    sym (padded_compared (5 - n) n (shown_weight n w) shown (written_length n w few ∙ sym count))
     ∙ ap (λ xs. slice_cmp nat_cmp xs (padded n shown)) (padded_written n w few h)
     ∙ ap (λ ys. slice_cmp nat_cmp (components w) ys) is
     ∙ below_before (components w) (components v) refl below

@@ -32,8 +32,8 @@ claim_for words.No = No
 claim_for words.Inconclusive = Inconclusive
 
 -- the first terms of a weight, and its effort
-abbrev pub written : ℕ → Weight → List ℕ
-written terms w = take terms (components w) ++ w.second.count ∷ []
+abbrev pub shown_weight : ℕ → Weight → List ℕ
+shown_weight terms w = take terms (components w) ++ w.second.count ∷ []
 
 -- a first link's number, and those of the labels there, top first
 abbrev pub first_numbers : LinkId → List Entry → List ℕ
@@ -70,7 +70,7 @@ abbrev pub shown_by : Problem → Answer → Shown
 shown_by problem a = record {
   terms = length problem.vector;
   claim = claim_for a.word;
-  weight = option_map_or (λ w. written (length problem.vector) w) a.weight [];
+  weight = option_map_or (λ w. shown_weight (length problem.vector) w) a.weight [];
   first = option_map_or (λ r. first_numbers r.first r.header) a.run [];
   steps = option_map_or (λ r. step_numbers r.steps) a.run [];
   dropped = dropped_by (asks problem).drops a.run;

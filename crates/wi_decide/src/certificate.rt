@@ -8,7 +8,7 @@ ghost use Rattle.wi_weight.specs.Weights.{EachBelow};
 ghost use Rattle.wi_quantity.specs.Weighing.{components};
 ghost use Rattle.wi_pds.specs.Pairs.{pair_cmp};
 ghost use Rattle.wi_cert.specs.Order.{row_below};
-ghost use Rattle.wi_decide.specs.Showing.{written, claim_for, first_numbers, step_numbers, dropped_at, dropped_by, shown_by, IsSmallStep, IsSmallEnd, IsSmallRun};
+ghost use Rattle.wi_decide.specs.Showing.{shown_weight, claim_for, first_numbers, step_numbers, dropped_at, dropped_by, shown_by, IsSmallStep, IsSmallEnd, IsSmallRun};
 ghost use Rattle.wi_decide.specs.private.Certificates.{row_by, is_below, rows_below, IsFitting};
 
 use std::alloc::Global;
@@ -85,7 +85,7 @@ fn claim_for(word: Word) -> Claim
 fn numbers_of(terms: u32, weight: &Weight) -> Numbers
     requires few { terms ≤ 5 }
     requires fits { EachBelow (2 ^ 64) (components weight.now) }
-    ensures { result ≡ written terms weight.now }
+    ensures { result ≡ shown_weight terms weight.now }
 {
     let effort = weight.second.count as u64;
     let mut numbers = [
@@ -105,7 +105,7 @@ fn numbers_of(terms: u32, weight: &Weight) -> Numbers
 fn weight_of(alloc: Global, terms: u32, weight: &Option<Weight>) -> Result<Vec<u64>, NoMemory>
     requires few { terms ≤ 5 }
     requires fits { IfSome weight.now (λ w. EachBelow (2 ^ 64) (components w)) }
-    ensures { IfOk result (λ numbers. numbers.items ≡ option_map_or (λ w. written terms w) weight.now []) }
+    ensures { IfOk result (λ numbers. numbers.items ≡ option_map_or (λ w. shown_weight terms w) weight.now []) }
 {
     match weight {
         Some(weight) => Ok(Vec::from_slice(alloc, numbers_of(terms, weight).as_slice())?),

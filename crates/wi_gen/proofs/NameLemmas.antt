@@ -8,7 +8,8 @@ use Rattle.std.proofs.lemmas.Bool.Decides.{nat_tests}
 use Rattle.std.proofs.lemmas.Fmt.{decimal_by_steps, decimal_injective, length-decimal-le}
 use Rattle.std.proofs.lemmas.List.Folds.{list_all-append}
 use Rattle.std.proofs.lemmas.Slice.Eq.{bytes_eq-Decides}
-use Rattle.wi_net.specs.Names.{is_name, is_name_byte}
+use Rattle.wi_text.specs.Characters.{is_name_byte}
+use Rattle.wi_net.specs.Names.{is_name}
 use Rattle.wi_gen.specs.Ring.{numbered}
 use Rattle.wi_gen.proofs.RangeLemmas.{none_in_range}
 

@@ -6,7 +6,7 @@ use Rattle.std.specs.Str.{bytes_eq}
 use Rattle.std.proofs.lemmas.Bool.{and_parts, and_from, ltb-true, lt-ltb}
 use Rattle.wi_labels.specs.declared.label.Class.{Class}
 use Rattle.wi_net.specs.declared.refused.BuildRefused.TheVariants.{Repeated, Unknown, Taken, Limit, BadName}
-use Rattle.wi_net.specs.declared.refused.Part.TheVariants as part
+use Rattle.wi_net.specs.declared.refused.Field.TheVariants as field
 use Rattle.wi_net.specs.declared.refused.Limited.TheVariants as limited
 use Rattle.wi_net.specs.declared.parts.RouterId.{RouterId}
 use Rattle.wi_net.specs.declared.parts.LinkId.{LinkId}
@@ -176,13 +176,13 @@ fits_held : (d : Draft) (from out to into : List ℕ) (group : Option (List ℕ)
 unfolding link_ends
 fits_held d from out to into group ends e =
     let room = rule_held (Limit limited.Links 20000) (nat_lt (length d.net.links) 20000) _ ends e in
-    let named = rule_held (BadName part.Group) (is_group_name group) _ ends room.1 in
-    let outs = rule_held (BadName part.Out) (is_name out) _ ends named.1 in
-    let ins = rule_held (BadName part.In) (is_name into) _ ends outs.1 in
-    let first = found_held (Unknown part.From) (find_router d.net from) _ ends ins.1 in
-    let second = found_held (Unknown part.To) (find_router d.net to) _ ends first.2 in
-    let out_new = rule_held (Taken part.Out) (is_none (out_place d.net first.0 out)) _ ends second.2 in
-    let in_new = rule_held (Taken part.In) (is_none (in_place d.net second.0 into)) _ ends out_new.1 in
+    let named = rule_held (BadName field.Group) (is_group_name group) _ ends room.1 in
+    let outs = rule_held (BadName field.Out) (is_name out) _ ends named.1 in
+    let ins = rule_held (BadName field.In) (is_name into) _ ends outs.1 in
+    let first = found_held (Unknown field.From) (find_router d.net from) _ ends ins.1 in
+    let second = found_held (Unknown field.To) (find_router d.net to) _ ends first.2 in
+    let out_new = rule_held (Taken field.Out) (is_none (out_place d.net first.0 out)) _ ends second.2 in
+    let in_new = rule_held (Taken field.In) (is_none (in_place d.net second.0 into)) _ ends out_new.1 in
     ends_are d from out to into ends first.0 second.0 (ltb-true _ _ room.0) outs.0 ins.0 first.1 second.1 out_new.0 in_new.0 (given_is (first.0, second.0) ends in_new.1)
 
 -- both ends of a new link are free
@@ -309,8 +309,8 @@ row_held : (d x : Draft) (row : TableRow) → IsDraft d → add_table d row.link
 unfolding add_table
 row_held d x row k e =
     let room = rule_held (Limit limited.Rows 200000) (nat_lt (length d.net.rows) 200000) _ x e in
-    let link = found_held (Unknown part.In) (slice_get d.net.links row.link.0) _ x room.1 in
-    let label = rule_held (Unknown part.Name) (nat_lt row.label.0 (length d.net.labels)) _ x link.2 in
+    let link = found_held (Unknown field.In) (slice_get d.net.links row.link.0) _ x room.1 in
+    let label = rule_held (Unknown field.Name) (nat_lt row.label.0 (length d.net.labels)) _ x link.2 in
     let new = rule_held Repeated (is_none (position (is_row row.link row.label) d.net.rows)) _ x label.1 in
     let rules = step_held (groups_rules d.net (link.0).to (row_members d.net.rows) row.groups) _ x new.1 in
     row_is d row link.0 rules.0 k.net.few_members (ltb-true _ _ room.0) link.1 label.0 new.0 rules.1

@@ -9,7 +9,7 @@ use Rattle.wi_labels.specs.declared.ops.Op.{Op}
 use Rattle.wi_labels.specs.declared.ops.Op.TheVariants.{Swap, Push, Pop}
 use Rattle.wi_labels.specs.Header.{Entry, same_class}
 use Rattle.wi_net.specs.declared.refused.BuildRefused.TheVariants.{Unknown, EmptyGroup, Limit}
-use Rattle.wi_net.specs.declared.refused.Part.TheVariants as part
+use Rattle.wi_net.specs.declared.refused.Field.TheVariants as field
 use Rattle.wi_net.specs.declared.refused.Limited.TheVariants as limited
 use Rattle.wi_net.specs.declared.parts.RouterId.{RouterId}
 use Rattle.wi_net.specs.declared.parts.LinkId.{LinkId}
@@ -117,9 +117,9 @@ member_held : (net : Net) (r : RouterId) (n k : ℕ) (m : Member) → member_rul
 unfolding member_rules
 member_held net r n k m e =
     let few = rule_held (Limit limited.Members 400000) (nat_lt n 400000) _ k e in
-    let out = rule_held (Unknown part.Out) (leaves net r m.link) _ k few.1 in
+    let out = rule_held (Unknown field.Out) (leaves net r m.link) _ k few.1 in
     let ops = rule_held (Limit limited.Operations 8) (nat_le (length m.ops) 8) _ k out.1 in
-    let labels = rule_held (Unknown part.Name) (list_all (op_known net) m.ops) _ k ops.1 in
+    let labels = rule_held (Unknown field.Name) (list_all (op_known net) m.ops) _ k ops.1 in
     let is : n + 1 ≡ k = cc in
     let less = ltb-true n 400000 few.0 in
     (and_from (leaves net r m.link) (nat_le (length m.ops) 8 && list_all (op_known net) m.ops) out.0 (and_from (nat_le (length m.ops) 8) (list_all (op_known net) m.ops) ops.0 labels.0), sym is, omega (arith, is, less))

@@ -5,7 +5,7 @@ use Rattle.wi_labels.specs.declared.label.Class.{Class}
 use Rattle.wi_labels.specs.declared.label.Label.{Label}
 use Rattle.wi_net.specs.declared.refused.BuildRefused.{BuildRefused}
 use Rattle.wi_net.specs.declared.refused.BuildRefused.TheVariants.{Memory, Repeated, Unknown, Taken, EmptyGroup, Limit, BadName}
-use Rattle.wi_net.specs.declared.refused.Part.TheVariants as part
+use Rattle.wi_net.specs.declared.refused.Field.TheVariants as field
 use Rattle.wi_net.specs.declared.refused.Limited.TheVariants as limited
 use Rattle.wi_net.specs.declared.limits.TheConstants.{LABEL_LIMIT, LINK_LIMIT, MEMBER_LIMIT, OPERATION_LIMIT, ROUTER_LIMIT, ROW_LIMIT}
 use Rattle.wi_net.specs.declared.parts.RouterId.{RouterId}
@@ -54,7 +54,7 @@ with_router draft name = record draft { net = record draft.net { routers = draft
 unfoldable pub add_router : Draft → List ℕ → Result Draft BuildRefused
 add_router draft name = do
   _ ← rule (Limit limited.Routers ROUTER_LIMIT) (nat_lt (length draft.net.routers) ROUTER_LIMIT)
-  _ ← rule (BadName part.Name) (is_name name)
+  _ ← rule (BadName field.Name) (is_name name)
   _ ← rule Repeated (is_none (place draft.net.routers name))
   Ok (with_router draft name)
 
@@ -65,7 +65,7 @@ with_label draft class name = record draft { net = record draft.net { labels = d
 unfoldable pub add_label : Draft → Class → List ℕ → Result Draft BuildRefused
 add_label draft class name = do
   _ ← rule (Limit limited.Labels LABEL_LIMIT) (nat_lt (length draft.net.labels) LABEL_LIMIT)
-  _ ← rule (BadName part.Name) (is_name name)
+  _ ← rule (BadName field.Name) (is_name name)
   _ ← rule Repeated (is_none (place draft.net.labels name))
   Ok (with_label draft class name)
 
@@ -105,13 +105,13 @@ is_group_name (Some group) = is_name group
 unfoldable pub link_ends : Draft → List ℕ → List ℕ → List ℕ → List ℕ → Option (List ℕ) → Result (RouterId × RouterId) BuildRefused
 link_ends draft from out to into group = do
   _ ← rule (Limit limited.Links LINK_LIMIT) (nat_lt (length draft.net.links) LINK_LIMIT)
-  _ ← rule (BadName part.Group) (is_group_name group)
-  _ ← rule (BadName part.Out) (is_name out)
-  _ ← rule (BadName part.In) (is_name into)
-  f ← found_or (Unknown part.From) (find_router draft.net from)
-  t ← found_or (Unknown part.To) (find_router draft.net to)
-  _ ← rule (Taken part.Out) (is_none (out_place draft.net f out))
-  _ ← rule (Taken part.In) (is_none (in_place draft.net t into))
+  _ ← rule (BadName field.Group) (is_group_name group)
+  _ ← rule (BadName field.Out) (is_name out)
+  _ ← rule (BadName field.In) (is_name into)
+  f ← found_or (Unknown field.From) (find_router draft.net from)
+  t ← found_or (Unknown field.To) (find_router draft.net to)
+  _ ← rule (Taken field.Out) (is_none (out_place draft.net f out))
+  _ ← rule (Taken field.In) (is_none (in_place draft.net t into))
   Ok (f, t)
 
 unfoldable pub add_link : Draft → List ℕ → List ℕ → List ℕ → List ℕ → ℕ → Option (List ℕ) → Result Draft BuildRefused
@@ -123,9 +123,9 @@ add_link draft from out to into distance group = do
 unfoldable pub member_rules : Net → RouterId → ℕ → Member → Result ℕ BuildRefused
 member_rules net router so_far m = do
   _ ← rule (Limit limited.Members MEMBER_LIMIT) (nat_lt so_far MEMBER_LIMIT)
-  _ ← rule (Unknown part.Out) (leaves net router m.link)
+  _ ← rule (Unknown field.Out) (leaves net router m.link)
   _ ← rule (Limit limited.Operations OPERATION_LIMIT) (nat_le (length m.ops) OPERATION_LIMIT)
-  _ ← rule (Unknown part.Name) (list_all (op_known net) m.ops)
+  _ ← rule (Unknown field.Name) (list_all (op_known net) m.ops)
   Ok (so_far + 1)
 
 -- members in turn, and groups
@@ -149,8 +149,8 @@ with_row draft row = record draft { net = record draft.net { rows = draft.net.ro
 unfoldable pub add_table : Draft → LinkId → Label → List (List Member) → Result Draft BuildRefused
 add_table draft link label groups = do
   _ ← rule (Limit limited.Rows ROW_LIMIT) (nat_lt (length draft.net.rows) ROW_LIMIT)
-  l ← found_or (Unknown part.In) (slice_get draft.net.links link.0)
-  _ ← rule (Unknown part.Name) (nat_lt label.0 (length draft.net.labels))
+  l ← found_or (Unknown field.In) (slice_get draft.net.links link.0)
+  _ ← rule (Unknown field.Name) (nat_lt label.0 (length draft.net.labels))
   _ ← rule Repeated (is_none (position (is_row link label) draft.net.rows))
   _ ← groups_rules draft.net l.to (row_members draft.net.rows) groups
   Ok (with_row draft (record { link = link; label = label; groups = groups }))

@@ -1,13 +1,10 @@
 -- Names, and where they stand in a list.
-use Rattle.std.specs.Prelude.{ℕ, ◌&&◌, ◌==◌, Bool, true, not, nat_le, List, [], ◌∷◌, ◌++◌, length, position, is_some, is_none, if◌then◌else◌, Option}
+use Rattle.std.specs.Prelude.{ℕ, ◌&&◌, Bool, true, nat_le, List, [], ◌∷◌, ◌++◌, length, position, is_some, is_none, if◌then◌else◌, Option}
 use Rattle.std.specs.List.{list_all, position_or_len}
 use Rattle.std.specs.Str.{bytes_eq}
+use Rattle.wi_text.specs.Characters.{is_name_byte}
 
--- neither a control character nor a quotation mark
-abbrev pub is_name_byte : ℕ → Bool
-is_name_byte b = nat_le 32 b && (not (b == 127) && not (b == 34))
-
--- 1 to 32 such bytes
+-- 1 to 32 bytes, none of a control character or a quotation mark
 abbrev pub is_name : List ℕ → Bool
 is_name s = nat_le 1 (length s) && (nat_le (length s) 32 && list_all is_name_byte s)
 

@@ -3,7 +3,7 @@
 //! the links once.
 ghost use Rattle.std.specs.Prelude.{◌≡◌, ◌+◌, ◌<◌, ◌≤◌, true, None, Ok, length, slice_get, position, is_some, option_map, string_bytes, vec_len, vec_capacity, IfOk, IfSome, OnOk, OnErr};
 ghost use Rattle.std.specs.List.{list_all};
-ghost use Rattle.wi_net.specs.Names.{is_name, is_name_byte};
+ghost use Rattle.wi_net.specs.Names.{is_name};
 ghost use Rattle.wi_net.specs.Tables.{is_row, row_members, group_members};
 ghost use Rattle.wi_net.specs.Finding.{find_router, find_label, out_place, in_place, find_out, find_in};
 ghost use Rattle.wi_net.specs.Network.{IsNetwork, is_no_later};
@@ -16,7 +16,7 @@ use crate::links::Links;
 use crate::names::Names;
 use crate::network::Network;
 use crate::parts::{Group, Link, LinkId, NameId, RouterId, TableRow};
-use crate::refused::{BuildRefused, Limited, Part};
+use crate::refused::{BuildRefused, Field, Limited};
 use crate::risk_groups::RiskGroups;
 use crate::table::groups_total;
 use crate::tables::Tables;
@@ -24,6 +24,7 @@ use std::alloc::Global;
 use std::marker::Model;
 use wi_base::{Listed, NoMemory};
 use wi_labels::{Class, Label};
+use wi_text::are_name_bytes;
 
 /// A network that is being built, part by part. A call that is refused changes nothing.
 #[derive(Drop)]
@@ -142,7 +143,7 @@ impl NetworkBuilder {
             return Err(BuildRefused::Limit(Limited::Routers, ROUTER_LIMIT));
         }
         if !is_name(name) {
-            return Err(BuildRefused::BadName(Part::Name));
+            return Err(BuildRefused::BadName(Field::Name));
         }
         if self.routers.find(name).is_some() {
             return Err(BuildRefused::Repeated);
@@ -165,7 +166,7 @@ impl NetworkBuilder {
             return Err(BuildRefused::Limit(Limited::Labels, LABEL_LIMIT));
         }
         if !is_name(name) {
-            return Err(BuildRefused::BadName(Part::Name));
+            return Err(BuildRefused::BadName(Field::Name));
         }
         if self.labels.find(name).is_some() {
             return Err(BuildRefused::Repeated);
@@ -195,25 +196,25 @@ impl NetworkBuilder {
             return Err(BuildRefused::Limit(Limited::Links, LINK_LIMIT));
         }
         if !is_group_name(group) {
-            return Err(BuildRefused::BadName(Part::Group));
+            return Err(BuildRefused::BadName(Field::Group));
         }
         if !is_name(out_if) {
-            return Err(BuildRefused::BadName(Part::Out));
+            return Err(BuildRefused::BadName(Field::Out));
         }
         if !is_name(in_if) {
-            return Err(BuildRefused::BadName(Part::In));
+            return Err(BuildRefused::BadName(Field::In));
         }
         let Some(from) = self.find_router(from) else {
-            return Err(BuildRefused::Unknown(Part::From));
+            return Err(BuildRefused::Unknown(Field::From));
         };
         let Some(to) = self.find_router(to) else {
-            return Err(BuildRefused::Unknown(Part::To));
+            return Err(BuildRefused::Unknown(Field::To));
         };
         if self.out_place(from, out_if).is_some() {
-            return Err(BuildRefused::Taken(Part::Out));
+            return Err(BuildRefused::Taken(Field::Out));
         }
         if self.in_place(to, in_if).is_some() {
-            return Err(BuildRefused::Taken(Part::In));
+            return Err(BuildRefused::Taken(Field::In));
         }
         Ok((from, to))
     }
@@ -278,10 +279,10 @@ impl NetworkBuilder {
             return Err(BuildRefused::Limit(Limited::Rows, ROW_LIMIT));
         }
         let Some(found) = self.link_at(link) else {
-            return Err(BuildRefused::Unknown(Part::In));
+            return Err(BuildRefused::Unknown(Field::In));
         };
         if label.0 as usize >= self.label_count() {
-            return Err(BuildRefused::Unknown(Part::Name));
+            return Err(BuildRefused::Unknown(Field::Name));
         }
         if self.has_row(link, label) {
             return Err(BuildRefused::Repeated);
@@ -489,16 +490,4 @@ pub fn is_name(name: &str) -> bool
     ensures { result ≡ is_name name.now }
 {
     1 <= name.len() && (name.len() <= 32 && are_name_bytes(name.as_bytes()))
-}
-
-fn are_name_bytes(bytes: &[u8]) -> bool
-    ensures { result ≡ list_all is_name_byte bytes.now }
-{
-    bytes.iter().all(|b| is_name_byte(*b))
-}
-
-fn is_name_byte(byte: u8) -> bool
-    ensures { result ≡ is_name_byte byte }
-{
-    32 <= byte && (byte != 127 && byte != 34)
 }

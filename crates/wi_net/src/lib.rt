@@ -25,4 +25,4 @@ pub use laws::limits_have_these_numbers;
 pub use limits::{LABEL_LIMIT, LINK_LIMIT, MEMBER_LIMIT, OPERATION_LIMIT, ROUTER_LIMIT, ROW_LIMIT};
 pub use network::{Counts, Network};
 pub use parts::{Group, Link, LinkId, Member, NameId, RouterId, TableRow};
-pub use refused::{BuildRefused, Limited, Part};
+pub use refused::{BuildRefused, Field, Limited};

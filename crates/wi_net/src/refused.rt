@@ -1,11 +1,11 @@
-//! A refusal carries the part at fault, since a reader of files has to name its place. All refusals are `Copy`, and take no
+//! A refusal carries the field at fault, since a reader of files has to name its place. All refusals are `Copy`, and take no
 //! memory.
 use std::alloc::{AllocError, AllocFailed};
 use wi_base::NoMemory;
 
-/// The part at fault.
+/// The field at fault, of what is handed in.
 #[derive(Clone, Copy, PartialEq, Eq, Debug)]
-pub enum Part {
+pub enum Field {
     /// A router or a label; in a table one of its labels.
     Name,
     From,
@@ -36,14 +36,14 @@ pub enum BuildRefused {
     /// A router's name, a label's name, or a table's link and label came before.
     Repeated,
     /// There is no such router, link or label; or a label's class isn't its own; or a link leaves another router.
-    Unknown(Part),
+    Unknown(Field),
     /// Another link has this end.
-    Taken(Part),
+    Taken(Field),
     EmptyGroup,
     /// There are so many already, and no more may be added.
     Limit(Limited, u32),
     /// A name has 1 to 32 bytes and neither a control character nor a quotation mark.
-    BadName(Part),
+    BadName(Field),
 }
 
 impl From<NoMemory> for BuildRefused {

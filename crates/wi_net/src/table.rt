@@ -11,7 +11,7 @@ ghost use Rattle.wi_net.specs.Builder.{member_rules, members_rules, group_rules,
 use crate::builder::NetworkBuilder;
 use crate::limits::{MEMBER_LIMIT, OPERATION_LIMIT};
 use crate::parts::{Group, LinkId, Member, RouterId};
-use crate::refused::{BuildRefused, Limited, Part};
+use crate::refused::{BuildRefused, Field, Limited};
 use wi_labels::{Class, Label, Op};
 
 /// How many members there are with those of groups, or the first rule that they break.
@@ -85,13 +85,13 @@ fn member_total(
         return Err(BuildRefused::Limit(Limited::Members, MEMBER_LIMIT));
     }
     if !leaves(builder, router, member.link) {
-        return Err(BuildRefused::Unknown(Part::Out));
+        return Err(BuildRefused::Unknown(Field::Out));
     }
     if member.ops.as_slice().len() > OPERATION_LIMIT as usize {
         return Err(BuildRefused::Limit(Limited::Operations, OPERATION_LIMIT));
     }
     if !are_known(builder, member.ops.as_slice()) {
-        return Err(BuildRefused::Unknown(Part::Name));
+        return Err(BuildRefused::Unknown(Field::Name));
     }
     Ok(so_far + 1)
 }

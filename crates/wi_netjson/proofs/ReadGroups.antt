@@ -12,7 +12,8 @@ use Rattle.std.proofs.lemmas.Option.{slice_get-map}
 use Rattle.std.proofs.lemmas.Slice.Eq.{bytes_eq-Decides}
 use Rattle.wi_net.specs.declared.parts.Link.{Link}
 use Rattle.wi_net.specs.declared.parts.LinkId.{LinkId}
-use Rattle.wi_net.specs.Names.{is_name, is_name_byte, place}
+use Rattle.wi_text.specs.Characters.{is_name_byte}
+use Rattle.wi_net.specs.Names.{is_name, place}
 use Rattle.wi_net.specs.Builder.{first_in, named_with, firsts_with}
 use Rattle.wi_net.proofs.FindingLemmas.{position-map}
 use Rattle.wi_net.proofs.KeptLists.{none_by, all_get}

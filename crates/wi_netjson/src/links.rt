@@ -9,7 +9,7 @@ ghost use Rattle.wi_netjson.specs.Links.{link_rules, link_at, links_of, group_na
 use crate::fault::{LinkPart, NetFault, Place};
 use crate::shape::{limited, list, object, optional_text, text, whole};
 use serde_json::Value;
-use wi_net::{BuildRefused, LINK_LIMIT, NetworkBuilder, Part};
+use wi_net::{BuildRefused, Field, LINK_LIMIT, NetworkBuilder};
 
 /// Adds the links of a file, which name risk groups in some formats.
 #[tactic(auto, unfolding(crate::specs::Links::links_of))]
@@ -92,21 +92,21 @@ fn link_fault(i: usize, refused: BuildRefused) -> NetFault
     ensures { result ≡ link_fault i refused }
 {
     match refused {
-        BuildRefused::BadName(Part::Group) => {
+        BuildRefused::BadName(Field::Group) => {
             NetFault::BadName(Place::LinkPart(i, LinkPart::Group))
         }
-        BuildRefused::BadName(Part::Out) => NetFault::BadName(Place::LinkPart(i, LinkPart::Out)),
-        BuildRefused::BadName(Part::In) => NetFault::BadName(Place::LinkPart(i, LinkPart::In)),
-        BuildRefused::Unknown(Part::From) => {
+        BuildRefused::BadName(Field::Out) => NetFault::BadName(Place::LinkPart(i, LinkPart::Out)),
+        BuildRefused::BadName(Field::In) => NetFault::BadName(Place::LinkPart(i, LinkPart::In)),
+        BuildRefused::Unknown(Field::From) => {
             NetFault::UnknownRouter(Place::LinkPart(i, LinkPart::From))
         }
-        BuildRefused::Unknown(Part::To) => {
+        BuildRefused::Unknown(Field::To) => {
             NetFault::UnknownRouter(Place::LinkPart(i, LinkPart::To))
         }
-        BuildRefused::Taken(Part::Out) => {
+        BuildRefused::Taken(Field::Out) => {
             NetFault::InterfaceTaken(Place::LinkPart(i, LinkPart::Out))
         }
-        BuildRefused::Taken(Part::In) => {
+        BuildRefused::Taken(Field::In) => {
             NetFault::InterfaceTaken(Place::LinkPart(i, LinkPart::In))
         }
         BuildRefused::Limit(_, limit) => NetFault::OverLimit(Place::Links, limit),

@@ -12,14 +12,14 @@ use wi_base::{Listed, NoMemory};
 use wi_labels::{Class, Label, Op};
 use wi_net::BuildRefused::{BadName, EmptyGroup, Limit, Repeated, Taken, Unknown};
 use wi_net::{
-    BuildRefused, Limited, Link, LinkId, NameId, NetworkBuilder, Part, RouterId, TableRow,
+    BuildRefused, Field, Limited, Link, LinkId, NameId, NetworkBuilder, RouterId, TableRow,
 };
 use wi_samples::{N1, Way, fill};
 
 // Names that are refused as a second router or label.
 const REFUSED_NAMES: &[(&str, BuildRefused)] = &[
-    ("", BadName(Part::Name)),
-    ("a\"", BadName(Part::Name)),
+    ("", BadName(Field::Name)),
+    ("a\"", BadName(Field::Name)),
     ("x", Repeated),
 ];
 
@@ -104,13 +104,13 @@ type RefusedLink<'a> = (
 
 // Beside the links of the sample.
 const REFUSED_LINKS: &[RefusedLink] = &[
-    (("q", "", "q", ""), Some(""), BadName(Part::Group)),
-    (("q", "", "q", ""), Some("g"), BadName(Part::Out)),
-    (("q", "n", "q", ""), None, BadName(Part::In)),
-    (("q", "n", "q", "m"), None, Unknown(Part::From)),
-    (("x", "o", "q", "x"), None, Unknown(Part::To)),
-    (("x", "o", "a", "x"), None, Taken(Part::Out)),
-    (("x", "n", "a", "x"), None, Taken(Part::In)),
+    (("q", "", "q", ""), Some(""), BadName(Field::Group)),
+    (("q", "", "q", ""), Some("g"), BadName(Field::Out)),
+    (("q", "n", "q", ""), None, BadName(Field::In)),
+    (("q", "n", "q", "m"), None, Unknown(Field::From)),
+    (("x", "o", "q", "x"), None, Unknown(Field::To)),
+    (("x", "o", "a", "x"), None, Taken(Field::Out)),
+    (("x", "n", "a", "x"), None, Taken(Field::In)),
 ];
 
 fn refuses_link(rt: &impl Abort, builder: &mut NetworkBuilder, case: &RefusedLink) {
@@ -185,20 +185,20 @@ const MISPLACED: &[Op] = &[Op::Swap(S10, Class::Mpls)];
 // Link 2 reaches c, which only link 3 leaves. The last but one has a good group, one without members, and one whose link isn't
 // there.
 const TABLED: &[Tabled] = &[
-    ((5, Label(3)), &[&[(9, NINE)]], Err(Unknown(Part::In))),
-    ((0, Label(3)), &[&[(9, NINE)]], Err(Unknown(Part::Name))),
+    ((5, Label(3)), &[&[(9, NINE)]], Err(Unknown(Field::In))),
+    ((0, Label(3)), &[&[(9, NINE)]], Err(Unknown(Field::Name))),
     ((0, IP1), &[&[(9, NINE)]], Err(Repeated)),
-    ((2, S10), &[&[(9, NINE)]], Err(Unknown(Part::Out))),
-    ((2, S10), &[&[(4, NINE)]], Err(Unknown(Part::Out))),
+    ((2, S10), &[&[(9, NINE)]], Err(Unknown(Field::Out))),
+    ((2, S10), &[&[(4, NINE)]], Err(Unknown(Field::Out))),
     (
         (2, S10),
         &[&[(3, NINE)]],
         Err(Limit(Limited::Operations, 8)),
     ),
-    ((2, S10), &[&[(3, UNKNOWN)]], Err(Unknown(Part::Name))),
-    ((2, S10), &[&[(3, MISPLACED)]], Err(Unknown(Part::Name))),
+    ((2, S10), &[&[(3, UNKNOWN)]], Err(Unknown(Field::Name))),
+    ((2, S10), &[&[(3, MISPLACED)]], Err(Unknown(Field::Name))),
     ((2, S10), &[&[(3, &[])], &[], &[(9, &[])]], Err(EmptyGroup)),
-    ((2, S10), &[&[(3, &[]), (4, &[])]], Err(Unknown(Part::Out))),
+    ((2, S10), &[&[(3, &[]), (4, &[])]], Err(Unknown(Field::Out))),
 ];
 
 const TAKEN: Tabled = ((2, S10), &[&[(3, &[Op::Pop; 8])]], Ok(()));

@@ -52,8 +52,8 @@ cut [] = None
 cut (b ∷ text) = if b == 60 then Some ([], b ∷ text) else option_map (λ parts. (b ∷ parts.0, parts.1)) (cut text)
 
 -- no control character
-abbrev pub is_name_byte : ℕ → Bool
-is_name_byte b = nat_lt 31 b && not (b == 127)
+abbrev pub is_printable : ℕ → Bool
+is_printable b = nat_lt 31 b && not (b == 127)
 
 -- what is to be answered, what a policy is called, and the text of its query
 pub record Statement : Type 0 where
@@ -64,7 +64,7 @@ pub record Statement : Type 0 where
 -- a line of so many bytes that says this. In its query's text each byte before the first `<` is a space, so that bytes are the line's
 abbrev pub statement_of : ℕ → Word → List ℕ × List ℕ → Option Statement
 statement_of n word parts =
-    if list_all is_name_byte (trimmed parts.0) then Some (record { word = word; name = trimmed parts.0; query = replicate (n - length parts.1) 32 ++ parts.1 }) else None
+    if list_all is_printable (trimmed parts.0) then Some (record { word = word; name = trimmed parts.0; query = replicate (n - length parts.1) 32 ++ parts.1 }) else None
 
 -- what a line says that says something
 abbrev pub statement_in : List ℕ → Option Statement

@@ -4,7 +4,7 @@ ghost use Rattle.std.specs.Prelude.{◌≡◌, ℕ, List, reverse, replicate, st
 ghost use Rattle.std.specs.List.{list_all, prefix_len};
 ghost use Rattle.wi_world.specs.declared.answer.Word.{Word};
 ghost use Rattle.wi_text.specs.Characters.{begins_with, is_plain};
-ghost use Rattle.wi_policy.specs.Line.{after_blanks, behind, cut, is_blank, is_name_byte, says_nothing, statement_in, trimmed, worded};
+ghost use Rattle.wi_policy.specs.Line.{after_blanks, behind, cut, is_blank, is_printable, says_nothing, statement_in, trimmed, worded};
 ghost use Rattle.wi_policy.specs.private.Reading.{statement_said};
 
 use std::alloc::Global;
@@ -116,8 +116,8 @@ fn cut<'a>(text: &'a str) -> Option<(&'a str, &'a str)>
 }
 
 // No control characters.
-fn are_name_bytes(bytes: &[u8]) -> bool
-    ensures { result ≡ list_all is_name_byte bytes.now }
+fn are_printable(bytes: &[u8]) -> bool
+    ensures { result ≡ list_all is_printable bytes.now }
 {
     bytes.iter().all(|byte| *byte > 31 && *byte != 127)
 }
@@ -129,7 +129,7 @@ pub fn said_on<'a>(line: &'a str) -> Option<Said<'a>>
     let (word, rest) = worded(after_blanks(line))?;
     let (front, query) = cut(rest)?;
     let name = trimmed(front);
-    if !are_name_bytes(name.as_bytes()) {
+    if !are_printable(name.as_bytes()) {
         return None;
     }
     let before = line.len() - query.len();

@@ -11,7 +11,8 @@ use Rattle.std.proofs.lemmas.List.Folds.{list_any-append, list_all-append}
 use Rattle.std.proofs.lemmas.Slice.Eq.{bytes_eq-Decides}
 use Rattle.wi_labels.specs.declared.label.Class.{Class}
 use Rattle.wi_labels.specs.declared.label.Class.TheVariants.{Mpls, Smpls, Ip}
-use Rattle.wi_net.specs.Names.{is_name, is_name_byte, place, are_names}
+use Rattle.wi_text.specs.Characters.{is_name_byte}
+use Rattle.wi_net.specs.Names.{is_name, place, are_names}
 use Rattle.wi_net.specs.Net.{Net}
 use Rattle.wi_net.specs.Network.{IsNetwork, is_no_later, are_in_order}
 use Rattle.wi_net.proofs.FindingLemmas.{none_any}

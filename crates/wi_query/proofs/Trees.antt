@@ -11,7 +11,7 @@ use Rattle.wi_query.specs.Sets.{SymbolMarks, holds}
 use Rattle.wi_query.specs.Compiled.{IsWithin}
 use Rattle.wi_query.specs.Meaning.{IsRegexOf, AreSignsOf}
 use Rattle.wi_query.specs.Faults.{atom_count}
-use Rattle.wi_query.specs.private.Frames.{SetTree, TreeReading, finished, set_sign, set_signs, after_sign, after_signs, at_start, IsPart, IsReading}
+use Rattle.wi_query.specs.private.Frames.{SetTree, TreeReading, finished, set_sign, set_signs, after_sign, after_signs, at_start, IsOperand, IsReading}
 use Rattle.wi_query.specs.declared.tree.Reading.{Reading}
 use Rattle.wi_query.proofs.Lists.{left_at, nothing_after}
 use Rattle.wi_query.proofs.Running.{tree_is_read}
@@ -92,22 +92,22 @@ module _ {A : Type 0} (m : A → SymbolMarks) where
 
   pub regex_is_read : (signs : List (Sign A)) (e : IsExpression (λ a. true) signs) (i : ℕ) (r : Reading) (part : Option (Regex SymbolMarks)) (made : Regex SymbolMarks)
       → ((t : TreeReading SymbolMarks) × IsReading t r × (after_signs t (set_signs m (drop i signs)) ≡ after_signs at_start (set_signs m signs)))
-      → length signs ≤ i → ((t : TreeReading SymbolMarks) → IsReading t r → IsPart (finished t.current) part) → part ≡ Some made → AreSignsOf (λ a x. holds (m a) x) signs made
+      → length signs ≤ i → ((t : TreeReading SymbolMarks) → IsReading t r → IsOperand (finished t.current) part) → part ≡ Some made → AreSignsOf (λ a x. holds (m a) x) signs made
   regex_is_read signs e i r part made so_far past held is =
       let all = all_read signs i r so_far past in
-      let P : Option SetTree → Option (Regex SymbolMarks) → Type 0 = IsPart in
-      let first : IsPart (finished (all.0).current) (Some made) = subst (λ p. P (finished (all.0).current) p) is (held all.0 all.1) in
-      let whole : IsPart (Some (set_tree m e.0)) (Some made) = subst (λ o. P o (Some made)) (finished_read signs e all.0 all.2) first in
+      let P : Option SetTree → Option (Regex SymbolMarks) → Type 0 = IsOperand in
+      let first : IsOperand (finished (all.0).current) (Some made) = subst (λ p. P (finished (all.0).current) p) is (held all.0 all.1) in
+      let whole : IsOperand (Some (set_tree m e.0)) (Some made) = subst (λ o. P o (Some made)) (finished_read signs e all.0 all.2) first in
       (e.0, e.1, e.2, set_tree_regex e.0 made whole)
 
   pub something_is_read : (signs : List (Sign A)) (e : IsExpression (λ a. true) signs) (i : ℕ) (r : Reading) (part : Option (Regex SymbolMarks))
       → ((t : TreeReading SymbolMarks) × IsReading t r × (after_signs t (set_signs m (drop i signs)) ≡ after_signs at_start (set_signs m signs)))
-      → length signs ≤ i → ((t : TreeReading SymbolMarks) → IsReading t r → IsPart (finished t.current) part) → part ≡ None → ⊥
+      → length signs ≤ i → ((t : TreeReading SymbolMarks) → IsReading t r → IsOperand (finished t.current) part) → part ≡ None → ⊥
   something_is_read signs e i r part so_far past held is =
       let all = all_read signs i r so_far past in
-      let P : Option SetTree → Option (Regex SymbolMarks) → Type 0 = IsPart in
-      let first : IsPart (finished (all.0).current) None = subst (λ p. P (finished (all.0).current) p) is (held all.0 all.1) in
-      let whole : IsPart (Some (set_tree m e.0)) None = subst (λ o. P o None) (finished_read signs e all.0 all.2) first in whole
+      let P : Option SetTree → Option (Regex SymbolMarks) → Type 0 = IsOperand in
+      let first : IsOperand (finished (all.0).current) None = subst (λ p. P (finished (all.0).current) p) is (held all.0 all.1) in
+      let whole : IsOperand (Some (set_tree m e.0)) None = subst (λ o. P o None) (finished_read signs e all.0 all.2) first in whole
 
 module _ {A : Type 0} where
   -- trees whose atoms pass any test

@@ -4,7 +4,7 @@
 ghost use Rattle.std.specs.Prelude.{Option, Some, IfOk};
 ghost use Rattle.wi_syntax.specs.declared.written.Sign.{Sign};
 ghost use Rattle.wi_query.specs.Sets.{SymbolMarks};
-ghost use Rattle.wi_query.specs.private.Frames.{SetTree, TreeFrame, TreeReading, empty_frame, joined, finished, with_item, with_bar, with_repeat, repeated, after_sign, at_start, IsPart, IsFrame, IsReading};
+ghost use Rattle.wi_query.specs.private.Frames.{SetTree, TreeFrame, TreeReading, empty_frame, joined, finished, with_item, with_bar, with_repeat, repeated, after_sign, at_start, IsOperand, IsFrame, IsReading};
 
 use crate::symbols::SymbolSet;
 use std::alloc::Global;
@@ -13,15 +13,15 @@ use wi_regex::Regex;
 use wi_syntax::Sign;
 
 /// An expression, or nothing yet.
-pub(crate) type Part = Option<Regex<SymbolSet>>;
+pub(crate) type Operand = Option<Regex<SymbolSet>>;
 
 /// What stands behind a bracket that is open: what is before the last `|`, what of the rest is before its last item, and
 /// that item. Of the signs that may come next, those for repetition bind to the item, another item to the sequence.
 #[derive(Drop)]
 struct Frame {
-    alternatives: Part,
-    sequence: Part,
-    item: Part,
+    alternatives: Operand,
+    sequence: Operand,
+    item: Operand,
 }
 
 /// An expression as far as it was read.
@@ -48,8 +48,8 @@ enum Repeat {
 }
 
 // Two expressions as one, where there are two.
-fn joined(alloc: Global, how: Joint, first: Part, next: Part) -> Result<Part, NoMemory>
-    ensures { IfOk result (λ part. (a b : Option SetTree) → IsPart a first → IsPart b next → IsPart (joined how a b) part) }
+fn joined(alloc: Global, how: Joint, first: Operand, next: Operand) -> Result<Operand, NoMemory>
+    ensures { IfOk result (λ part. (a b : Option SetTree) → IsOperand a first → IsOperand b next → IsOperand (joined how a b) part) }
 {
     let Some(next) = next else {
         return Ok(first);
@@ -66,8 +66,8 @@ fn joined(alloc: Global, how: Joint, first: Part, next: Part) -> Result<Part, No
 }
 
 // An expression that is repeated, where there is one.
-fn repeated(alloc: Global, how: Repeat, item: Part) -> Result<Part, NoMemory>
-    ensures { IfOk result (λ part. (t : Option SetTree) → IsPart t item → IsPart (repeated how t) part) }
+fn repeated(alloc: Global, how: Repeat, item: Operand) -> Result<Operand, NoMemory>
+    ensures { IfOk result (λ part. (t : Option SetTree) → IsOperand t item → IsOperand (repeated how t) part) }
 {
     let Some(item) = item else {
         return Ok(None);
@@ -92,8 +92,8 @@ impl Frame {
     }
 
     // All that stands in it.
-    fn finished(self, alloc: Global) -> Result<Part, NoMemory>
-        ensures { IfOk result (λ part. (t : TreeFrame SymbolMarks) → IsFrame t self → IsPart (finished t) part) }
+    fn finished(self, alloc: Global) -> Result<Operand, NoMemory>
+        ensures { IfOk result (λ part. (t : TreeFrame SymbolMarks) → IsFrame t self → IsOperand (finished t) part) }
     {
         let Frame {
             alternatives,
@@ -105,8 +105,8 @@ impl Frame {
     }
 
     // With one item more.
-    fn with_item(self, alloc: Global, next: Part) -> Result<Frame, NoMemory>
-        ensures { IfOk result (λ frame. (t : TreeFrame SymbolMarks) (i : Option SetTree) → IsFrame t self → IsPart i next → IsFrame (with_item t i) frame) }
+    fn with_item(self, alloc: Global, next: Operand) -> Result<Frame, NoMemory>
+        ensures { IfOk result (λ frame. (t : TreeFrame SymbolMarks) (i : Option SetTree) → IsFrame t self → IsOperand i next → IsFrame (with_item t i) frame) }
     {
         let Frame {
             alternatives,
@@ -175,7 +175,7 @@ impl Reading {
     }
 
     // With the last bracket closed that is open.
-    fn closed(self, alloc: Global) -> Result<Reading, NoMemory>
+    fn after_bracket(self, alloc: Global) -> Result<Reading, NoMemory>
         ensures { IfOk result (λ reading. (t : TreeReading SymbolMarks) → IsReading t self → IsReading (after_sign t Sign.Close) reading) }
     {
         let Reading { current, mut outer } = self;
@@ -218,7 +218,7 @@ impl Reading {
         match sign {
             Sign::Atom(set) => self.with_item(alloc, set),
             Sign::Open => self.opened(),
-            Sign::Close => self.closed(alloc),
+            Sign::Close => self.after_bracket(alloc),
             Sign::Star => self.with_repeat(alloc, Repeat::Star),
             Sign::Plus => self.with_repeat(alloc, Repeat::Plus),
             Sign::Maybe => self.with_repeat(alloc, Repeat::Maybe),
@@ -227,8 +227,8 @@ impl Reading {
     }
 
     /// All that was read, if it is anything.
-    pub(crate) fn finished(self, alloc: Global) -> Result<Part, NoMemory>
-        ensures { IfOk result (λ part. (t : TreeReading SymbolMarks) → IsReading t self → IsPart (finished t.current) part) }
+    pub(crate) fn finished(self, alloc: Global) -> Result<Operand, NoMemory>
+        ensures { IfOk result (λ part. (t : TreeReading SymbolMarks) → IsReading t self → IsOperand (finished t.current) part) }
     {
         let Reading { current, outer: _ } = self;
         current.finished(alloc)

@@ -4,8 +4,8 @@ use Rattle.std.specs.Fmt.{decimal}
 use Rattle.wi_weight.specs.declared.kinds.Pair.{Pair}
 use Rattle.wi_weight.specs.declared.kinds.Terms.{Terms}
 use Rattle.wi_weight.specs.declared.kinds.Effort.{Effort}
-use Rattle.wi_cert.specs.declared.check_refused.Part.{Part}
-use Rattle.wi_cert.specs.declared.check_refused.Part.TheVariants.{First, Path, Last}
+use Rattle.wi_cert.specs.declared.check_refused.RunPart.{RunPart}
+use Rattle.wi_cert.specs.declared.check_refused.RunPart.TheVariants.{First, Path, Last}
 use Rattle.wi_cert.specs.declared.check_refused.ClosedRefused.{ClosedRefused}
 use Rattle.wi_cert.specs.declared.check_refused.ClosedRefused.TheVariants.{HeadMissing, PairMissing, GoalBelow, NotClosed}
 use Rattle.wi_cert.specs.declared.check_refused.CheckRefused.{CheckRefused}
@@ -14,7 +14,7 @@ use Rattle.wi_report.specs.Reports.{numbers_shown}
 use Rattle.wi_report.specs.RefusedDecisions.{components_shown}
 
 -- the parts of a run count from 1
-abbrev pub part_number : Part → ℕ
+abbrev pub part_number : RunPart → ℕ
 part_number First = 1
 part_number Path = 2
 part_number Last = 3

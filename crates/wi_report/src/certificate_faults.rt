@@ -8,7 +8,7 @@ use crate::reports::{put_numbers, put_values};
 use crate::shown::put_counted;
 use std::alloc::Global;
 use wi_base::NoMemory;
-use wi_cert::{CheckRefused, ClosedRefused, Part};
+use wi_cert::{CheckRefused, ClosedRefused, RunPart};
 use wi_quantity::Weight;
 use wi_text::Text;
 
@@ -97,13 +97,13 @@ fn put_node(number: u32, text: &mut Text) -> Result<(), NoMemory>
 }
 
 // The number of a part of a run, from 1.
-fn part_number(part: Part) -> usize
+fn part_number(part: RunPart) -> usize
     ensures { result ≡ part_number part }
 {
     match part {
-        Part::First => 1,
-        Part::Path => 2,
-        Part::Last => 3,
+        RunPart::First => 1,
+        RunPart::Path => 2,
+        RunPart::Last => 3,
     }
 }
 

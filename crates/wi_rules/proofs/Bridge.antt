@@ -19,7 +19,7 @@ use Rattle.wi_rules.specs.declared.spot.Origin.{Origin}
 use Rattle.wi_rules.specs.declared.spot.Origin.TheVariants.{SetOut}
 use Rattle.wi_rules.specs.declared.spot.Spot.{Spot}
 use Rattle.wi_rules.specs.declared.spot.Spot.TheVariants.{Start, Done, Build, Close, OnLink, Mid, Drop}
-use Rattle.wi_rules.specs.Rules.{Encoding, SpotRule, zeros, plain, working, pushing, written, on_way, may_build, build_rules, set_out_rules, entry_rules, lost_by, lost_rules, end_rules, on_link_rules, is_label, next_op_rules, rules_of, IsEncoding}
+use Rattle.wi_rules.specs.Rules.{Encoding, SpotRule, zeros, plain, working, pushing, word_over, on_way, may_build, build_rules, set_out_rules, entry_rules, lost_by, lost_rules, end_rules, on_link_rules, is_label, next_op_rules, rules_of, IsEncoding}
 use Rattle.wi_rules.specs.Goals.{Rewrites, rules_weight, main_origin, origins_of}
 use Rattle.wi_rules.proofs.Lists.{In, contains_in, in_contains, in_either, map_in, flat_in, if_in, option_in, one_in, length_zeros}
 use Rattle.wi_rules.proofs.Ends.{Ends}
@@ -76,8 +76,8 @@ module _ (s : Encoding) (k : IsEncoding s) where
   rule_length (Mid m (suc j) q) zero r i = absurd i
   rule_length (Mid m (suc j) q) (suc n) r i =
       let a = option_in (next_op_rules s m (suc j) q n) (slice_get (all_members s.net.rows) m) r i in
-      let b = option_in (λ (op : Op). option_map_or (λ (word : Word2). working s m (suc j) (on_way a.0 m (suc (suc j)) q) word ∷ []) (written s.net op n) []) (slice_get a.0.ops (suc j)) r a.2 in
-      let c = option_in (λ (word : Word2). working s m (suc j) (on_way a.0 m (suc (suc j)) q) word ∷ []) (written s.net b.0 n) r b.2 in
+      let b = option_in (λ (op : Op). option_map_or (λ (word : Word2). working s m (suc j) (on_way a.0 m (suc (suc j)) q) word ∷ []) (word_over s.net op n) []) (slice_get a.0.ops (suc j)) r a.2 in
+      let c = option_in (λ (word : Word2). working s m (suc j) (on_way a.0 m (suc (suc j)) q) word ∷ []) (word_over s.net b.0 n) r b.2 in
       subst (λ (x : SpotRule). length x.share ≡ s.terms) (one_in (working s m (suc j) (on_way a.0 m (suc (suc j)) q) c.0) r c.2) (length_zeros s)
   rule_length (Drop m zero) g r i = absurd i
   rule_length (Drop m (suc j)) zero r i = absurd i

@@ -13,7 +13,7 @@ use Rattle.wi_pds.specs.declared.rule.Word2.{Word2}
 use Rattle.wi_pds.specs.Runs.{symbols}
 use Rattle.wi_rules.specs.declared.spot.Origin.{Origin}
 use Rattle.wi_rules.specs.declared.spot.Spot.TheVariants.{Done, OnLink, Mid}
-use Rattle.wi_rules.specs.Rules.{Encoding, SpotRule, working, written, on_way, rules_of, IsEncoding}
+use Rattle.wi_rules.specs.Rules.{Encoding, SpotRule, working, word_over, on_way, rules_of, IsEncoding}
 use Rattle.wi_rules.proofs.Lists.{In, option_in, one_in, get_in, all_in, drop_get, drop_end}
 use Rattle.wi_rules.proofs.Members.{kept}
 use Rattle.wi_rules.proofs.Ends.{Ends, stack, working_step, working_on}
@@ -33,16 +33,16 @@ module _ (s : Encoding) (k : IsEncoding s) where
   pub op_of : (member : Member) (m i : ℕ) (op : Op) → slice_get (all_members s.net.rows) m ≡ Some member → slice_get member.ops i ≡ Some op → op_known s.net op ≡ true
   op_of member m i op e f = all_in (λ (x : Op). op_known s.net x) member.ops op (ops_of member m e) (get_in member.ops i op f)
 
-  in_mid : (member : Member) (m i q n : ℕ) (op : Op) (word : Word2) → slice_get (all_members s.net.rows) m ≡ Some member → slice_get member.ops (suc i) ≡ Some op → written s.net op n ≡ Some word
+  in_mid : (member : Member) (m i q n : ℕ) (op : Op) (word : Word2) → slice_get (all_members s.net.rows) m ≡ Some member → slice_get member.ops (suc i) ≡ Some op → word_over s.net op n ≡ Some word
       → In (rules_of s (Mid m (suc i) q) (suc n)) (working s m (suc i) (on_way member m (suc (suc i)) q) word)
   in_mid member m i q n op word e f g = rw e (rw f (rw g (inl refl)))
 
   mid_in : (member : Member) (m i q n : ℕ) (op : Op) (r : SpotRule) → slice_get (all_members s.net.rows) m ≡ Some member → slice_get member.ops (suc i) ≡ Some op
-      → In (rules_of s (Mid m (suc i) q) (suc n)) r → (word : Word2) × (written s.net op n ≡ Some word) × (working s m (suc i) (on_way member m (suc (suc i)) q) word ≡ r)
+      → In (rules_of s (Mid m (suc i) q) (suc n)) r → (word : Word2) × (word_over s.net op n ≡ Some word) × (working s m (suc i) (on_way member m (suc (suc i)) q) word ≡ r)
   mid_in member m i q n op r e f h =
-      let h1 : In (option_map_or (λ (o : Op). option_map_or (λ (word : Word2). working s m (suc i) (on_way member m (suc (suc i)) q) word ∷ []) (written s.net o n) []) (slice_get member.ops (suc i)) []) r = rw e at h in
-      let h2 : In (option_map_or (λ (word : Word2). working s m (suc i) (on_way member m (suc (suc i)) q) word ∷ []) (written s.net op n) []) r = rw f at h1 in
-      let o = option_in (λ (word : Word2). working s m (suc i) (on_way member m (suc (suc i)) q) word ∷ []) (written s.net op n) r h2 in
+      let h1 : In (option_map_or (λ (o : Op). option_map_or (λ (word : Word2). working s m (suc i) (on_way member m (suc (suc i)) q) word ∷ []) (word_over s.net o n) []) (slice_get member.ops (suc i)) []) r = rw e at h in
+      let h2 : In (option_map_or (λ (word : Word2). working s m (suc i) (on_way member m (suc (suc i)) q) word ∷ []) (word_over s.net op n) []) r = rw f at h1 in
+      let o = option_in (λ (word : Word2). working s m (suc i) (on_way member m (suc (suc i)) q) word ∷ []) (word_over s.net op n) r h2 in
       (o.0, o.1, one_in (working s m (suc i) (on_way member m (suc (suc i)) q) o.0) r o.2)
 
   -- the rest of a member's operations can be done on the stack where they can be done on the header
@@ -92,7 +92,7 @@ module _ (s : Encoding) (k : IsEncoding s) where
       go h zero known ends ih = let no : Mid m (suc i) q ≡ Done = ends.0 in cc
       go [] (suc n) known ends ih = absurd ends.3
       go (top ∷ below) (suc n) known ends ih =
-          let r : (word : Word2) × (written s.net op top.0.0 ≡ Some word) × (working s m (suc i) (on_way member m (suc (suc i)) q) word ≡ ends.0) = mid_in member m i q top.0.0 op ends.0 e at.0 ends.3 in
+          let r : (word : Word2) × (word_over s.net op top.0.0 ≡ Some word) × (working s m (suc i) (on_way member m (suc (suc i)) q) word ≡ ends.0) = mid_in member m i q top.0.0 op ends.0 e at.0 ends.3 in
           let w : Did s.net op top below r.0 = did s.net op top below r.0 known r.1 in
           let on1 : Ends s (on_way member m (suc (suc i)) q) (symbols r.0 ++ stack below) t os n = working_on s m (suc i) ends.0 (on_way member m (suc (suc i)) q) r.0 (stack below) t ends.1 os ends.2 n r.2 ends.4 ends.5 ends.6 ends.7 in
           let on : Ends s (on_way member m (suc (suc i)) q) (stack w.next) t os n = subst (λ (x : List ℕ). Ends s (on_way member m (suc (suc i)) q) x t os n) w.stack_is on1 in

@@ -23,7 +23,7 @@ use Rattle.wi_rules.specs.declared.spot.Origin.{Origin}
 use Rattle.wi_rules.specs.declared.spot.Origin.TheVariants.{Hop}
 use Rattle.wi_rules.specs.declared.spot.Spot.{Spot}
 use Rattle.wi_rules.specs.declared.spot.Spot.TheVariants.{Done, OnLink}
-use Rattle.wi_rules.specs.Rules.{Encoding, SpotRule, written, first_written, member_number, on_way, may_use, hop_rules, entry_rules, end_rules, on_link_rules, is_label, rules_of, IsEncoding}
+use Rattle.wi_rules.specs.Rules.{Encoding, SpotRule, word_over, first_word_over, member_number, on_way, may_use, hop_rules, entry_rules, end_rules, on_link_rules, is_label, rules_of, IsEncoding}
 use Rattle.wi_rules.specs.Goals.{main_origin, share_at}
 use Rattle.wi_rules.proofs.Lists.{In, in_left, in_right, in_either, in_map, map_in, if_in, option_in, get_below}
 use Rattle.wi_rules.proofs.Ends.{Ends, stack}
@@ -52,11 +52,11 @@ module _ (s : Encoding) (k : IsEncoding s) where
   numbered e l step n = member_numbered s.net.rows e l step.group step.member n.group n.member n.group_is n.member_is
 
   in_hop_rules : (e : LinkId) (q : ℕ) (l : Label) (step : Step) (member : Member) (word : Word2) (r : ℕ) → may_use s.net s.bounds (entry s.net e l) step.group member.link ≡ true
-      → first_written s.net member.ops l.0 ≡ Some word → In (s.path.next q member.link.0) r → In (hop_rules s e q l step member) (hop_rule s e q l step member word r)
+      → first_word_over s.net member.ops l.0 ≡ Some word → In (s.path.next q member.link.0) r → In (hop_rules s e q l step member) (hop_rule s e q l step member word r)
   in_hop_rules e q l step member word r u w i = rw u (rw w (in_map (hop_rule s e q l step member word) (s.path.next q member.link.0) r i))
 
   in_at : (e : LinkId) (q : ℕ) (l : Label) (step : Step) (n : Listed e l step) (word : Word2) (r : ℕ) → is_label s.net l.0 ≡ true → may_use s.net s.bounds (entry s.net e l) step.group n.member.link ≡ true
-      → first_written s.net n.member.ops l.0 ≡ Some word → In (s.path.next q n.member.link.0) r → In (rules_of s (OnLink e q) (suc l.0)) (hop_rule s e q l step n.member word r)
+      → first_word_over s.net n.member.ops l.0 ≡ Some word → In (s.path.next q n.member.link.0) r → In (rules_of s (OnLink e q) (suc l.0)) (hop_rule s e q l step n.member word r)
   in_at e q l step n word r there u w i =
       rw there (in_left (entry_rules s e q l) _ (hop_rule s e q l step n.member word r)
       (in_each_member (hop_rules s e q l) (entry s.net e l) step n.group n.member (hop_rule s e q l step n.member word r) n.group_is n.member_is
@@ -69,15 +69,15 @@ module _ (s : Encoding) (k : IsEncoding s) where
     pub word : Word2
     pub to : ℕ
     pub usable : may_use s.net s.bounds (entry s.net e l) step.group names.member.link ≡ true
-    pub word_is : first_written s.net names.member.ops l.0 ≡ Some word
+    pub word_is : first_word_over s.net names.member.ops l.0 ≡ Some word
     pub next : In (s.path.next q names.member.link.0) to
     pub is : hop_rule s e q l step names.member word to ≡ rule
 
   pub entry_in : (e : LinkId) (q : ℕ) (l : Label) (rule : SpotRule) → In (entry_rules s e q l) rule → Hops e q l rule
   entry_in e q l rule h =
       let a : ForMember (hop_rules s e q l) (entry s.net e l) rule = each_member_in (hop_rules s e q l) (entry s.net e l) rule h in
-      let c = if_in (may_use s.net s.bounds (entry s.net e l) a.step.group a.member.link) (option_map_or (λ (word : Word2). map (hop_rule s e q l a.step a.member word) (s.path.next q a.member.link.0)) (first_written s.net a.member.ops l.0) []) rule a.there in
-      let d = option_in (λ (word : Word2). map (hop_rule s e q l a.step a.member word) (s.path.next q a.member.link.0)) (first_written s.net a.member.ops l.0) rule c.1 in
+      let c = if_in (may_use s.net s.bounds (entry s.net e l) a.step.group a.member.link) (option_map_or (λ (word : Word2). map (hop_rule s e q l a.step a.member word) (s.path.next q a.member.link.0)) (first_word_over s.net a.member.ops l.0) []) rule a.there in
+      let d = option_in (λ (word : Word2). map (hop_rule s e q l a.step a.member word) (s.path.next q a.member.link.0)) (first_word_over s.net a.member.ops l.0) rule c.1 in
       let f = map_in (hop_rule s e q l a.step a.member d.0) (s.path.next q a.member.link.0) rule d.2 in
       record {
         step = a.step;
@@ -134,14 +134,14 @@ module _ (s : Encoding) (k : IsEncoding s) where
       → In (s.path.next q n.member.link.0) r → labels_known s.net (top ∷ below) ≡ true → Ends s (OnLink n.member.link r) (stack h2) t os c → length t ≡ s.terms
       → (ops : List Op) → n.member.ops ≡ ops → After ops (top ∷ below) h2 → Ends s (OnLink e q) (stack (top ∷ below)) (plus (s.step_share e top.0 step) t) (Hop step ∷ os) (max 1 (length ops) + c)
   member_forward e q r top below h2 step n t os c u i known ends l [] is a =
-      let word_is : first_written s.net n.member.ops top.0.0 ≡ Some (One (suc top.0.0)) = rw is refl in
+      let word_is : first_word_over s.net n.member.ops top.0.0 ≡ Some (One (suc top.0.0)) = rw is refl in
       let none : length n.member.ops ≤ 1 = rw is (omega arith) in
       let rest : Ends s (on_way n.member (member_number s.net e top.0 step) 1 r) (stack (top ∷ below)) t os c = rw (gone s k n.member (member_number s.net e top.0 step) 1 r none) (subst (λ (x : List Entry). Ends s (OnLink n.member.link r) (stack x) t os c) (sym a) ends) in
       let one : max 1 (length {A = Op} []) + c ≡ suc c = omega arith in
       rw one (hop_rule s e q top.0 step n.member (One (suc top.0.0)) r, t, os, in_at e q top.0 step n (One (suc top.0.0)) r (top_label s top below known) u word_is i, rest, l, refl, refl)
   member_forward e q r top below h2 step n t os c u i known ends l (op ∷ ops) is a =
       let w : Wrote s.net op top below a.0 = wrote s.net op top below a.0 known a.1 in
-      let word_is : first_written s.net n.member.ops top.0.0 ≡ Some w.word = rw is w.word_is in
+      let word_is : first_word_over s.net n.member.ops top.0.0 ≡ Some w.word = rw is w.word_is in
       let first : slice_get n.member.ops 0 ≡ Some op = rw is refl in
       let others : drop 1 n.member.ops ≡ ops = rw is refl in
       let rest : Ends s (on_way n.member (member_number s.net e top.0 step) 1 r) (stack a.0) t os (length ops + c) =
@@ -207,7 +207,7 @@ module _ (s : Encoding) (k : IsEncoding s) where
         known = known;
       }
   member_backward e q top below rule u v c h known ends (op ∷ ops) is =
-      let word_is : written s.net op top.0.0 ≡ Some h.word = rw is at h.word_is in
+      let word_is : word_over s.net op top.0.0 ≡ Some h.word = rw is at h.word_is in
       let w : Did s.net op top below h.word = did s.net op top below h.word known word_is in
       let first : slice_get h.names.member.ops 0 ≡ Some op = rw is refl in
       let others : drop 1 h.names.member.ops ≡ ops = rw is refl in

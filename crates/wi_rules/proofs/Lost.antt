@@ -18,7 +18,7 @@ use Rattle.wi_world.specs.Runs.{work_before}
 use Rattle.wi_rules.specs.declared.spot.Origin.{Origin}
 use Rattle.wi_rules.specs.declared.spot.Spot.{Spot}
 use Rattle.wi_rules.specs.declared.spot.Spot.TheVariants.{Done, Close, Drop}
-use Rattle.wi_rules.specs.Rules.{Encoding, zeros, working, is_label, written, lost_by, lost_rules, rules_of, Accepts, IsEncoding}
+use Rattle.wi_rules.specs.Rules.{Encoding, zeros, working, is_label, word_over, lost_by, lost_rules, rules_of, Accepts, IsEncoding}
 use Rattle.wi_rules.proofs.Lists.{In, if_in, option_in, one_in, get_below, drop_get, drop_end, length_zeros}
 use Rattle.wi_rules.proofs.Ends.{Ends, stack, working_step, working_on}
 use Rattle.wi_rules.proofs.Ops.{Wrote, wrote, Did, did, Stuck, nothing_written, nothing_done}
@@ -31,14 +31,14 @@ use Rattle.wi_rules.proofs.Close.{Read, close_forward, close_backward}
 pub record Undone (net : Net) (ops : List Op) (i n : ℕ) (way : Spot × Word2) : Type 0 where
   pub op : Op
   pub op_is : slice_get ops i ≡ Some op
-  pub none : written net op n ≡ None
+  pub none : word_over net op n ≡ None
   pub way_is : ◌≡◌ {A = Spot × Word2} (Close 0, One (suc n)) way
 
 pub record Passed (net : Net) (ops : List Op) (m i n : ℕ) (way : Spot × Word2) : Type 0 where
   pub op : Op
   pub op_is : slice_get ops i ≡ Some op
   pub word : Word2
-  pub word_is : written net op n ≡ Some word
+  pub word_is : word_over net op n ≡ Some word
   pub more : suc i < length ops
   pub way_is : ◌≡◌ {A = Spot × Word2} (Drop m (suc i), word) way
 
@@ -47,12 +47,12 @@ lost_either net ops m i n way e = go (slice_get ops i) refl
   where
     go : (o : Option Op) → slice_get ops i ≡ o → Undone net ops i n way ⊎ Passed net ops m i n way
     go None f = let none : ◌≡◌ {A = Option (Spot × Word2)} None (Some way) = rw f at e in cc
-    go (Some op) f = writes (written net op n) refl
+    go (Some op) f = writes (word_over net op n) refl
       where
-        e1 : option_map_or (λ (word : Word2). if nat_lt (suc i) (length ops) then Some (Drop m (suc i), word) else None) (written net op n) (Some (Close 0, One (suc n))) ≡ Some way
+        e1 : option_map_or (λ (word : Word2). if nat_lt (suc i) (length ops) then Some (Drop m (suc i), word) else None) (word_over net op n) (Some (Close 0, One (suc n))) ≡ Some way
         e1 = rw f at e
 
-        writes : (w : Option Word2) → written net op n ≡ w → Undone net ops i n way ⊎ Passed net ops m i n way
+        writes : (w : Option Word2) → word_over net op n ≡ w → Undone net ops i n way ⊎ Passed net ops m i n way
         writes None g =
             let some : ◌≡◌ {A = Option (Spot × Word2)} (Some (Close 0, One (suc n))) (Some way) = rw g at e1 in
             let same : ◌≡◌ {A = Spot × Word2} (Close 0, One (suc n)) way = cc in
@@ -160,7 +160,7 @@ module _ (s : Encoding) (k : IsEncoding s) where
       undone : Undone s.net member.ops i top.0.0 way → Stopped (op ∷ rest) (top ∷ below) t os (suc n)
       undone u =
           let same : u.op ≡ op = (let some : Some u.op ≡ Some op = sym u.op_is ∙ at.0 in cc) in
-          let none : after_op op (top ∷ below) ≡ None = nothing_done s.net op top below known (subst (λ (x : Op). written s.net x top.0.0 ≡ None) same u.none) in
+          let none : after_op op (top ∷ below) ≡ None = nothing_done s.net op top below known (subst (λ (x : Op). word_over s.net x top.0.0 ≡ None) same u.none) in
           let closes : Ends s (Close 0) (stack (top ∷ below)) t os n = subst (λ (x : Spot × Word2). Ends s x.0 (symbols x.1 ++ stack below) t os n) (sym u.way_is) ends in
           let r : Read s 0 (top ∷ below) t os n = close_backward s (top ∷ below) 0 t os n closes in
           let read : n ≡ suc (length (top ∷ below)) = r.number in
@@ -172,7 +172,7 @@ module _ (s : Encoding) (k : IsEncoding s) where
           → Stopped (op ∷ rest) (top ∷ below) t os (suc n)
       passed p ih =
           let same : p.op ≡ op = (let some : Some p.op ≡ Some op = sym p.op_is ∙ at.0 in cc) in
-          let w : Did s.net op top below p.word = did s.net op top below p.word known (subst (λ (x : Op). written s.net x top.0.0 ≡ Some p.word) same p.word_is) in
+          let w : Did s.net op top below p.word = did s.net op top below p.word known (subst (λ (x : Op). word_over s.net x top.0.0 ≡ Some p.word) same p.word_is) in
           let on1 : Ends s (Drop m (suc i)) (symbols p.word ++ stack below) t os n = subst (λ (x : Spot × Word2). Ends s x.0 (symbols x.1 ++ stack below) t os n) (sym p.way_is) ends in
           let on2 : Ends s (Drop m (suc i)) (stack w.next) t os n = subst (λ (x : List ℕ). Ends s (Drop m (suc i)) x t os n) w.stack_is on1 in
           go w.next n w.next_is (w.known (op_of s k member m i op e at.0)) on2

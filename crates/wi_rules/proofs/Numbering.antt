@@ -19,7 +19,7 @@ use Rattle.wi_pds.specs.declared.rule.Word2.TheVariants.{Empty, One}
 use Rattle.wi_rules.specs.declared.spot.Origin.TheVariants.{SetOut}
 use Rattle.wi_rules.specs.declared.spot.Spot.{Spot}
 use Rattle.wi_rules.specs.declared.spot.Spot.TheVariants.{Start, Done, Build, Close, OnLink, Mid, Drop}
-use Rattle.wi_rules.specs.Rules.{Encoding, SpotRule, plain, working, pushing, written, member_number, on_way, may_build, build_rules, set_out_rules, entry_rules, lost_by, lost_rules, end_rules, on_link_rules, is_label, next_op_rules, rules_of, IsEncoding}
+use Rattle.wi_rules.specs.Rules.{Encoding, SpotRule, plain, working, pushing, word_over, member_number, on_way, may_build, build_rules, set_out_rules, entry_rules, lost_by, lost_rules, end_rules, on_link_rules, is_label, next_op_rules, rules_of, IsEncoding}
 use Rattle.wi_rules.specs.Numbers.{Layout, layout_of, number, dropping, amid, on_links, closing, building, spot_of, Fits}
 use Rattle.wi_rules.proofs.Lists.{In, in_contains, in_either, map_in, flat_in, filter_in, range_in, if_in, option_in, one_in, get_below, in_has}
 use Rattle.wi_rules.proofs.Members.{Kept, kept, all_count}
@@ -182,8 +182,8 @@ module _ (s : Encoding) (k : IsEncoding s) where
   rule_fits (Mid m (suc j) q) zero r f i = absurd i
   rule_fits (Mid m (suc j) q) (suc n) r f i =
       let a = option_in (next_op_rules s m (suc j) q n) (slice_get (all_members s.net.rows) m) r i in
-      let b = option_in (λ (op : Op). option_map_or (λ (word : Word2). working s m (suc j) (on_way a.0 m (suc (suc j)) q) word ∷ []) (written s.net op n) []) (slice_get a.0.ops (suc j)) r a.2 in
-      let c = option_in (λ (word : Word2). working s m (suc j) (on_way a.0 m (suc (suc j)) q) word ∷ []) (written s.net b.0 n) r b.2 in
+      let b = option_in (λ (op : Op). option_map_or (λ (word : Word2). working s m (suc j) (on_way a.0 m (suc (suc j)) q) word ∷ []) (word_over s.net op n) []) (slice_get a.0.ops (suc j)) r a.2 in
+      let c = option_in (λ (word : Word2). working s m (suc j) (on_way a.0 m (suc (suc j)) q) word ∷ []) (word_over s.net b.0 n) r b.2 in
       let some : 0 < suc (suc j) = omega arith in
       subst (λ (x : SpotRule). Fits (layout_of s) x.to) (one_in (working s m (suc j) (on_way a.0 m (suc (suc j)) q) c.0) r c.2) (on_way_fits a.0 m (suc (suc j)) q a.1 some f.3)
   rule_fits (Drop m zero) g r f i = absurd i

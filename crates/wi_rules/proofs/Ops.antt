@@ -11,7 +11,7 @@ use Rattle.wi_net.specs.Net.{Net, label_known, labels_known}
 use Rattle.wi_net.specs.Network.{op_known}
 use Rattle.wi_pds.specs.declared.rule.Word2.{Word2}
 use Rattle.wi_pds.specs.Runs.{symbols}
-use Rattle.wi_rules.specs.Rules.{word_of, written}
+use Rattle.wi_rules.specs.Rules.{word_of, word_over}
 use Rattle.wi_rules.proofs.Ends.{stack}
 
 pub same_class_is : (c d : Class) → same_class c d ≡ true → c ≡ d
@@ -41,7 +41,7 @@ effect_known net Pop top below o h = (and_parts (label_known net.classes top) (l
 -- one operation, on a header and on its stack
 pub record Wrote (net : Net) (op : Op) (top : Entry) (below next : List Entry) : Type 0 where
   pub word : Word2
-  pub word_is : written net op top.0.0 ≡ Some word
+  pub word_is : word_over net op top.0.0 ≡ Some word
   pub stack_is : symbols word ++ stack below ≡ stack next
   pub known : op_known net op ≡ true → labels_known net next ≡ true
 
@@ -70,7 +70,7 @@ pub record Did (net : Net) (op : Op) (top : Entry) (below : List Entry) (word : 
   pub stack_is : symbols word ++ stack below ≡ stack next
   pub known : op_known net op ≡ true → labels_known net next ≡ true
 
-pub did : (net : Net) (op : Op) (top : Entry) (below : List Entry) (word : Word2) → labels_known net (top ∷ below) ≡ true → written net op top.0.0 ≡ Some word → Did net op top below word
+pub did : (net : Net) (op : Op) (top : Entry) (below : List Entry) (word : Word2) → labels_known net (top ∷ below) ≡ true → word_over net op top.0.0 ≡ Some word → Did net op top below word
 did net op top below word k e = go (allowed op top.1) refl
   where
     class : slice_get net.classes top.0.0 ≡ Some top.1
@@ -92,17 +92,17 @@ did net op top below word k e = go (allowed op top.1) refl
         }
 
 -- an operation writes nothing just where it isn't defined
-pub nothing_written : (net : Net) (op : Op) (top : Entry) (below : List Entry) → labels_known net (top ∷ below) ≡ true → after_op op (top ∷ below) ≡ None → written net op top.0.0 ≡ None
+pub nothing_written : (net : Net) (op : Op) (top : Entry) (below : List Entry) → labels_known net (top ∷ below) ≡ true → after_op op (top ∷ below) ≡ None → word_over net op top.0.0 ≡ None
 nothing_written net op top below k e = go (allowed op top.1) refl
   where
     class : slice_get net.classes top.0.0 ≡ Some top.1
     class = class_known net.classes top (and_parts (label_known net.classes top) (labels_known net below) k).0
 
-    go : (b : Bool) → allowed op top.1 ≡ b → written net op top.0.0 ≡ None
+    go : (b : Bool) → allowed op top.1 ≡ b → word_over net op top.0.0 ≡ None
     go false a = rw class (rw a refl)
     go true a = let some : ◌≡◌ {A = Option (List Entry)} (Some (effect op top below)) None = rw a at e in cc
 
-pub nothing_done : (net : Net) (op : Op) (top : Entry) (below : List Entry) → labels_known net (top ∷ below) ≡ true → written net op top.0.0 ≡ None → after_op op (top ∷ below) ≡ None
+pub nothing_done : (net : Net) (op : Op) (top : Entry) (below : List Entry) → labels_known net (top ∷ below) ≡ true → word_over net op top.0.0 ≡ None → after_op op (top ∷ below) ≡ None
 nothing_done net op top below k e = go (allowed op top.1) refl
   where
     class : slice_get net.classes top.0.0 ≡ Some top.1

@@ -94,13 +94,13 @@ word_of (Push l c) g = Two (suc l.0) g
 word_of Pop g = Empty
 
 -- what it writes over a label, where it is defined there
-abbrev pub written : Net → Op → ℕ → Option Word2
-written net op n = option_and_then (λ class. if allowed op class then Some (word_of op (suc n)) else None) (slice_get net.classes n)
+abbrev pub word_over : Net → Op → ℕ → Option Word2
+word_over net op n = option_and_then (λ class. if allowed op class then Some (word_of op (suc n)) else None) (slice_get net.classes n)
 
 -- what a member's first operation writes over a label; the label itself, where there is none
-abbrev pub first_written : Net → List Op → ℕ → Option Word2
-first_written net [] n = Some (One (suc n))
-first_written net (op ∷ ops) n = written net op n
+abbrev pub first_word_over : Net → List Op → ℕ → Option Word2
+first_word_over net [] n = Some (One (suc n))
+first_word_over net (op ∷ ops) n = word_over net op n
 
 -- the number of a member of an entry among all members of the tables
 abbrev pub member_number : Net → LinkId → Label → Step → ℕ
@@ -123,7 +123,7 @@ hop_rules s e q l step member =
       word = word;
       share = s.step_share e l step;
       origin = Hop step;
-    }) (s.path.next q member.link.0)) (first_written s.net member.ops l.0) []
+    }) (s.path.next q member.link.0)) (first_word_over s.net member.ops l.0) []
     else []
 
 -- what groups have for each of their members
@@ -146,7 +146,7 @@ inactive_rules s e l =
 abbrev pub lost_by : Net → List Op → ℕ → ℕ → ℕ → Option (Spot × Word2)
 lost_by net ops m i n =
     option_and_then (λ op. option_map_or (λ word. if nat_lt (suc i) (length ops) then Some (Drop m (suc i), word) else None)
-    (written net op n) (Some (Close 0, One (suc n)))) (slice_get ops i)
+    (word_over net op n) (Some (Close 0, One (suc n)))) (slice_get ops i)
 
 -- the rule for a packet that is dropped on the way through a member, by its first operation
 abbrev pub undefined_rules : Encoding → LinkId → Label → Step → Member → List SpotRule
@@ -169,7 +169,7 @@ end_rules s e l =
 -- the rule for a member's next operation
 abbrev pub next_op_rules : Encoding → ℕ → ℕ → ℕ → ℕ → Member → List SpotRule
 next_op_rules s m i q n member =
-    option_map_or (λ op. option_map_or (λ word. working s m i (on_way member m (suc i) q) word ∷ []) (written s.net op n) []) (slice_get member.ops i) []
+    option_map_or (λ op. option_map_or (λ word. working s m i (on_way member m (suc i) q) word ∷ []) (word_over s.net op n) []) (slice_get member.ops i) []
 
 -- a label may be pushed on a symbol where a header is made from the bottom up
 abbrev pub may_build : Net → ℕ → ℕ → Bool

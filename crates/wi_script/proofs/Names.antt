@@ -6,8 +6,7 @@ use Rattle.std.proofs.lemmas.Bool.Decides.{nat_tests}
 use Rattle.std.proofs.lemmas.List.{append_assoc, take-append-drop, take_at, drop_at}
 use Rattle.std.proofs.lemmas.List.Folds.{length-prefix_len}
 use Rattle.std.proofs.lemmas.Option.{none-some, same_Some, cond_some, option_and_then_some}
-use Rattle.wi_net.specs.Names.{is_name_byte}
-use Rattle.wi_text.specs.Characters.{is_plain, begins_with}
+use Rattle.wi_text.specs.Characters.{is_name_byte, is_plain, begins_with}
 use Rattle.wi_script.specs.Lines.{Name, Joint, name_bytes, joint_bytes, is_name, is_joint}
 use Rattle.wi_script.specs.private.Reading.{past, until, quoted, quoted_in, plain_in, name_in, joint_in}
 use Rattle.wi_script.proofs.Fronts.{past_some, until_on, until_some, all_other, prefix_on, prefix_all}

@@ -9,8 +9,7 @@
 use Rattle.std.specs.Prelude.{◌≡◌, ℕ, Bool, true, ◌&&◌, not, nat_lt, codes, if◌then◌else◌, List, [], ◌∷◌, ◌++◌, length}
 use Rattle.std.specs.List.{list_all}
 use Rattle.std.specs.Str.{IsUtf8, bytes_eq}
-use Rattle.wi_net.specs.Names.{is_name_byte}
-use Rattle.wi_text.specs.Characters.{is_plain_name, is_number}
+use Rattle.wi_text.specs.Characters.{is_name_byte, is_plain_name, is_number}
 
 -- a name as it is written: whether it stands between quotation marks, and its bytes without these
 pub record Name : Type 0 where

@@ -1,15 +1,14 @@
 //! The form of a line is read before the network is asked, since a fault of form is told before an unknown name. Names and
 //! numbers are lent by the line: only the list of labels of a first line takes memory.
 ghost use Rattle.std.specs.Prelude.{◌≡◌, ◌<◌, ℕ, List, length, IfOk, option_map};
-ghost use Rattle.std.specs.List.{list_all, prefix_len};
-ghost use Rattle.wi_net.specs.Names.{is_name_byte};
+ghost use Rattle.std.specs.List.{prefix_len};
 ghost use Rattle.wi_text.specs.Characters.{is_plain};
 ghost use Rattle.wi_script.specs.Lines.{Name, Joint, is_count};
 ghost use Rattle.wi_script.specs.private.Reading.{event_in, hop_in, joint_in, joint_of, label_in, labels_in, line_of, name_in, name_of, names_of, past, placed_in, plain_in, quoted_in, start_in, start_of, until, whole_in};
 
 use std::alloc::Global;
 use wi_base::NoMemory;
-use wi_text::{is_number, is_plain};
+use wi_text::{are_name_bytes, is_number, is_plain};
 
 /// A name as it is written.
 #[derive(Clone, Copy)]
@@ -187,15 +186,6 @@ fn quoted_name<'a>(text: &'a str) -> Option<(WrittenName<'a>, &'a str)>
         return None;
     }
     Some((WrittenName::Quoted(name), rest))
-}
-
-// Neither control characters nor quotation marks.
-fn are_name_bytes(bytes: &[u8]) -> bool
-    ensures { result ≡ list_all is_name_byte bytes.now }
-{
-    bytes
-        .iter()
-        .all(|byte| *byte >= 32 && *byte != 127 && *byte != b'"')
 }
 
 // The plain name that a text begins with, of as many characters as are plain, and what follows.

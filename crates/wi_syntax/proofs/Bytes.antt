@@ -6,8 +6,7 @@ use Rattle.std.specs.List.{list_all}
 use Rattle.std.proofs.lemmas.Bool.{and_parts, false_from_ne_true, lt-ltb, ltb-true}
 use Rattle.std.proofs.lemmas.Bool.Decides.{nat_tests}
 use Rattle.std.proofs.lemmas.List.{append_assoc, append-nil, length-append}
-use Rattle.wi_net.specs.Names.{is_name_byte}
-use Rattle.wi_text.specs.Characters.{is_space, is_plain, is_plain_name, begins_with}
+use Rattle.wi_text.specs.Characters.{is_name_byte, is_space, is_plain, is_plain_name, begins_with}
 use Rattle.wi_text.specs.Spelling.{Spells}
 use Rattle.wi_syntax.specs.Names.{Named}
 use Rattle.wi_syntax.specs.declared.token.Mark.{Mark}

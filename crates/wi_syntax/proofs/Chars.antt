@@ -8,8 +8,7 @@ use Rattle.std.proofs.lemmas.Bool.{and_from, cases_lt, cond_both, false_from_ne_
 use Rattle.std.proofs.lemmas.Bool.Decides.{nat_tests}
 use Rattle.std.proofs.lemmas.List.{append-nil}
 use Rattle.std.proofs.lemmas.Str.{encode_ascii}
-use Rattle.wi_net.specs.Names.{is_name_byte}
-use Rattle.wi_text.specs.Characters.{is_space, is_plain}
+use Rattle.wi_text.specs.Characters.{is_name_byte, is_space, is_plain}
 use Rattle.wi_syntax.specs.Names.{Named}
 use Rattle.wi_syntax.specs.declared.token.Token.TheVariants as token
 use Rattle.wi_syntax.specs.Grammar.{plain}

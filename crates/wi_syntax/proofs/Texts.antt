@@ -7,8 +7,7 @@ use Rattle.std.specs.Str.{IsCharBoundary, IsUtf8}
 use Rattle.std.proofs.lemmas.Str.{length-encode}
 use Rattle.std.proofs.lemmas.Str.{IsCharBoundary-start, IsCharBoundary-end, IsCharBoundary-past_char, IsUtf8-drop}
 use Rattle.std.proofs.lemmas.List.{append-nil, append_assoc, length-append, nil_from_length}
-use Rattle.wi_net.specs.Names.{is_name_byte}
-use Rattle.wi_text.specs.Characters.{is_plain, is_space}
+use Rattle.wi_text.specs.Characters.{is_name_byte, is_plain, is_space}
 use Rattle.wi_text.specs.Prefixes.{IsFaultAt}
 use Rattle.wi_text.specs.private.Machines.{at_end, goes_on, first_stop}
 use Rattle.wi_text.proofs.Stops.{fault_at}

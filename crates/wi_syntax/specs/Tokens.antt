@@ -1,8 +1,7 @@
 -- The tokens of a query.
 use Rattle.std.specs.Prelude.{◌≡◌, ℕ, Bool, true, ◌&&◌, not, nat_lt, List, [], ◌∷◌, ◌++◌, length, if◌then◌else◌}
 use Rattle.std.specs.List.{list_all}
-use Rattle.wi_net.specs.Names.{is_name_byte}
-use Rattle.wi_text.specs.Characters.{is_plain, is_plain_name, begins_with}
+use Rattle.wi_text.specs.Characters.{is_name_byte, is_plain, is_plain_name, begins_with}
 use Rattle.wi_text.specs.Spelling.{Spells}
 use Rattle.wi_syntax.specs.Names.{Named}
 use Rattle.wi_syntax.specs.declared.token.Mark.{Mark}

@@ -25,6 +25,10 @@ begins_with p (b ∷ rest) = p b
 abbrev pub is_plain_name : List ℕ → Bool
 is_plain_name s = nat_lt 0 (length s) && list_all is_plain s
 
+-- neither a control character nor a quotation mark
+abbrev pub is_name_byte : ℕ → Bool
+is_name_byte b = nat_le 32 b && (not (b == 127) && not (b == 34))
+
 -- a number as it is written: `0`, or a digit 1 to 9 and digits. Its value is what std's `digits_value 10` gives.
 abbrev pub is_number : List ℕ → Bool
 is_number [] = false

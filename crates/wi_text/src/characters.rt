@@ -2,7 +2,7 @@
 //! names need quotation marks. All tests are over ASCII, so that they can be asked of a byte of a text as well.
 ghost use Rattle.std.specs.Prelude.{◌≡◌};
 ghost use Rattle.std.specs.List.{list_all};
-ghost use Rattle.wi_text.specs.Characters.{is_space, is_digit, is_letter, is_plain, is_plain_name, is_number};
+ghost use Rattle.wi_text.specs.Characters.{is_space, is_digit, is_letter, is_plain, is_plain_name, is_name_byte, is_number};
 
 /// A space, a tab, a carriage return or a line feed. It takes no memory.
 pub fn is_space(character: char) -> bool
@@ -37,6 +37,19 @@ fn are_plain(bytes: &[u8]) -> bool
     ensures { result ≡ list_all is_plain bytes.now }
 {
     bytes.iter().all(|byte| is_plain(char::from(*byte)))
+}
+
+/// Whether bytes are such as any name may have: neither control characters nor quotation marks. It takes no memory.
+pub fn are_name_bytes(bytes: &[u8]) -> bool
+    ensures { result ≡ list_all is_name_byte bytes.now }
+{
+    bytes.iter().all(|b| is_name_byte(*b))
+}
+
+fn is_name_byte(byte: u8) -> bool
+    ensures { result ≡ is_name_byte byte }
+{
+    32 <= byte && (byte != 127 && byte != 34)
 }
 
 /// Whether a text is a number: `0`, or a digit 1 to 9 and digits. It takes no memory.

@@ -5,6 +5,6 @@ mod characters;
 mod lines;
 mod text;
 
-pub use characters::{is_letter, is_number, is_plain, is_plain_name, is_space};
+pub use characters::{are_name_bytes, is_letter, is_number, is_plain, is_plain_name, is_space};
 pub use lines::next_line;
 pub use text::Text;

@@ -2,7 +2,7 @@
 use Rattle.std.specs.Prelude.{◌≡◌, ℕ, ◌<◌, Bool, true, not, ◌&&◌, ◌==◌, nat_lt, List, slice_get, Option, Some, None, map, find}
 use Rattle.std.specs.List.{All, list_any}
 use Rattle.wi_cert.specs.declared.row.Row.{Row}
-use Rattle.wi_accept.specs.Needs.{pairs_of}
+use Rattle.wi_accept.specs.Followers.{pairs_of}
 
 -- each stands below those after it
 abbrev pub Rises : {A : Type 0} → (A → A → Bool) → List A → Type 0

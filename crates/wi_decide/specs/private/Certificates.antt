@@ -7,11 +7,11 @@ use Rattle.wi_saturate.specs.declared.row.Row as settled
 use Rattle.wi_saturate.specs.Rows.{TableView}
 use Rattle.wi_build.specs.Systems.{scale}
 use Rattle.wi_cert.specs.declared.row.Row.{Row}
-use Rattle.wi_decide.specs.Showing.{Weight, written}
+use Rattle.wi_decide.specs.Showing.{Weight, shown_weight}
 
 -- a row with so many terms in its weight
 abbrev pub row_by : ℕ → settled.Row Weight → Row
-row_by terms r = record { p = r.p; g = r.g; q = r.q; weight = written terms r.weight }
+row_by terms r = record { p = r.p; g = r.g; q = r.q; weight = shown_weight terms r.weight }
 
 -- each component of its weight is at most 2^64 - 1
 abbrev pub IsFitting : settled.Row Weight → Type 0

@@ -70,15 +70,15 @@ grouped None = None
 grouped (Some t) = Some (Grouped t)
 
 -- `)`
-abbrev pub closed : {A : Type 0} → TreeFrame A → List (TreeFrame A) → TreeReading A
-closed f [] = record { current = f; outer = [] }
-closed f (g ∷ gs) = record { current = with_item g (grouped (finished f)); outer = gs }
+abbrev pub after_bracket : {A : Type 0} → TreeFrame A → List (TreeFrame A) → TreeReading A
+after_bracket f [] = record { current = f; outer = [] }
+after_bracket f (g ∷ gs) = record { current = with_item g (grouped (finished f)); outer = gs }
 
 -- what a sign makes of what was read so far
 abbrev pub after_sign : {A : Type 0} → TreeReading A → Sign A → TreeReading A
 after_sign r (sign.Atom a) = record { current = with_item r.current (Some (Leaf a)); outer = r.outer }
 after_sign r sign.Open = record { current = empty_frame; outer = r.current ∷ r.outer }
-after_sign r sign.Close = closed r.current r.outer
+after_sign r sign.Close = after_bracket r.current r.outer
 after_sign r sign.Or = record { current = with_bar r.current; outer = r.outer }
 after_sign r sign.Star = record { current = with_repeat repeat.Star r.current; outer = r.outer }
 after_sign r sign.Plus = record { current = with_repeat repeat.Plus r.current; outer = r.outer }
@@ -96,15 +96,15 @@ abbrev pub SetTree : Type 0
 SetTree = Tree SymbolMarks
 
 -- the program's frames are those
-abbrev pub IsPart : Option SetTree → Option (Regex SymbolMarks) → Type 0
-IsPart None None = Unit {0}
-IsPart (Some t) (Some r) = IsRegexOf holds t r
-IsPart t r = ⊥
+abbrev pub IsOperand : Option SetTree → Option (Regex SymbolMarks) → Type 0
+IsOperand None None = Unit {0}
+IsOperand (Some t) (Some r) = IsRegexOf holds t r
+IsOperand t r = ⊥
 
 pub record IsFrame (f : TreeFrame SymbolMarks) (g : Frame) : Type 0 where
-  pub alternatives : IsPart f.alternatives g.alternatives
-  pub sequence : IsPart f.sequence g.sequence
-  pub item : IsPart f.item g.item
+  pub alternatives : IsOperand f.alternatives g.alternatives
+  pub sequence : IsOperand f.sequence g.sequence
+  pub item : IsOperand f.item g.item
 
 -- a stack of them, whose top is its last
 abbrev pub AreFrames : List (TreeFrame SymbolMarks) → List Frame → Type 0

@@ -1,8 +1,7 @@
 -- How a line is read by its form, from the left.
 use Rattle.std.specs.Prelude.{ℕ, zero, suc, ◌==◌, ◌&&◌, nat_lt, true, false, List, [], ◌∷◌, length, codes, take, drop, map, if◌then◌else◌, Option, Some, None, option_map, option_and_then}
 use Rattle.std.specs.List.{list_all, prefix_len}
-use Rattle.wi_net.specs.Names.{is_name_byte}
-use Rattle.wi_text.specs.Characters.{is_plain}
+use Rattle.wi_text.specs.Characters.{is_name_byte, is_plain}
 use Rattle.wi_script.specs.declared.line.WrittenName.{WrittenName}
 use Rattle.wi_script.specs.declared.line.WrittenName.TheVariants as name
 use Rattle.wi_script.specs.declared.line.WrittenJoint.{WrittenJoint}

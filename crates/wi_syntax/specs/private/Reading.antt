@@ -4,8 +4,7 @@ use Rattle.std.specs.Option.{option_map, option_and_then}
 use Rattle.std.specs.Str.{bytes_eq, IsCharBoundary}
 use Rattle.wi_text.specs.private.Machines.{first_stop}
 use Rattle.std.specs.Char.{encode_utf8, is_ascii_control}
-use Rattle.wi_net.specs.Names.{is_name_byte}
-use Rattle.wi_text.specs.Characters.{is_space, is_plain, is_number}
+use Rattle.wi_text.specs.Characters.{is_name_byte, is_space, is_plain, is_number}
 use Rattle.wi_syntax.specs.Names.{Named}
 use Rattle.wi_syntax.specs.Grammar.{plain}
 use Rattle.wi_syntax.specs.declared.token.Mark.{Mark}

@@ -13,6 +13,6 @@ lack_by_rules-lack-requires-clause-small c =
 
 pub returns-clause-demand : goal.returns-clause-demand
 returns-clause-demand c =
-    subst (λ rules. IfOk c.lack_by_rules-lack.result (λ lack. lack.need ≡ None → option_map demanded lack.demand
+    subst (λ rules. IfOk c.lack_by_rules-lack.result (λ lack. lack.follower ≡ None → option_map demanded lack.demand
     ≡ option_or (option_map demanded c.args.before) (find (is_open_in c.args.rows c.args.bound) (demands_at components (summaries c.args.rows) c.args.head.0 c.args.head.1 rules))))
     (c.as_slice.ensures.value ∙ c.in_ok-rules.ensures) c.lack_by_rules-lack.ensures.demand

@@ -1,6 +1,6 @@
 use Rattle.std.proofs.Common.{rules}
 use Rattle.wi_check.proofs.Absent.{rises_kept}
-use Rattle.wi_check.proofs.Needed.{one_found, two_found}
+use Rattle.wi_check.proofs.Followed.{one_found, two_found}
 use Rattle.wi_check.proofs.heads.missing_by_rule.Goals as goal
 
 pub missing_head-requires-clause-below : goal.missing_head-requires-clause-below

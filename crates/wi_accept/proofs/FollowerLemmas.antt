@@ -1,4 +1,4 @@
--- Heads and pairs lead on from a rule just where they lack nothing that it needs.
+-- Heads and pairs lead on from a rule just where they lack nothing that follows from it.
 use Rattle.std.specs.Prelude.{◌≡◌, ℕ, false, not, ◌&&◌, ◌==◌, List, Contains, refl}
 use Rattle.std.proofs.Common.{ap, ◌∙◌, subst, inl, inr}
 use Rattle.std.proofs.lemmas.Bool.{not-false, eqb-true, eq-eqb}
@@ -6,9 +6,9 @@ use Rattle.wi_pds.specs.declared.rule.Word2.{Word2}
 use Rattle.wi_pds.specs.declared.rule.Word2.TheVariants.{Empty, One, Two}
 use Rattle.wi_pds.specs.Closed.{Leads}
 use Rattle.wi_rules.proofs.Lists.{In, contains_in, in_contains, in_map, map_in, in_filter, filter_in}
-use Rattle.wi_accept.specs.declared.need.Need.{Need}
-use Rattle.wi_accept.specs.declared.need.Need.TheVariants.{Head, Pair}
-use Rattle.wi_accept.specs.Needs.{is_listed, pairs_of, needs, is_missing}
+use Rattle.wi_accept.specs.declared.follower.Follower.{Follower}
+use Rattle.wi_accept.specs.declared.follower.Follower.TheVariants.{Head, Pair}
+use Rattle.wi_accept.specs.Followers.{is_listed, pairs_of, followers, is_missing}
 use Rattle.wi_accept.proofs.Finding.{any_in, in_any, both_equal, equal_both}
 
 pub listed : (xs : List (ℕ × ℕ)) (a b : ℕ) → not (is_listed xs a b) ≡ false → Contains xs (a, b)
@@ -31,7 +31,7 @@ is_below pairs g x h =
     let k = filter_in (λ (y : ℕ × ℕ). y.0 == g) pairs x h in
     in_contains pairs (g, x.1) (subst (In pairs) (ap (λ n. (n, x.1)) (eqb-true x.0 g k.1)) k.0)
 
-pub leads : (heads pairs : List (ℕ × ℕ)) (g to : ℕ) (w : Word2) → ((n : Need) → In (needs pairs g to w) n → is_missing heads pairs n ≡ false) → Leads heads pairs g to w
+pub leads : (heads pairs : List (ℕ × ℕ)) (g to : ℕ) (w : Word2) → ((n : Follower) → In (followers pairs g to w) n → is_missing heads pairs n ≡ false) → Leads heads pairs g to w
 leads heads pairs g to Empty h = λ x at. listed heads to x (h (Head to x) (in_map (λ (y : ℕ × ℕ). Head to y.1) (pairs_of pairs g) (g, x) (below pairs g x at)))
 leads heads pairs g to (One u) h = (
   listed heads to u (h (Head to u) (inl refl)),
@@ -43,7 +43,7 @@ leads heads pairs g to (Two u v) h = (
   λ x at. listed pairs v x (h (Pair v x) (inr (inr (in_map (λ (y : ℕ × ℕ). Pair v y.1) (pairs_of pairs g) (g, x) (below pairs g x at))))),
 )
 
-pub given : (heads pairs : List (ℕ × ℕ)) (g to : ℕ) (w : Word2) → Leads heads pairs g to w → (n : Need) → In (needs pairs g to w) n → is_missing heads pairs n ≡ false
+pub given : (heads pairs : List (ℕ × ℕ)) (g to : ℕ) (w : Word2) → Leads heads pairs g to w → (n : Follower) → In (followers pairs g to w) n → is_missing heads pairs n ≡ false
 given heads pairs g to Empty h n i =
     let k = map_in (λ (x : ℕ × ℕ). Head to x.1) (pairs_of pairs g) n i in
     subst (λ n. is_missing heads pairs n ≡ false) k.2 (not_lacking heads to k.0.1 (h k.0.1 (is_below pairs g k.0 k.1)))

@@ -2,7 +2,7 @@
 use Rattle.std.proofs.Common.{refl}
 use Rattle.wi_query.specs.private.Frames.{finished, grouped}
 use Rattle.wi_query.proofs.Stacks.{grouped_part, frames_closed}
-use Rattle.wi_query.proofs.tree.Reading.closed.Goals as goal
+use Rattle.wi_query.proofs.tree.Reading.after_bracket.Goals as goal
 
 pub returns : goal.returns
 returns c t read =

@@ -1,8 +1,8 @@
 //! Heads and pairs are asked for in one order, so one type has both.
 
-/// A head or a pair that closed heads and pairs must have.
+/// A head or a pair that follows from a rule of a head: closed heads and pairs have it, too.
 #[derive(Clone, Copy, Debug, PartialEq, Eq)]
-pub enum Need {
+pub enum Follower {
     /// A spot, with the symbol that may be on top there.
     Head(u64, u32),
     /// A symbol, with one that may stand right below it.

@@ -1,4 +1,4 @@
--- What a rule needs that isn't listed, by the first symbol that a walk misses; and symbols of which it was noted that none is missing.
+-- What follows from a rule and isn't listed, by the first symbol that a walk misses; and symbols of which it was noted that none is missing.
 use Rattle.std.specs.Prelude.{◌≡◌, ℕ, Bool, true, false, not, ◌||◌, ◌==◌, List, [], ◌∷◌, Option, None, refl, map, find, option_map, Result, IfOk, ◌&&◌}
 use Rattle.std.specs.Bool.{MatchBool}
 use Rattle.std.specs.List.{list_any}
@@ -10,9 +10,9 @@ use Rattle.std.proofs.lemmas.List.Sorted.{All-permutation}
 use Rattle.wi_base.proofs.Cases.{by_test}
 use Rattle.wi_pds.specs.declared.rule.Word2.{Word2}
 use Rattle.wi_pds.specs.declared.rule.Word2.TheVariants.{One, Two}
-use Rattle.wi_accept.specs.declared.need.Need.{Need}
-use Rattle.wi_accept.specs.declared.need.Need.TheVariants.{Head, Pair}
-use Rattle.wi_accept.specs.Needs.{is_listed, pairs_of, needs, is_missing}
+use Rattle.wi_accept.specs.declared.follower.Follower.{Follower}
+use Rattle.wi_accept.specs.declared.follower.Follower.TheVariants.{Head, Pair}
+use Rattle.wi_accept.specs.Followers.{is_listed, pairs_of, followers, is_missing}
 use Rattle.wi_check.specs.private.Lists.{has_symbol, first_absent, IsWhole, AreWhole}
 use Rattle.wi_check.proofs.Absent.{own_present, none_absent}
 
@@ -23,7 +23,7 @@ any_kept a g (x ∷ xs) = by_test (x.0 == a)
     (λ (e : (x.0 == a) ≡ true). rw e (ap (λ b. (x.1 == g) || b) (any_kept a g xs)))
     (λ (e : (x.0 == a) ≡ false). rw e (any_kept a g xs))
 
-absent_from : (make : ℕ → Need) (is_missing : Need → Bool) (listed : List (ℕ × ℕ)) → ((g : ℕ) → not (has_symbol listed g) ≡ is_missing (make g)) → (wanted : List (ℕ × ℕ))
+absent_from : (make : ℕ → Follower) (is_missing : Follower → Bool) (listed : List (ℕ × ℕ)) → ((g : ℕ) → not (has_symbol listed g) ≡ is_missing (make g)) → (wanted : List (ℕ × ℕ))
     → option_map make (first_absent wanted listed) ≡ find is_missing (map (λ x. make x.1) wanted)
 absent_from make is_missing listed same [] = refl
 absent_from make is_missing listed same (w ∷ ws) = rw (same w.1) (by_test (is_missing (make w.1))
@@ -31,32 +31,32 @@ absent_from make is_missing listed same (w ∷ ws) = rw (same w.1) (by_test (is_
     (λ (e : is_missing (make w.1) ≡ false). rw e (absent_from make is_missing listed same ws)))
 
 -- the first head of a spot, or pair of an upper symbol, that isn't listed
-needed : (make : ℕ → Need) (is_missing : Need → Bool) (listed those below : List (ℕ × ℕ)) (o : Option ℕ) → ((g : ℕ) → not (has_symbol listed g) ≡ is_missing (make g)) → those ≡ listed
+followed : (make : ℕ → Follower) (is_missing : Follower → Bool) (listed those below : List (ℕ × ℕ)) (o : Option ℕ) → ((g : ℕ) → not (has_symbol listed g) ≡ is_missing (make g)) → those ≡ listed
     → o ≡ first_absent below those → option_map make o ≡ find is_missing (map (λ x. make x.1) below)
-needed make is_missing listed those below o same are found = ap (option_map make) (found ∙ ap (first_absent below) are) ∙ absent_from make is_missing listed same below
+followed make is_missing listed those below o same are found = ap (option_map make) (found ∙ ap (first_absent below) are) ∙ absent_from make is_missing listed same below
 
-pub needed_heads : (heads pairs those below : List (ℕ × ℕ)) (to : ℕ) (o : Option ℕ) → those ≡ pairs_of heads to → o ≡ first_absent below those
+pub followed_heads : (heads pairs those below : List (ℕ × ℕ)) (to : ℕ) (o : Option ℕ) → those ≡ pairs_of heads to → o ≡ first_absent below those
     → option_map (Head to) o ≡ find (is_missing heads pairs) (map (λ x. Head to x.1) below)
-needed_heads heads pairs those below to o are found = needed (Head to) (is_missing heads pairs) (pairs_of heads to) those below o (λ g. ap not (any_kept to g heads)) are found
+followed_heads heads pairs those below to o are found = followed (Head to) (is_missing heads pairs) (pairs_of heads to) those below o (λ g. ap not (any_kept to g heads)) are found
 
-pub needed_pairs : (heads pairs those below : List (ℕ × ℕ)) (u : ℕ) (o : Option ℕ) → those ≡ pairs_of pairs u → o ≡ first_absent below those
+pub followed_pairs : (heads pairs those below : List (ℕ × ℕ)) (u : ℕ) (o : Option ℕ) → those ≡ pairs_of pairs u → o ≡ first_absent below those
     → option_map (Pair u) o ≡ find (is_missing heads pairs) (map (λ x. Pair u x.1) below)
-needed_pairs heads pairs those below u o are found = needed (Pair u) (is_missing heads pairs) (pairs_of pairs u) those below o (λ g. ap not (any_kept u g pairs)) are found
+followed_pairs heads pairs those below u o are found = followed (Pair u) (is_missing heads pairs) (pairs_of pairs u) those below o (λ g. ap not (any_kept u g pairs)) are found
 
 same_key : (g u : ℕ) (key : ℕ × ℕ) → (g == key.0 && u == key.1) ≡ true → (g ≡ key.0) × (u ≡ key.1)
 same_key g u key same = grind (arith, nat_tests)
 
--- the first that a rule needs and that isn't listed, where the head and the pair of its word are listed
-module _ {E : Type 0} (heads pairs below : List (ℕ × ℕ)) (g to u v : ℕ) (word : Word2) (r : Result (Option Need) E) (head : true ≡ is_listed heads to u) (are : below ≡ pairs_of pairs g) where
-  pub one_found : word ≡ One u → IfOk r (λ found. found ≡ find (is_missing heads pairs) (map (λ x. Pair u x.1) below)) → IfOk r (λ found. found ≡ find (is_missing heads pairs) (needs pairs g to word))
+-- the first that follows from a rule and isn't listed, where the head and the pair of its word are listed
+module _ {E : Type 0} (heads pairs below : List (ℕ × ℕ)) (g to u v : ℕ) (word : Word2) (r : Result (Option Follower) E) (head : true ≡ is_listed heads to u) (are : below ≡ pairs_of pairs g) where
+  pub one_found : word ≡ One u → IfOk r (λ found. found ≡ find (is_missing heads pairs) (map (λ x. Pair u x.1) below)) → IfOk r (λ found. found ≡ find (is_missing heads pairs) (followers pairs g to word))
   one_found is found =
-      let same : find (is_missing heads pairs) (map (λ x. Pair u x.1) below) ≡ find (is_missing heads pairs) (needs pairs g to word) = rw (is, ← head, are) refl in
+      let same : find (is_missing heads pairs) (map (λ x. Pair u x.1) below) ≡ find (is_missing heads pairs) (followers pairs g to word) = rw (is, ← head, are) refl in
       subst (λ x. IfOk r (λ found. found ≡ x)) same found
 
   pub two_found : word ≡ Two u v → true ≡ is_listed pairs u v → IfOk r (λ found. found ≡ find (is_missing heads pairs) (map (λ x. Pair v x.1) below))
-      → IfOk r (λ found. found ≡ find (is_missing heads pairs) (needs pairs g to word))
+      → IfOk r (λ found. found ≡ find (is_missing heads pairs) (followers pairs g to word))
   two_found is pair found =
-      let same : find (is_missing heads pairs) (map (λ x. Pair v x.1) below) ≡ find (is_missing heads pairs) (needs pairs g to word) = rw (is, ← head, ← pair, are) refl in
+      let same : find (is_missing heads pairs) (map (λ x. Pair v x.1) below) ≡ find (is_missing heads pairs) (followers pairs g to word) = rw (is, ← head, ← pair, are) refl in
       subst (λ x. IfOk r (λ found. found ≡ x)) same found
 
 module _ (pairs : List (ℕ × ℕ)) (g u : ℕ) where
@@ -76,13 +76,13 @@ module _ (pairs : List (ℕ × ℕ)) (g u : ℕ) where
   put_whole keys news false one put all = subst (AreWhole pairs) (sym put) all
 
   module _ (heads below : List (ℕ × ℕ)) (are : below ≡ pairs_of pairs g) where
-    whole_needs : IsWhole pairs g u → None ≡ find (is_missing heads pairs) (map (λ x. Pair u x.1) below)
-    whole_needs whole = needed_pairs heads pairs (pairs_of pairs u) below u None refl (sym whole ∙ ap (λ b. first_absent b (pairs_of pairs u)) (sym are))
+    whole_followers : IsWhole pairs g u → None ≡ find (is_missing heads pairs) (map (λ x. Pair u x.1) below)
+    whole_followers whole = followed_pairs heads pairs (pairs_of pairs u) below u None refl (sym whole ∙ ap (λ b. first_absent b (pairs_of pairs u)) (sym are))
 
     -- none is missing where both are the same symbol
-    pub own_needs : u ≡ g → None ≡ find (is_missing heads pairs) (map (λ x. Pair u x.1) below)
-    own_needs same = whole_needs (rw same (none_absent (pairs_of pairs g) (pairs_of pairs g) (own_present (pairs_of pairs g))))
+    pub own_followers : u ≡ g → None ≡ find (is_missing heads pairs) (map (λ x. Pair u x.1) below)
+    own_followers same = whole_followers (rw same (none_absent (pairs_of pairs g) (pairs_of pairs g) (own_present (pairs_of pairs g))))
 
     -- nor is any where it was noted that none is
-    pub seen_needs : (keys : List (ℕ × ℕ)) (seen : Bool) → seen ≡ list_any (λ key. g == key.0 && u == key.1) keys → seen ≡ true → AreWhole pairs keys → None ≡ find (is_missing heads pairs) (map (λ x. Pair u x.1) below)
-    seen_needs keys seen is noted all = whole_needs (seen_whole (λ key. g == key.0 && u == key.1) keys (λ key same. same_key g u key same) (sym is ∙ noted) all)
+    pub seen_followers : (keys : List (ℕ × ℕ)) (seen : Bool) → seen ≡ list_any (λ key. g == key.0 && u == key.1) keys → seen ≡ true → AreWhole pairs keys → None ≡ find (is_missing heads pairs) (map (λ x. Pair u x.1) below)
+    seen_followers keys seen is noted all = whole_followers (seen_whole (λ key. g == key.0 && u == key.1) keys (λ key same. same_key g u key same) (sym is ∙ noted) all)

@@ -8,16 +8,17 @@ use std::process::Abort;
 use std::test::Fail;
 use wi_base::{Listed, NoMemory};
 use wi_build::Problem;
+use wi_faults::{
+    network_fault_text, overflow_text, query_fault_text, script_fault_text, too_long_text,
+    weight_fault_text,
+};
 use wi_labels::Class;
 use wi_net::{FailSet, LinkId, Network};
 use wi_netjson::{LinkPart, NetFault, Place};
 use wi_quantity::{Vector, Weight, WeightFault};
 use wi_query::{Query, QueryFault};
 use wi_questions::{query_of, vector_of};
-use wi_report::{
-    network_fault_text, overflow_text, query_fault_text, report, script_fault_text, states,
-    too_long_text, weight_fault_text,
-};
+use wi_report::{report, states};
 use wi_samples::{N1_WITH_31, N2_WITH_31, N3, QUOTED, TestCase, are_met, network};
 use wi_script::{ScriptCause, ScriptRefused, play, read_script};
 use wi_text::Text;

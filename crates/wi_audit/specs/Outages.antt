@@ -17,7 +17,7 @@ use Rattle.wi_settle.specs.declared.found.Found.{Found}
 use Rattle.wi_settle.specs.declared.found.Found.TheVariants.{Yes, No, Open}
 use Rattle.wi_settle.specs.Findings.{IsFound, during}
 use Rattle.wi_report.specs.Reports.{word_shown}
-use Rattle.wi_report.specs.Shown.{router_shown, sources_shown}
+use Rattle.wi_faults.specs.Shown.{router_shown, sources_shown}
 use Rattle.wi_audit.specs.declared.outcome.Fulfilment.{Fulfilment}
 use Rattle.wi_audit.specs.declared.outcome.Fulfilment.TheVariants.{AsExpected, Unexpected, Undecided}
 use Rattle.wi_audit.specs.declared.series.Test.{Test}

@@ -7,7 +7,7 @@ use Rattle.wi_net.specs.Net.{Net}
 use Rattle.wi_cert.specs.declared.tree.TheConstants.{NODE_LIMIT}
 use Rattle.wi_branch.specs.declared.refused.AnswerRefused.{AnswerRefused}
 use Rattle.wi_branch.specs.declared.refused.AnswerRefused.TheVariants as refused
-use Rattle.wi_report.specs.RefusedDecisions.{nodes_over_limit_text, overflow_text, too_long_text}
+use Rattle.wi_faults.specs.RefusedDecisions.{nodes_over_limit_text, overflow_text, too_long_text}
 use Rattle.wi_report.specs.Reports.{exact_report_of, word_shown}
 use Rattle.wi_policy.specs.declared.policy.Policy.{Policy}
 use Rattle.wi_audit.specs.declared.series.Test.{Test}

@@ -12,8 +12,9 @@ use wi_base::{NoMemory, write_decimal};
 use wi_branch::AnswerRefused;
 use wi_build::Problem;
 use wi_cert::NODE_LIMIT;
+use wi_faults::{nodes_over_limit_text, overflow_text, too_long_text};
 use wi_policy::Policy;
-use wi_report::{exact_report, nodes_over_limit_text, overflow_text, too_long_text};
+use wi_report::exact_report;
 use wi_text::Text;
 use wi_world::Word;
 

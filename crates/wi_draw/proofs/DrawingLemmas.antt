@@ -14,9 +14,9 @@ use Rattle.wi_world.specs.Moves.{Location, moved}
 use Rattle.wi_world.specs.Runs.{locations}
 use Rattle.wi_net.specs.declared.parts.RouterId.{RouterId}
 use Rattle.wi_net.specs.declared.parts.Link.{Link}
-use Rattle.wi_report.specs.Shown.{link_shown}
+use Rattle.wi_faults.specs.Shown.{link_shown}
 use Rattle.wi_draw.specs.Dot.{escaped, string_of}
-use Rattle.wi_report.proofs.ShownLemmas.{five_pieces, two_pieces}
+use Rattle.wi_faults.proofs.ShownLemmas.{five_pieces, two_pieces}
 use Rattle.std.proofs.lemmas.Option.{get_or_from_slice_get}
 use Rattle.wi_draw.specs.Drawings.{Picture, drawn, drop_drawn, dropped_drawn, heading_drawn, link_drawn, link_line, router_drawn, stroke, each_below, last_place, link_label}
 use Rattle.wi_draw.specs.private.Marks.{AreMarks, IsPlaced, label_at}

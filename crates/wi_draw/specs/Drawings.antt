@@ -12,7 +12,7 @@ use Rattle.wi_world.specs.declared.run.Step.{Step}
 use Rattle.wi_world.specs.Moves.{Location, moved}
 use Rattle.wi_world.specs.Runs.{needs, trace_of}
 use Rattle.wi_trace.specs.declared.answer.Answer.{Answer}
-use Rattle.wi_report.specs.Shown.{header_shown, link_shown}
+use Rattle.wi_faults.specs.Shown.{header_shown, link_shown}
 use Rattle.wi_report.specs.Reports.{end_shown, heading_of}
 use Rattle.wi_draw.specs.Dot.{escaped, string_of, one_line}
 

@@ -4,7 +4,7 @@ ghost use Rattle.std.specs.Prelude.{◌≡◌, ◌++◌, ◌<◌, [], length, If
 ghost use Rattle.std.specs.Option.{option_map_or};
 ghost use Rattle.wi_report.specs.Reports.{IsKnownRun};
 ghost use Rattle.wi_draw.specs.Drawings.{Picture, answer_drawn, drawn, drop_drawn, dropped_drawn, each_below, heading_drawn, label_drawn, link_drawn, link_line, network_drawn, router_drawn, stroke};
-ghost use Rattle.wi_report.specs.Shown.{link_shown};
+ghost use Rattle.wi_faults.specs.Shown.{link_shown};
 ghost use Rattle.wi_draw.specs.Dot.{string_of};
 ghost use Rattle.wi_draw.specs.private.Marks.{AreMarks, label_at};
 
@@ -13,8 +13,8 @@ use crate::marks::{Marks, answer_marks, no_marks};
 use std::alloc::Global;
 use wi_base::NoMemory;
 use wi_build::Problem;
+use wi_faults::put_known;
 use wi_net::{LinkId, Network, RouterId};
-use wi_report::put_known;
 use wi_text::Text;
 use wi_trace::Answer;
 

@@ -10,7 +10,7 @@ use Rattle.wi_query.specs.Faults.{IsFault as IsQueryFault}
 use Rattle.wi_quantity.specs.declared.vector.Part.{Part}
 use Rattle.wi_quantity.specs.declared.fault.WeightFault.TheVariants as weight_fault
 use Rattle.wi_quantity.specs.Faults.{Means, IsFault as IsWeightsFault}
-use Rattle.wi_report.specs.QueryFaults.{query_fault_text}
+use Rattle.wi_faults.specs.QueryFaults.{query_fault_text}
 use Rattle.wi_outcome.specs.declared.refusal.Refusal.{Refusal}
 use Rattle.wi_outcome.specs.declared.refusal.Refusal.TheVariants.{Memory, Query as BadQuery, Weights as BadWeights}
 

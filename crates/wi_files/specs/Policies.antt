@@ -12,8 +12,8 @@ use Rattle.wi_policy.specs.declared.policy.Policy.{Policy}
 use Rattle.wi_policy.specs.declared.policy.PoliciesRefused.{PoliciesRefused}
 use Rattle.wi_policy.specs.declared.policy.PoliciesRefused.TheVariants as policies
 use Rattle.wi_policy.specs.Policies.{HasNoPolicies, HasPolicies}
-use Rattle.wi_report.specs.PolicyFaults.{policies_fault_text}
-use Rattle.wi_report.specs.QueryFaults.{given_fault_text}
+use Rattle.wi_faults.specs.PolicyFaults.{policies_fault_text}
+use Rattle.wi_faults.specs.QueryFaults.{given_fault_text}
 use Rattle.wi_files.specs.declared.fetch.TheConstants.{LINES_LIMIT}
 use Rattle.wi_outcome.specs.declared.refusal.Refusal.{Refusal}
 use Rattle.wi_outcome.specs.declared.refusal.Refusal.TheVariants.{CannotRead, Given as BadGiven, LongPolicies, Memory, Policies as BadPolicies}

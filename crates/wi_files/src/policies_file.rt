@@ -12,11 +12,11 @@ ghost use Rattle.wi_files.specs.private.Stages.{FromPolicyBytes};
 use crate::fetch::{LINES_LIMIT, bytes_within, network};
 use std::alloc::Global;
 use wi_base::{Listed, Shelf};
+use wi_faults::{given_fault_text, policies_fault_text};
 use wi_net::{Bounds, Network};
 use wi_outcome::Refusal;
 use wi_policy::{PoliciesRefused, Policy, read_policies};
 use wi_query::{QueryFault, StrictFault, read_given};
-use wi_report::{given_fault_text, policies_fault_text};
 
 /// The policies of a file over a network, with the links that are given as down and up.
 #[derive(Drop)]

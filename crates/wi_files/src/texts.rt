@@ -6,11 +6,11 @@ ghost use Rattle.wi_query.specs.Meaning.{HasAutomata, IsQuery};
 ghost use Rattle.wi_files.specs.Asked.{AreBadTexts, IsAsked, IsBadQuery, IsBadWeights, WeighsBy};
 
 use std::alloc::Global;
+use wi_faults::query_fault_text;
 use wi_net::Network;
 use wi_outcome::Refusal;
 use wi_quantity::{Vector, WeightFault, read_weights};
 use wi_query::{Query, QueryFault, read_query};
-use wi_report::query_fault_text;
 
 /// What texts ask of a network.
 #[derive(Drop)]

@@ -3,16 +3,16 @@ use Rattle.std.specs.Prelude.{ℕ, List, ◌++◌, codes}
 use Rattle.wi_cert.specs.declared.tree.TheConstants.{NODE_LIMIT}
 use Rattle.wi_netjson.specs.declared.fault.NetFault.TheVariants as fault
 use Rattle.wi_script.specs.declared.script.ScriptRefused.TheVariants as script
-use Rattle.wi_report.specs.NetworkFaults.{fault_text}
+use Rattle.wi_faults.specs.NetworkFaults.{fault_text}
 use Rattle.wi_quantity.specs.declared.fault.WeightFault.TheVariants as weights
-use Rattle.wi_report.specs.States.{script_fault_text}
-use Rattle.wi_report.specs.WeightFaults.{weight_fault_text}
-use Rattle.wi_report.specs.RefusedDecisions.{nodes_over_limit_text, overflow_text, too_long_text}
+use Rattle.wi_faults.specs.ScriptFaults.{script_fault_text}
+use Rattle.wi_faults.specs.WeightFaults.{weight_fault_text}
+use Rattle.wi_faults.specs.RefusedDecisions.{nodes_over_limit_text, overflow_text, too_long_text}
 use Rattle.wi_planjson.specs.declared.refused.PlanRefused.TheVariants as plan
 use Rattle.wi_protect.specs.declared.refused.ProtectRefused.TheVariants as protect
-use Rattle.wi_report.specs.PlanFaults.{plan_fault_text, protect_fault_text}
-use Rattle.wi_report.specs.CertificateFaults.{bad_line_text, certificate_fault_text}
-use Rattle.wi_report.specs.Stacks.{stack_refused_text}
+use Rattle.wi_faults.specs.PlanFaults.{plan_fault_text, protect_fault_text}
+use Rattle.wi_faults.specs.CertificateFaults.{bad_line_text, certificate_fault_text}
+use Rattle.wi_faults.specs.StackFaults.{stack_refused_text}
 use Rattle.wi_wire.specs.declared.refused.StackRefused.TheVariants as stack
 use Rattle.wi_outcome.specs.declared.refusal.Refusal.{Refusal}
 use Rattle.wi_outcome.specs.declared.refusal.Refusal.TheVariants.{BadLine, BadStack, CannotPrint, CannotRead, CannotWrite, CannotWriteBelow, Given, LargeCertificate, LargeNetwork, LongPolicies, LongScript, ManyNodes, Memory, Network, NoMemoryBelow, NotAccepted, NotHex, NotWritten, Overflow, Plan, Policies, Query, Script, TooLong, TreeNotWritten, Unprotected, Usage, Weights}

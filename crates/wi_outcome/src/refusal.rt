@@ -8,15 +8,15 @@ ghost use Rattle.wi_outcome.specs.Texts.{cannot_read_text, cannot_write_text, st
 use std::alloc::Global;
 use wi_base::{NoMemory, PutRefused, Sink};
 use wi_cert::{CheckRefused, NODE_LIMIT};
-use wi_netjson::NetFault;
-use wi_planjson::PlanRefused;
-use wi_protect::ProtectRefused;
-use wi_quantity::{Weight, WeightFault};
-use wi_report::{
+use wi_faults::{
     bad_line_text, certificate_fault_text, network_fault_text, nodes_over_limit_text,
     overflow_text, plan_fault_text, protect_fault_text, script_fault_text, stack_refused_text,
     too_long_text, weight_fault_text,
 };
+use wi_netjson::NetFault;
+use wi_planjson::PlanRefused;
+use wi_protect::ProtectRefused;
+use wi_quantity::{Weight, WeightFault};
 use wi_script::ScriptRefused;
 use wi_text::Text;
 use wi_wire::StackRefused;

@@ -1,5 +1,3 @@
-pub mod ShownLemmas
 pub mod ReportLemmas
 pub mod PacketLemmas
 mod ReportRows
-pub mod CertificateLemmas

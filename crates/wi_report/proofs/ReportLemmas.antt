@@ -14,7 +14,7 @@ use Rattle.wi_world.specs.declared.run.End.{End}
 use Rattle.wi_world.specs.Moves.{Location, moved}
 use Rattle.wi_world.specs.Runs.{needs}
 use Rattle.wi_script.proofs.PlayLemmas.{where_links}
-use Rattle.wi_report.specs.Shown.{place_shown}
+use Rattle.wi_faults.specs.Shown.{place_shown}
 use Rattle.wi_report.specs.Reports.{step_shown, steps_shown}
 
 -- a step is shown, and those after it are left with the end

@@ -20,10 +20,10 @@ use Rattle.wi_world.specs.declared.answer.Word.TheVariants.{Yes, No}
 use Rattle.wi_world.specs.declared.answer.Verdict.TheVariants.{Fits}
 use Rattle.wi_trace.specs.declared.answer.Answer.{Answer}
 use Rattle.wi_text.specs.Names.{shown}
-use Rattle.wi_report.specs.Shown.{label_shown}
+use Rattle.wi_faults.specs.Shown.{label_shown}
 use Rattle.wi_report.specs.Reports.{run_shown, report_of, exact_report_of}
 use Rattle.wi_report.specs.Tolerances.{none_up_to_text, tolerance_report_of}
-use Rattle.wi_report.specs.RefusedDecisions.{overflow_text}
+use Rattle.wi_faults.specs.RefusedDecisions.{overflow_text}
 
 abbrev label : ℕ → Label
 label n = record { 0 = n }

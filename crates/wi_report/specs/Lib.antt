@@ -1,15 +1,7 @@
-pub mod Shown
 pub mod States
-pub mod NetworkFaults
-pub mod PlanFaults
-pub mod PolicyFaults
-pub mod QueryFaults
-pub mod WeightFaults
 pub mod Reports
 pub mod Tolerances
 pub mod Summaries
 pub mod Packets
 pub mod Stacks
-pub mod RefusedDecisions
-pub mod CertificateFaults
 pub mod private

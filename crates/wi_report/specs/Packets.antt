@@ -11,7 +11,7 @@ use Rattle.wi_world.specs.Moves.{Location, moved}
 use Rattle.wi_wire.specs.declared.entry.Entry.{Entry}
 use Rattle.wi_wire.specs.Stacks.{each_entry, entry_bytes}
 use Rattle.wi_wire.specs.Values.{entries_of}
-use Rattle.wi_report.specs.Shown.{label_shown}
+use Rattle.wi_faults.specs.Shown.{label_shown}
 
 -- an entry, whose S is given, as eight hexadecimal digits, and a space
 abbrev pub entry_shown : ℕ → Entry → List ℕ

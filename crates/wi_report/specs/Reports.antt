@@ -23,12 +23,8 @@ use Rattle.wi_world.specs.Moves.{Location, groups_at, member_at, moved}
 use Rattle.wi_world.specs.Runs.{needs}
 use Rattle.wi_quantity.specs.Weighing.{components}
 use Rattle.wi_trace.specs.declared.answer.Answer.{Answer}
-use Rattle.wi_report.specs.Shown.{link_shown, links_shown, place_shown}
-
--- numbers, each after a space
-abbrev pub numbers_shown : List ℕ → List ℕ
-numbers_shown [] = []
-numbers_shown (n ∷ ns) = codes " " ++ decimal n ++ numbers_shown ns
+use Rattle.wi_faults.specs.Numbers.{numbers_shown}
+use Rattle.wi_faults.specs.Shown.{link_shown, links_shown, place_shown}
 
 -- the values of so many terms, or `none`
 abbrev pub terms_shown : ℕ → List ℕ → List ℕ

@@ -1,13 +1,8 @@
--- The lines of states, and the texts of faults of scripts.
-use Rattle.std.specs.Prelude.{ℕ, ◌+◌, List, [], ◌∷◌, ◌++◌, codes}
-use Rattle.std.specs.Fmt.{decimal}
+-- The lines of states.
+use Rattle.std.specs.Prelude.{List, [], ◌∷◌, ◌++◌, ℕ, codes}
 use Rattle.wi_net.specs.Net.{Net}
 use Rattle.wi_world.specs.declared.world.State.{State}
-use Rattle.wi_script.specs.declared.script.ScriptCause.{ScriptCause}
-use Rattle.wi_script.specs.declared.script.ScriptCause.TheVariants.{NotAnEvent, UnknownName, BadHeader, AlreadyFailed, NotFailed, TooManyFailed, NoSuchGroup, NoSuchMember, NotFirstActive, LinkFailed, Undefined}
-use Rattle.wi_script.specs.declared.script.ScriptRefused.{ScriptRefused}
-use Rattle.wi_script.specs.declared.script.ScriptRefused.TheVariants.{BadLine, Memory}
-use Rattle.wi_report.specs.Shown.{links_shown, place_shown}
+use Rattle.wi_faults.specs.Shown.{links_shown, place_shown}
 
 -- a state: the link and the header of the packet, and the failed links
 abbrev pub state_shown : Net → State → List ℕ
@@ -16,21 +11,3 @@ state_shown net now = place_shown net (now.link, now.header) ++ codes " | failed
 abbrev pub states_shown : Net → List State → List ℕ
 states_shown net [] = []
 states_shown net (now ∷ later) = state_shown net now ++ states_shown net later
-
--- why a line isn't an event that may happen: operations are counted from 1
-abbrev pub cause_words : ScriptCause → List ℕ
-cause_words NotAnEvent = codes "not an event"
-cause_words UnknownName = codes "unknown name"
-cause_words BadHeader = codes "bad header"
-cause_words AlreadyFailed = codes "already failed"
-cause_words NotFailed = codes "not failed"
-cause_words TooManyFailed = codes "too many failed"
-cause_words NoSuchGroup = codes "no such group"
-cause_words NoSuchMember = codes "no such member"
-cause_words NotFirstActive = codes "not the first active group"
-cause_words LinkFailed = codes "link failed"
-cause_words (Undefined i) = codes "operation " ++ decimal (i + 1) ++ codes " undefined"
-
-abbrev pub script_fault_text : ScriptRefused → List ℕ
-script_fault_text (BadLine n cause) = (codes "script: line " ++ decimal n ++ codes ": ") ++ cause_words cause ++ codes "\n"
-script_fault_text Memory = codes "whatif: out of memory\n"

@@ -10,10 +10,10 @@ ghost use Rattle.wi_report.specs.Reports.{IsKnownRun, report_of};
 ghost use Rattle.wi_report.specs.private.NoValues.{IsLabelOf, no_value_shown};
 
 use crate::reports::report;
-use crate::shown::put_label;
 use std::alloc::Global;
 use wi_base::NoMemory;
 use wi_build::Problem;
+use wi_faults::put_label;
 use wi_labels::Header;
 use wi_net::Network;
 use wi_text::Text;

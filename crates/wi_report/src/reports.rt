@@ -8,14 +8,14 @@ ghost use Rattle.wi_net.specs.Net.{is_link, labels_known};
 ghost use Rattle.wi_world.specs.Moves.{AreBounds};
 ghost use Rattle.wi_world.specs.Runs.{needs};
 ghost use Rattle.wi_quantity.specs.Weighing.{components};
-ghost use Rattle.wi_report.specs.Shown.{link_shown, links_shown, place_shown};
-ghost use Rattle.wi_report.specs.Reports.{IsKnownRun, answer_line, numbers_shown, terms_shown, weight_shown, verdict_shown, member_shown, step_shown, undefined_operation, inactive_shown, undefined_shown, end_shown, steps_shown, run_shown, links_listed, fare_shown, found_fare, found_shown, heading_of, word_shown, report_with, report_of, exact_report_of, accepted_text};
+ghost use Rattle.wi_faults.specs.Shown.{link_shown, links_shown, place_shown};
+ghost use Rattle.wi_report.specs.Reports.{IsKnownRun, answer_line, terms_shown, weight_shown, verdict_shown, member_shown, step_shown, undefined_operation, inactive_shown, undefined_shown, end_shown, steps_shown, run_shown, links_listed, fare_shown, found_fare, found_shown, heading_of, word_shown, report_with, report_of, exact_report_of, accepted_text};
 ghost use Rattle.wi_report.specs.private.Modes.{mode_line};
 
-use crate::shown::{put_counted, put_known, put_links, put_location};
 use std::alloc::Global;
 use wi_base::NoMemory;
 use wi_build::Problem;
+use wi_faults::{put_counted, put_known, put_links, put_location, put_values};
 use wi_labels::{Applied, Header, Op};
 use wi_net::{Bounds, FailSet, Group, LinkId, Member, Network};
 use wi_quantity::Weight;
@@ -194,33 +194,6 @@ fn put_terms(terms: usize, weight: &Weight, text: &mut Text) -> Result<(), NoMem
         return text.put(" none");
     }
     put_values(weight, terms, text)
-}
-
-/// Adds the values of so many terms, each after a space.
-pub(crate) fn put_values(weight: &Weight, terms: usize, text: &mut Text) -> Result<(), NoMemory>
-    ensures { OnOk result (text.new ≡ text.old ++ numbers_shown (take terms (components weight.now))) }
-{
-    let all = components_of(weight);
-    put_numbers(&all[..terms.min(all.len())], text)
-}
-
-/// The values of five terms, and then the effort. It takes no memory.
-pub(crate) fn components_of(weight: &Weight) -> [u128; 6]
-    ensures { result ≡ components weight.now }
-{
-    let [a, b, c, d, e] = weight.first.parts();
-    [a, b, c, d, e, weight.second.count]
-}
-
-/// Adds numbers, each after a space.
-pub(crate) fn put_numbers(numbers: &[u128], text: &mut Text) -> Result<(), NoMemory>
-    ensures { OnOk result (text.new ≡ text.old ++ numbers_shown numbers.now) }
-{
-    for number in numbers {
-        text.put(" ")?;
-        text.put_number(*number)?;
-    }
-    Ok(())
 }
 
 // Adds how a run fares.

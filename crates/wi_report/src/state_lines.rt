@@ -5,9 +5,9 @@ ghost use Rattle.std.specs.List.{list_all};
 ghost use Rattle.wi_script.specs.Plays.{is_state_of};
 ghost use Rattle.wi_report.specs.States.{state_shown, states_shown};
 
-use crate::shown::{put_links, put_location};
 use std::alloc::Global;
 use wi_base::NoMemory;
+use wi_faults::{put_links, put_location};
 use wi_net::Network;
 use wi_text::Text;
 use wi_world::State;

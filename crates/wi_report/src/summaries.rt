@@ -6,10 +6,10 @@ ghost use Rattle.wi_world.specs.Runs.{needs};
 ghost use Rattle.wi_report.specs.Summaries.{parts_shown, run_summed, seed_shown, summary_of};
 
 use crate::reports::{put_answered, put_weight};
-use crate::shown::put_counted;
 use std::alloc::Global;
 use wi_base::NoMemory;
 use wi_build::Problem;
+use wi_faults::put_counted;
 use wi_net::{Bounds, Network};
 use wi_text::Text;
 use wi_trace::{Answer, needs};

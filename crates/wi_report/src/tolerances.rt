@@ -5,10 +5,10 @@ ghost use Rattle.wi_report.specs.Reports.{IsKnownRun};
 ghost use Rattle.wi_report.specs.Tolerances.{none_up_to_text, tolerance_report_of};
 
 use crate::reports::{Mode, put_report};
-use crate::shown::put_counted;
 use std::alloc::Global;
 use wi_base::NoMemory;
 use wi_build::Problem;
+use wi_faults::put_counted;
 use wi_text::Text;
 use wi_trace::Answer;
 

@@ -3,7 +3,7 @@ use Rattle.std.specs.Prelude.{ℕ, ◌<◌, List, [], ◌++◌, codes, length}
 use Rattle.wi_net.specs.Net.{Net}
 use Rattle.wi_wire.specs.declared.refused.NoValue.{NoValue}
 use Rattle.wi_wire.specs.declared.refused.NoValue.TheVariants as no_value
-use Rattle.wi_report.specs.Shown.{label_shown}
+use Rattle.wi_faults.specs.Shown.{label_shown}
 
 -- what is said of a label that has none
 abbrev pub no_value_shown : Net → NoValue → List ℕ

@@ -1,4 +1,4 @@
-use Rattle.wi_report.proofs.ShownLemmas.{two_pieces}
+use Rattle.wi_faults.proofs.ShownLemmas.{two_pieces}
 use Rattle.wi_report.proofs.reports.put_listed.Goals as goal
 
 pub returns : goal.returns

@@ -1,4 +1,4 @@
-use Rattle.wi_report.proofs.ShownLemmas.{five_pieces}
+use Rattle.wi_faults.proofs.ShownLemmas.{five_pieces}
 use Rattle.wi_report.proofs.stacks.put_line.Goals as goal
 
 pub returns : goal.returns

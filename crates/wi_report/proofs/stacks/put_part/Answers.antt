@@ -1,5 +1,5 @@
 use Rattle.wi_report.specs.Stacks.{part_shown}
-use Rattle.wi_report.proofs.ShownLemmas.{two_pieces}
+use Rattle.wi_faults.proofs.ShownLemmas.{two_pieces}
 use Rattle.wi_report.proofs.stacks.put_part.Goals as goal
 
 pub returns : goal.returns

@@ -1,0 +1,11 @@
+pub mod Shown
+pub mod Numbers
+pub mod NetworkFaults
+pub mod PlanFaults
+pub mod PolicyFaults
+pub mod QueryFaults
+pub mod WeightFaults
+pub mod ScriptFaults
+pub mod StackFaults
+pub mod RefusedDecisions
+pub mod CertificateFaults

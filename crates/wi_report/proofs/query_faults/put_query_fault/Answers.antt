@@ -1,5 +1,0 @@
-use Rattle.std.proofs.Common.{rules}
-use Rattle.wi_report.proofs.query_faults.put_query_fault.Goals as goal
-
-pub returns-in-UnknownRouter : goal.returns-in-UnknownRouter
-returns-in-UnknownRouter c = search rules

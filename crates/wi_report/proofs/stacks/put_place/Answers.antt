@@ -1,7 +1,0 @@
-use Rattle.wi_report.specs.Stacks.{place_of}
-use Rattle.wi_report.proofs.ShownLemmas.{two_pieces}
-use Rattle.wi_report.proofs.stacks.put_place.Goals as goal
-
-pub returns : goal.returns
-unfolding place_of
-returns c = two_pieces _ _ _ _ _ _ c.in_ok-put.ensures c.put_number.ensures

@@ -11,5 +11,6 @@ pub mod Waiting
 pub mod Made
 pub mod Searching
 pub mod Counts
+pub mod SidesShown
 pub mod Shown
 pub mod BelowLaws

@@ -25,8 +25,7 @@ use Rattle.wi_saturate.specs.Rows.{summaries, Settled}
 use Rattle.wi_saturate.specs.private.Candidates.{BestAtMost, IsBeaten, IsOpen, IsCandidate, IsSeen}
 use Rattle.wi_saturate.specs.private.Indexes.{IsIndex}
 use Rattle.wi_saturate.specs.declared.frontier.Frontier.{Frontier}
-use Rattle.wi_saturate.specs.declared.lightest.Lightest.{Lightest}
-use Rattle.wi_saturate.specs.private.Lightest.{weight_at, Covers, Lightens}
+use Rattle.wi_saturate.specs.private.Lightest.{Noted, weight_at, Covers, Lightens}
 use Rattle.wi_saturate.specs.private.Frontiers.{Offers}
 use Rattle.wi_saturate.proofs.Lowering.{covers_lighter}
 use Rattle.wi_saturate.specs.private.Searches.{ArePair, IsSum, IsHeld, Adds, HasOne, HasTwo, HasPops, IsCovered, AreHeld, AreRowPlaces, AreWaits, AreHalves, HasWait, EndsThere, IsRowOf, Begins, IsSearch}
@@ -262,7 +261,7 @@ module _ {W : Type 0} (c : W → List ℕ) (heads : List (ℕ × ℕ)) (flat : L
         (is.0, is.1, is.2, is.3, is.4, is.5, get_before earlier row w.row is.1 is.6, is.7, is.8, is.9);
   })
 
-  pub halves_longer : (rows : List (Row W)) → rows ≡ earlier ++ row ∷ [] → (waits : Waits) (halves : Lightest W) → AreHalves c flat earlier waits halves → AreHalves c flat rows waits halves
+  pub halves_longer : (rows : List (Row W)) → rows ≡ earlier ++ row ∷ [] → (waits : Waits) (halves : Noted W) → AreHalves c flat earlier waits halves → AreHalves c flat rows waits halves
   halves_longer rows pushed waits halves are head place x at =
       let is = are head place x at in
       (is.0, is.1, is.2, is.3, is.4, is.5, is.6, is.7, subst (λ z. slice_get z is.1.row ≡ Some is.3) (sym pushed) (get_before earlier row is.1.row is.3 is.8), is.9)

@@ -10,8 +10,7 @@ use Rattle.wi_saturate.specs.declared.waits.Wait.{Wait}
 use Rattle.wi_saturate.specs.declared.waits.Waits.{Waits}
 use Rattle.std.proofs.lemmas.Bool.{false≢true}
 use Rattle.wi_weight.specs.Weights.{Scale, WeightLaws, IsWeight, plus}
-use Rattle.wi_saturate.specs.declared.lightest.Lightest.{Lightest}
-use Rattle.wi_saturate.specs.private.Lightest.{Covers, Lightens, Lowers}
+use Rattle.wi_saturate.specs.private.Lightest.{Noted, Covers, Lightens, Lowers}
 use Rattle.wi_saturate.specs.private.Searches.{IsFirst, IsWait, AreWaits, AreHalves, HasWait}
 use Rattle.wi_saturate.proofs.Lowering.{covers_lighter}
 use Rattle.wi_saturate.proofs.Elements.{same_item, get_push, get_before, get_last, some_there, got_there, contains_from_get}
@@ -22,12 +21,12 @@ same_word {W} flat k f g u v within is at word = ap (λ (z : Ruled W). z.rule.wo
 
 module _ {W : Type 0} (m : Scale) (c : W → List ℕ) (laws : WeightLaws m) (admitted : (w : W) → IsWeight m (c w)) (heads : List (ℕ × ℕ)) (flat : List (Ruled W)) (rows : List (Row W)) where
   -- what something as light waited for is waited for as well once weights are lighter
-  pub wait_kept : (old new : Lightest W) → Lightens m c old new → (k i : ℕ) → HasWait m c heads flat rows old k i → HasWait m c heads flat rows new k i
+  pub wait_kept : (old new : Noted W) → Lightens m c old new → (k i : ℕ) → HasWait m c heads flat rows old k i → HasWait m c heads flat rows new k i
   wait_kept old new lightens k i h u v place f r at word row p g head =
       covers_lighter m c laws admitted old new lightens f.head place (plus (c f.rule.weight) (c r.weight)) (laws.sum (c f.rule.weight) (c r.weight) (admitted f.rule.weight) (admitted r.weight)) (h u v place f r at word row p g head)
 
   -- the rule doesn't write two symbols
-  pub no_second : (k i : ℕ) (f : Ruled W) → k < length flat → f ≡ get_or flat k f → (halves : Lightest W) → ((u v : ℕ) → f.rule.word ≡ Two u v → ⊥) → HasWait m c heads flat rows halves k i
+  pub no_second : (k i : ℕ) (f : Ruled W) → k < length flat → f ≡ get_or flat k f → (halves : Noted W) → ((u v : ℕ) → f.rule.word ≡ Two u v → ⊥) → HasWait m c heads flat rows halves k i
   no_second k i f within is halves none u v place g r at word = absurd (none u v (same_word flat k f g u v within is at word))
 
   module _ (k i : ℕ) (f : Ruled W) (d : Row W) (within : k < length flat) (row_within : i < length rows) (is : f ≡ get_or flat k f) where
@@ -38,7 +37,7 @@ module _ {W : Type 0} (m : Scale) (c : W → List ℕ) (laws : WeightLaws m) (ad
     row = let r = some_there rows i row_within in got_there rows i d r.0 r.1
 
     -- the head that it would wait for isn't listed
-    pub no_head : (halves : Lightest W) (u v : ℕ) → f.rule.word ≡ Two u v → (Contains heads ((get_or rows i d).q, v) → ⊥) → HasWait m c heads flat rows halves k i
+    pub no_head : (halves : Noted W) (u v : ℕ) → f.rule.word ≡ Two u v → (Contains heads ((get_or rows i d).q, v) → ⊥) → HasWait m c heads flat rows halves k i
     no_head halves u v word none u' v' place g r at' word' row' p q head =
         let same : f ≡ g = same_item flat k f g at at' in
         let alike : get_or rows i d ≡ r = same_item rows i (get_or rows i d) r row row' in
@@ -47,7 +46,7 @@ module _ {W : Type 0} (m : Scale) (c : W → List ℕ) (laws : WeightLaws m) (ad
         absurd (none (contains_from_get heads place ((get_or rows i d).q, v) (head ∙ ap (λ x. Some (x, v')) (ap (λ (z : Row W). z.q) (sym alike)) ∙ ap (λ x. Some ((get_or rows i d).q, x)) second)))
 
     module _ (u v place : ℕ) (word : f.rule.word ≡ Two u v) (head : slice_get heads place ≡ Some ((get_or rows i d).q, v)) (half : W) (sum : c half ≡ plus (c f.rule.weight) (c (get_or rows i d).weight))
-        (old_halves new_halves : Lightest W) (is_lighter : Bool) (lowers : Lowers m c f.head place half old_halves new_halves is_lighter) where
+        (old_halves new_halves : Noted W) (is_lighter : Bool) (lowers : Lowers m c f.head place half old_halves new_halves is_lighter) where
       -- something as light waits now
       pub waits_now : ((i j p g : ℕ) → slice_get heads i ≡ Some (p, g) → slice_get heads j ≡ Some (p, g) → i ≡ j) → HasWait m c heads flat rows new_halves k i
       waits_now once u' v' place' g r at' word' row' p q head' =

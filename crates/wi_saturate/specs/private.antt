@@ -4,8 +4,9 @@ pub mod Frontiers
 pub mod Lightest
 pub mod Chains
 pub mod WaitLists
+pub mod Sides
+pub mod SmallSides
 pub mod Rulings
-pub mod SmallRules
 pub mod Indexes
 pub mod Searches
 pub mod Tries

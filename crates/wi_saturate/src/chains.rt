@@ -52,6 +52,14 @@ impl Chains {
         Ok(())
     }
 
+    // The place of the last item, or 0.
+    pub(crate) fn last_place(&self) -> usize {
+        match self.links.len().checked_sub(1) {
+            Some(last) => self.links.get(last).0,
+            None => 0,
+        }
+    }
+
     // The place of the item.
     pub(crate) fn place(&self, item: usize) -> usize
         requires { item < length self.now.places }

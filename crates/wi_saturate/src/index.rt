@@ -1,6 +1,6 @@
 //! The rules that may use a row are those that lead to its head. Those that write one symbol lie in one chain, and those that
 //! write two in another, since a row goes into them at different times; and no others are looked at. It takes all rules of listed
-//! heads in one list, and a look-up of a head, by halves, for each rule that is added.
+//! heads in one list, and for each rule that is added a guess at its place, and where that fails, a look-up by halves.
 ghost use Rattle.std.specs.Prelude.{◌≡◌, ◌+◌, ◌<◌, ◌≤◌, ◌^◌, ◌++◌, ◌∷◌, ℕ, OnOk, IfOk, MatchOption, Some, slice_get, length, []};
 ghost use Rattle.std.specs.List.{All, Contains};
 ghost use Rattle.std.specs.List.Sorted.{IsStrictlySortedBy};
@@ -26,29 +26,35 @@ pub(crate) struct Index<'a, W> {
     pub(crate) begins: Chains,
 }
 
-// The place of the head behind so many others, or the last place of all.
-fn place_or_past<W: Domain>(rules: &Rules<'_, W>, before: usize, p: u64, g: u32) -> usize
+// The place of the head behind so many others, or the last place of all. The guess is a place behind as many.
+fn place_or_past<W: Domain>(
+    rules: &Rules<'_, W>,
+    before: usize,
+    guess: usize,
+    p: u64,
+    g: u32,
+) -> usize
     requires rise { IsStrictlySortedBy pair_cmp rules.now.heads }
     requires before { before ≤ length rules.now.heads }
     ensures { IsPlace rules.now.heads before p g result }
 {
     let count = rules.heads().len();
-    match rules.place_of(p, g) {
+    match rules.place_of(guess.wrapping_sub(before), p, g) {
         Some(place) => place + before,
         None => count + count,
     }
 }
 
-// The place of the rule, by the head that it leads to.
-fn begins_at<W: Domain>(rules: &Rules<'_, W>, rule: &Rule<W>) -> usize
+// The place of the rule, by the head that it leads to. It may be the guess.
+fn begins_at<W: Domain>(rules: &Rules<'_, W>, guess: usize, rule: &Rule<W>) -> usize
     requires { IsStrictlySortedBy pair_cmp rules.now.heads }
     ensures { BeginsAt rules.now.heads rule.now.to rule.now.word result }
 {
     let count = rules.heads().len();
     match rule.word {
         Word2::Empty => count + count,
-        Word2::One(u) => place_or_past(rules, 0, rule.to, u),
-        Word2::Two(u, _) => place_or_past(rules, count, rule.to, u),
+        Word2::One(u) => place_or_past(rules, 0, guess, rule.to, u),
+        Word2::Two(u, _) => place_or_past(rules, count, guess, rule.to, u),
     }
 }
 
@@ -117,6 +123,17 @@ impl<'a, W: Domain> Index<'a, W> {
         Ok(())
     }
 
+    // The place behind that of the rule that one at this place of a head may be like: heads rise, so where that leads to one
+    // head, this may lead to the next.
+    fn place_after(&self, at: u32) -> usize
+        requires { AreBegins self.now.rules.heads self.now.rules.items self.now.begins }
+    {
+        match self.rules.like(at) {
+            Some(rule) => self.begins.place(rule).saturating_add(1),
+            None => 0,
+        }
+    }
+
     // Adds one rule.
     fn add(&mut self, ruled: Ruled<W>) -> Result<(), NoMemory>
         requires rise { IsStrictlySortedBy pair_cmp self.old.rules.heads }
@@ -126,7 +143,8 @@ impl<'a, W: Domain> Index<'a, W> {
         ensures rules { OnOk result (self.new.rules.items ≡ self.old.rules.items ++ ruled ∷ []) }
         ensures heads { OnOk result (self.new.rules.heads ≡ self.old.rules.heads) }
     {
-        self.begins.add(begins_at(&self.rules, &ruled.rule))?;
+        let guess = self.place_after(ruled.at);
+        self.begins.add(begins_at(&self.rules, guess, &ruled.rule))?;
         self.rules.push(ruled)?;
         Ok(())
     }

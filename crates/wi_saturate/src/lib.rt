@@ -23,10 +23,12 @@ mod row;
 mod rules;
 mod saturation;
 mod search;
+mod sides;
 mod steps;
 mod table;
 mod turn;
 mod waits;
+mod weights;
 
 pub use heap::{Candidate, Heap};
 pub use laws::rows_below_a_weight_are_closed;

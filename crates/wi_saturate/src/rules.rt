@@ -1,16 +1,16 @@
-//! The rules of all heads, kept small: what a head tells isn't kept for each of its rules, and a weight isn't kept again where
-//! the rule at the same place of the head before, or the rule before, has it.
-ghost use Rattle.std.specs.Prelude.{◌≡◌, ◌<◌, ◌++◌, ◌∷◌, [], List, MatchOption, Some, IfOk, OnOk, length, slice_get, slice_index_or};
+//! The rules of all heads. A rule is kept as the place of its head and the number of its right-hand side, since rules of many heads
+//! do the same.
+ghost use Rattle.std.specs.Prelude.{◌≡◌, ◌<◌, ◌++◌, ◌∷◌, [], IfSome, MatchOption, Some, OnOk, length, slice_get, slice_index_or};
 ghost use Rattle.std.specs.List.{Contains};
 ghost use Rattle.std.specs.List.Sorted.{IsStrictlySortedBy};
 ghost use Rattle.wi_pds.specs.Pairs.{pair_cmp};
-ghost use Rattle.wi_saturate.specs.private.Rulings.{RulesView};
 
+use crate::pairs::Pairs;
+use crate::sides::{Side, Sides, with_top, without_top};
 use std::alloc::Global;
-use std::cmp::Ordering;
 use std::marker::Model;
 use wi_base::NoMemory;
-use wi_pds::{Rule, Word2};
+use wi_pds::Rule;
 use wi_weight::Domain;
 
 // A rule, with the place of its head among the heads, and its place among the rules of that head.
@@ -21,57 +21,28 @@ pub(crate) struct Ruled<W> {
     pub(crate) rule: Rule<W>,
 }
 
-// A rule without what its head tells, and with the number of its weight.
-#[derive(Clone, Copy)]
-struct SmallRule {
-    to: u64,
-    tag: u64,
-    head: usize,
-    weight: usize,
-    at: u32,
-    word: Word2,
-}
-
 // Rules of heads, in the order in which they were added.
 #[derive(Drop)]
 pub(crate) struct Rules<'a, W> {
     heads: &'a [(u64, u32)],
-    small: Vec<SmallRule>,
-    weights: Vec<W>,
+    // of each rule the place of its head, and the number of its side
+    links: Pairs,
+    sides: Sides<W>,
     // Where the rules of the head before the last begin, and those of the last one.
     before: usize,
     last: usize,
-    // Stands in definitions for the weight of a number that names none.
-    unit: W,
 }
 
 impl<'a, W> Model for Rules<'a, W> {
     ghost use Rattle.std.specs.Prelude.{map};
     ghost use Rattle.std.specs.List.{All};
-    ghost use Rattle.wi_saturate.specs.private.Rulings.{RulesView};
+    ghost use Rattle.wi_saturate.specs.private.Rulings.{RulesView, rule_of, IsLink};
 
     ghost Value = { RulesView W };
 
-    ghost use Rattle.wi_saturate.specs.private.SmallRules.{shown, IsWithin};
+    ghost view = { λ s. record { heads = s.heads.now; items = map (rule_of s.heads.now s.sides) s.links.items } };
 
-    ghost view = { λ s. record { heads = s.heads.now; items = map (shown s.heads.now s.weights.items s.unit) s.small.items } };
-
-    ghost invariant = { λ s. All (IsWithin s.heads.now s.weights.items) s.small.items };
-}
-
-// The number of the weight: the guess, where that names an equal one, else that of a new one.
-fn number_of<W: Domain>(weights: &mut Vec<W>, guess: usize, weight: W) -> Result<usize, NoMemory>
-    ensures more { (more : List W) × (weights.new.items ≡ weights.old.items ++ more) }
-    ensures there { IfOk result (λ n. slice_get weights.new.items n ≡ Some weight) }
-{
-    if let Some(known) = weights.get(guess) {
-        if let Ordering::Equal = known.compare(&weight) {
-            return Ok(guess);
-        }
-    }
-    let number = weights.len();
-    weights.push(weight)?;
-    Ok(number)
+    ghost invariant = { λ s. All (IsLink s.heads.now s.sides) s.links.items };
 }
 
 impl<'a, W: Domain> Rules<'a, W> {
@@ -81,11 +52,10 @@ impl<'a, W: Domain> Rules<'a, W> {
     {
         Rules {
             heads,
-            small: Vec::new(alloc),
-            weights: Vec::new(alloc),
+            links: Pairs::new(alloc),
+            sides: Sides::new(alloc),
             before: 0,
             last: 0,
-            unit: W::unit(),
         }
     }
 
@@ -94,15 +64,15 @@ impl<'a, W: Domain> Rules<'a, W> {
         ensures { self.new ≡ self.old }
     {
         self.before = self.last;
-        self.last = self.small.len();
+        self.last = self.links.len();
     }
 
-    // The number of a weight that the rule at this place of a head may have.
-    fn guess(&self, at: u32) -> usize {
-        match self.small.get(self.before.saturating_add(at as usize)) {
-            Some(small) => small.weight,
-            None => self.small.last().map_or(0, |small| small.weight),
-        }
+    // A rule that one at this place of a head may be like: that at the same place of the head before, or the last one.
+    pub(crate) fn like(&self, at: u32) -> Option<usize>
+        ensures { IfSome result (λ place. place < length self.now.items) }
+    {
+        let last = self.links.len().checked_sub(1)?;
+        Some(last.min(self.before.saturating_add(at as usize)))
     }
 
     // Adds a rule, which names its head.
@@ -111,16 +81,21 @@ impl<'a, W: Domain> Rules<'a, W> {
         ensures { OnOk result (self.new ≡ record { heads = self.old.heads; items = self.old.items ++ ruled ∷ [] }) }
     {
         let Ruled { head, at, rule } = ruled;
-        let guess = self.guess(at);
-        let weight = number_of(&mut self.weights, guess, rule.weight)?;
-        self.small.push(SmallRule {
+        let guess = match self.like(at) {
+            Some(place) => self.links.get(place).1,
+            None => 0,
+        };
+        let (word, keeps_top) = without_top(rule.top, rule.word);
+        let side = Side {
+            weight: rule.weight,
             to: rule.to,
             tag: rule.tag,
-            head,
-            weight,
             at,
-            word: rule.word,
-        })?;
+            word,
+            keeps_top,
+        };
+        let number = self.sides.number_of(guess, side)?;
+        self.links.push(head, number)?;
         Ok(())
     }
 
@@ -131,11 +106,16 @@ impl<'a, W: Domain> Rules<'a, W> {
         self.heads
     }
 
-    // The place of the head, where it is listed.
-    pub(crate) fn place_of(&self, p: u64, g: u32) -> Option<usize>
+    // The place of the head, where it is listed. The guess is tried before the head is looked for.
+    pub(crate) fn place_of(&self, guess: usize, p: u64, g: u32) -> Option<usize>
         requires { IsStrictlySortedBy pair_cmp self.now.heads }
         ensures { MatchOption result (Contains self.now.heads (p, g) → ⊥) (λ place. slice_get self.now.heads place ≡ Some (p, g)) }
     {
+        if let Some((from, top)) = self.heads.get(guess) {
+            if *from == p && *top == g {
+                return Some(guess);
+            }
+        }
         self.heads.binary_search(&(p, g)).ok()
     }
 
@@ -143,7 +123,7 @@ impl<'a, W: Domain> Rules<'a, W> {
     pub(crate) fn len(&self) -> usize
         ensures { result ≡ length self.now.items }
     {
-        self.small.len()
+        self.links.len()
     }
 
     // The rule at a place.
@@ -151,18 +131,19 @@ impl<'a, W: Domain> Rules<'a, W> {
         requires { place < length self.now.items }
         ensures { result ≡ slice_index_or self.now.items place result }
     {
-        let small = self.small[place];
-        let (from, top) = self.heads[small.head];
+        let (head, number) = self.links.get(place);
+        let (from, top) = self.heads[head];
+        let side = self.sides.get(number);
         Ruled {
-            head: small.head,
-            at: small.at,
+            head,
+            at: side.at,
             rule: Rule {
-                weight: self.weights[small.weight],
+                weight: side.weight,
                 from,
-                to: small.to,
-                tag: small.tag,
+                to: side.to,
+                tag: side.tag,
                 top,
-                word: small.word,
+                word: with_top(top, side.word, side.keeps_top),
             },
         }
     }

@@ -140,10 +140,10 @@ fn table_of<W: Domain, S: System<W>, L: Ledger, M: Ledger>(
 ///
 /// What it costs: each listed head is asked for its rules once, before the first turn. Each candidate is looked up once by its
 /// summary, and pushed and taken at most once, at the logarithm of the heap's length. The place of a head among the heads is
-/// looked up for each rule and each rule that begins to wait, at the logarithm of the number of heads. Whether a summary is
-/// settled is looked for along the rows of its head. Each rule is kept without its head's numbers, and its weight mostly once for
-/// many rules; besides, each row, each candidate that wasn't taken, a weight for each summary that was reached, and an entry
-/// with its weight for each rule that waits.
+/// looked up for each rule and each rule that begins to wait, at the logarithm of the number of heads where a guess at it fails.
+/// Whether a summary is settled is looked for along the rows of its head. Each rule is kept as two numbers, and what it does
+/// mostly once for many rules; besides, each row, each candidate that wasn't taken, a number for each summary that was reached and
+/// for each rule that waits, and their weights, of which those that were noted one after the other and are equal are kept once.
 ///
 /// `Overflow` tells the lightest summary that doesn't fit and would have been settled. It may come where the goal's own
 /// weight would fit.

@@ -155,7 +155,8 @@ impl Waits {
             return Ok(());
         };
         let row = &turn.rows[turn.last];
-        let Some(place) = turn.index.rules.place_of(row.q, v) else {
+        let guess = self.places.last_place().wrapping_sub(1);
+        let Some(place) = turn.index.rules.place_of(guess, row.q, v) else {
             return Ok(());
         };
         let half = ruled.rule.weight.extend(row.weight);

@@ -14,8 +14,7 @@ use Rattle.wi_saturate.specs.declared.search.Search.{Search}
 use Rattle.wi_saturate.specs.private.Chains.{ChainsView}
 use Rattle.wi_saturate.specs.Rows.{Settled}
 use Rattle.wi_saturate.specs.private.Candidates.{IsRowBy}
-use Rattle.wi_saturate.specs.declared.lightest.Lightest.{Lightest}
-use Rattle.wi_saturate.specs.private.Lightest.{weight_at, Covers, Lightens}
+use Rattle.wi_saturate.specs.private.Lightest.{Noted, weight_at, Covers, Lightens}
 use Rattle.wi_saturate.specs.declared.frontier.Frontier.{Frontier}
 
 -- the rows are for the symbols u and v that a rule writes which goes to a state
@@ -117,11 +116,11 @@ IsHalf {W} c flat rows waits head place x =
     × (slice_get flat w.rule ≡ Some f) × (f.head ≡ head) × (slice_get rows w.row ≡ Some r) × (c x ≡ plus (c f.rule.weight) (c r.weight))
 
 -- each weight that is noted at a place is that of what waits there
-abbrev pub AreHalves : {W : Type 0} → (W → List ℕ) → List (Ruled W) → List (Row W) → Waits → Lightest W → Type 0
+abbrev pub AreHalves : {W : Type 0} → (W → List ℕ) → List (Ruled W) → List (Row W) → Waits → Noted W → Type 0
 AreHalves {W} c flat rows waits halves = (head place : ℕ) (x : W) → weight_at halves head place ≡ Some x → IsHalf c flat rows waits head place x
 
 -- if the rule at place k writes two symbols, and the row at place i is for the first, something as light waits for the second
-abbrev pub HasWait : {W : Type 0} → Scale → (W → List ℕ) → List (ℕ × ℕ) → List (Ruled W) → List (Row W) → Lightest W → ℕ → ℕ → Type 0
+abbrev pub HasWait : {W : Type 0} → Scale → (W → List ℕ) → List (ℕ × ℕ) → List (Ruled W) → List (Row W) → Noted W → ℕ → ℕ → Type 0
 HasWait {W} m c heads flat rows halves k i =
     (u v place : ℕ) (f : Ruled W) (r : Row W) → slice_get flat k ≡ Some f → f.rule.word ≡ Two u v → slice_get rows i ≡ Some r → r.p ≡ f.rule.to → r.g ≡ u
     → slice_get heads place ≡ Some (r.q, v) → Covers m c halves f.head place (plus (c f.rule.weight) (c r.weight))

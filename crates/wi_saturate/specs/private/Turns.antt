@@ -3,12 +3,12 @@ use Rattle.std.specs.Prelude.{◌≡◌, ℕ, ◌+◌, ◌<◌, List, Some, leng
 use Rattle.wi_saturate.specs.declared.row.Row.{Row}
 use Rattle.wi_weight.specs.Weights.{Scale}
 use Rattle.wi_saturate.specs.declared.frontier.Frontier.{Frontier}
-use Rattle.wi_saturate.specs.declared.lightest.Lightest.{Lightest}
 use Rattle.wi_saturate.specs.declared.rules.Ruled.{Ruled}
 use Rattle.wi_saturate.specs.declared.waits.Wait.{Wait}
 use Rattle.wi_saturate.specs.declared.waits.Waits.{Waits}
 use Rattle.wi_saturate.specs.declared.turn.Turn.{Turn}
 use Rattle.wi_saturate.specs.private.Chains.{ChainsView}
+use Rattle.wi_saturate.specs.private.Lightest.{Noted}
 use Rattle.wi_saturate.specs.private.Candidates.{AllFit}
 use Rattle.wi_saturate.specs.private.Indexes.{IsIndexed}
 use Rattle.wi_saturate.specs.private.Searches.{Adds, IsFirst, AreWaits, AreHalves, HasWait, AreRowPlaces}
@@ -47,11 +47,11 @@ abbrev pub KeepsWaits : Waits → Waits → Type 0
 KeepsWaits old new = (n : ℕ) (w : Wait) → slice_get old.items.items n ≡ Some w → slice_get new.items.items n ≡ Some w
 
 -- each weight that is noted is that of what waits
-abbrev pub AreNoted : {W : Type 0} → (W → List ℕ) → Turn W → Waits → Lightest W → Type 0
+abbrev pub AreNoted : {W : Type 0} → (W → List ℕ) → Turn W → Waits → Noted W → Type 0
 AreNoted c turn waits halves = AreHalves c (rules_of turn) (rows_of turn) waits halves
 
 -- if the rule at a place writes two symbols, and the last row is for the first, something as light waits for the second
-abbrev pub WaitsFor : {W : Type 0} → Scale → (W → List ℕ) → Turn W → Lightest W → ℕ → Type 0
+abbrev pub WaitsFor : {W : Type 0} → Scale → (W → List ℕ) → Turn W → Noted W → ℕ → Type 0
 WaitsFor m c turn halves k = HasWait m c (heads_of turn) (rules_of turn) (rows_of turn) halves k turn.last
 
 -- sound candidates were offered, and each that was put on the heap was a try

@@ -1,10 +1,22 @@
-use Rattle.std.proofs.Common.{arith}
+use Rattle.std.proofs.Common.{◌≡◌, None, Some, length, ap, arith, subst, sym, ◌∙◌}
+use Rattle.std.specs.List.{Contains}
 use Rattle.std.proofs.lemmas.Option.{slice_get_within}
 use Rattle.wi_saturate.proofs.Elements.{some_there}
 use Rattle.wi_saturate.proofs.Counts.{first_tries, all_tries}
 use Rattle.wi_saturate.proofs.Searching.{pops_kept, begins_more}
 use Rattle.wi_saturate.proofs.search.pops.Goals as goal
 use borrow.Author.Count.{below_more}
+
+pub loop-rule-init : goal.loop-rule-init
+loop-rule-init g c = record {
+  begins = record {
+    sound = λ t is. absurd (subst (λ heap. Contains heap t → ⊥) (sym c.new-frontier.ensures.heap) (λ within. let low = within.1 in omega (arith, low)) is);
+    held = λ head q x at. let none : None ≡ Some x = sym (c.new-frontier.ensures.offered head q) ∙ at in cc;
+  };
+  lengths = let empty : length c.new-frontier.result.heap ≡ 0 = ap length c.new-frontier.ensures.heap in omega (arith, empty);
+  tries = omega arith;
+  has = λ k low. absurd (omega (arith, low));
+}
 
 pub loop-rule-preserved : goal.loop-rule-preserved
 loop-rule-preserved g c =

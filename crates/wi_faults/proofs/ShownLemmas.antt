@@ -1,5 +1,5 @@
 -- Headers that are put together label by label.
-use Rattle.std.proofs.Common.{◌≡◌, ℕ, ◌+◌, Result, OnOk, subst, ap, ◌∙◌, List, [], ◌∷◌, ◌++◌, length, drop, get_or, slice_get, ◌<◌, ◌≤◌, Some, None, refl, sym, true, append_assoc}
+use Rattle.std.proofs.Common.{◌≡◌, ℕ, ◌+◌, Result, OnOk, subst, ap, ◌∙◌, List, [], ◌∷◌, ◌++◌, length, drop, slice_get, ◌≤◌, Some, None, refl, sym, true, append_assoc}
 use Rattle.std.specs.Prelude.{codes}
 use Rattle.wi_labels.specs.Header.{Entry}
 use Rattle.std.specs.List.{list_all}
@@ -7,7 +7,6 @@ use Rattle.wi_net.specs.Net.{Net, is_link}
 use Rattle.wi_net.proofs.KeptLists.{all_get}
 use Rattle.wi_net.specs.declared.parts.LinkId.{LinkId}
 use Rattle.wi_faults.specs.Shown.{label_shown, header_shown, link_shown, links_shown, more_links, source_shown, sources_shown}
-use Rattle.std.proofs.lemmas.List.{drop_more}
 use Rattle.std.proofs.lemmas.Option.{slice_get_past}
 use Rattle.wi_labels.proofs.HeaderLemmas.{drop_at}
 

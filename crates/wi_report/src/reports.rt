@@ -1,7 +1,7 @@
 //! A report is made whole before anything is printed, so that a refusal on the way puts nothing on standard output: it costs
 //! the report in memory. What the run needs is gathered anew and not copied from the verdict, so that `failed:` and `needs:`
 //! are one definition; that is one more walk along the run.
-ghost use Rattle.std.specs.Prelude.{◌≡◌, ◌++◌, ◌+◌, true, length, take, codes, IfOk, OnOk, IfSome};
+ghost use Rattle.std.specs.Prelude.{◌≡◌, ◌++◌, ◌+◌, true, length, codes, IfOk, OnOk, IfSome};
 ghost use Rattle.std.specs.List.{list_all};
 ghost use Rattle.std.specs.Fmt.{decimal};
 ghost use Rattle.wi_net.specs.Net.{is_link, labels_known};
@@ -9,7 +9,7 @@ ghost use Rattle.wi_world.specs.Moves.{AreBounds};
 ghost use Rattle.wi_world.specs.Runs.{needs};
 ghost use Rattle.wi_quantity.specs.Weighing.{components};
 ghost use Rattle.wi_faults.specs.Shown.{link_shown, links_shown, place_shown};
-ghost use Rattle.wi_report.specs.Reports.{IsKnownRun, answer_line, terms_shown, weight_shown, verdict_shown, member_shown, step_shown, undefined_operation, inactive_shown, undefined_shown, end_shown, steps_shown, run_shown, links_listed, fare_shown, found_fare, found_shown, heading_of, word_shown, report_with, report_of, exact_report_of, accepted_text};
+ghost use Rattle.wi_report.specs.Reports.{IsKnownRun, answer_line, terms_shown, weight_shown, verdict_shown, member_shown, step_shown, undefined_operation, inactive_shown, undefined_shown, end_shown, steps_shown, run_shown, links_listed, fare_shown, found_shown, heading_of, word_shown, report_with, report_of, exact_report_of, accepted_text};
 ghost use Rattle.wi_report.specs.private.Modes.{mode_line};
 
 use std::alloc::Global;

@@ -30,6 +30,8 @@ pub(crate) fn read_within<R: Read>(
             return Err(FetchRefused::Failed);
         };
         if taken == 0 {
+            // A list that grew may have room for twice what it holds.
+            bytes.shrink_to_fit();
             return Ok(bytes);
         }
         if bytes.extend_from_slice(&piece[..taken]).is_err() {
